@@ -1,0 +1,53 @@
+use crate::values::Addr;
+use al_source::{CommitOrder, Policy, RedOp};
+use sqlite_items::Items;
+
+/// A reduction variable: a local as `Local(k)`, a global as `Word(Global(k), 0)`.
+#[derive(Clone, Copy, Debug, PartialEq, Eq)]
+pub struct Red {
+    pub op: RedOp,
+    pub at: Addr,
+}
+
+/// How an annotated loop runs in rounds.
+#[derive(Drop)]
+pub struct Choice {
+    pub policy: Policy,
+    pub order: CommitOrder,
+    pub reds: Items<Red>,
+}
+
+/// What a loop's counter is compared with.
+#[derive(Clone, Copy, Debug, PartialEq, Eq)]
+pub enum Bound {
+    Number(i64),
+    Local(u32),
+}
+
+/// An annotated loop. Its body declares the locals from `first` to below `last`; `own` is its written annotation.
+#[derive(Drop)]
+pub struct LoopInfo {
+    pub number: u32,
+    pub func: u32,
+    pub line: u32,
+    pub counter: u32,
+    pub bound: Bound,
+    pub first: u32,
+    pub last: u32,
+    pub own: Choice,
+}
+
+/// The numbers of a run.
+#[derive(Clone, Copy, Debug, PartialEq, Eq)]
+pub struct Knobs {
+    /// Chunks in a round, 1 to 64.
+    pub lanes: u32,
+    /// Iterations in a chunk, 1 to 65,536.
+    pub chunk: u32,
+    /// Worker threads, 1 to 64.
+    pub threads: u32,
+    /// Steps of one iteration of an annotated loop, 1 to 1,000,000,000.
+    pub iter_steps: u64,
+    /// Steps of all code outside such iterations, 1 to 1,000,000,000.
+    pub serial_steps: u64,
+}

@@ -1,0 +1,17 @@
+//! What a program is after typing, what its values are, the arithmetic, and the definition of what it means.
+#![tactic(auto)]
+
+pub mod arithmetic;
+pub mod choices;
+pub mod reports;
+pub mod steps;
+pub mod typed_tree;
+pub mod values;
+
+pub use al_source::{BinOp, Bytes, CommitOrder, Format, Name, Piece, Policy, RedOp, UnOp};
+pub use arithmetic::binary;
+pub use choices::{Bound, Choice, Knobs, LoopInfo, Red};
+pub use reports::{Ending, Event, Judged, Report, Verdict};
+pub use steps::Budget;
+pub use typed_tree::{TExpr, TFunc, TGlobal, TKind, TLocal, TNote, TPlace, TStmt, Typed};
+pub use values::{Addr, Kind, Obj, Trap, Val};
