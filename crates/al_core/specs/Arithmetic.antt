@@ -1,9 +1,11 @@
 -- What the operators compute: integers of 64 bits that wrap.
 use Rattle.std.specs.Prelude.{ℕ, Bool, if◌then◌else◌, Result, Ok, Err, ℤ, pos, int_lt, int_le, int_rem, unsigned_abs}
-use Rattle.std.specs.Int.{w64, int_wrapping_add, int_wrapping_sub, int_wrapping_mul, int_wrapping_div, int_rem_euclid, int_shl, int_shr, int_bit_and, int_bit_or, int_bit_xor}
+use Rattle.std.specs.Int.{w64, int_wrapping_add, int_wrapping_sub, int_wrapping_mul, int_wrapping_div, int_wrapping_neg, int_rem_euclid, int_bit_not, int_shl, int_shr, int_bit_and, int_bit_or, int_bit_xor}
 use Rattle.std.specs.Ordering.{int_eq}
 use Rattle.al_source.specs.declared.operators.BinOp.{BinOp}
 use Rattle.al_source.specs.declared.operators.BinOp.TheVariants.{Add, Sub, Mul, Div, Rem, Shl, Shr, Lt, Le, Gt, Ge, Eq, Ne, BitAnd, BitXor, BitOr}
+use Rattle.al_source.specs.declared.operators.UnOp.{UnOp}
+use Rattle.al_source.specs.declared.operators.UnOp.TheVariants.{Neg, BitNot, Not}
 use Rattle.al_core.specs.declared.values.Trap.{Trap}
 use Rattle.al_core.specs.declared.values.Trap.TheVariants.{Divide}
 
@@ -37,3 +39,9 @@ operated Ne a b = Ok (if int_eq a b then pos 0 else pos 1)
 operated BitAnd a b = Ok (int_bit_and w64 a b)
 operated BitXor a b = Ok (int_bit_xor w64 a b)
 operated BitOr a b = Ok (int_bit_or w64 a b)
+
+-- `!` is 1 at 0, and else 0
+abbrev pub unary : UnOp → ℤ → ℤ
+unary Neg a = int_wrapping_neg w64 a
+unary BitNot a = int_bit_not w64 a
+unary Not a = truth_value (int_eq a (pos 0))

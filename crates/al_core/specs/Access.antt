@@ -1,0 +1,178 @@
+-- What code in a memory sees: the memory, the names of its next objects, what it printed, and in a chunk the access record.
+use Rattle.std.specs.Prelude.{ℕ, suc, ◌+◌, Bool, false, if◌then◌else◌, nat_lt, List, [], ◌∷◌, ◌++◌, replicate, Option, Some, None, option_map, Result, Ok, Err, slice_get, slice_set, pos}
+use Rattle.std.specs.FinSet as set
+use Rattle.std.specs.FinSet.{FinSet}
+use Rattle.al_core.specs.declared.choices.Red.{Red}
+use Rattle.al_core.specs.declared.values.Obj.TheVariants.{Serial, Iter}
+use Rattle.al_core.specs.declared.values.Val.TheVariants.{Int}
+use Rattle.al_core.specs.declared.values.Addr.TheVariants.{Word, Head, Local}
+use Rattle.al_core.specs.declared.values.Trap.TheVariants as trap
+use Rattle.al_core.specs.Orders.{obj_cmp, addr_cmp, addr_eq}
+use Rattle.al_core.specs.Values.{of_kind}
+use Rattle.al_core.specs.World.{Obj, Val, Addr, Kind, Trap, World}
+use Rattle.al_core.specs.Action.{or_zero}
+use Rattle.al_core.specs.Memory.{Memory, has_object, value_at, put, add}
+
+-- ---- names
+
+-- who allocates: the code outside the iterations of annotated loops, or iteration j of execution e
+pub data Maker : Type 0 where
+  Program : Maker
+  Iteration : ℕ → ℕ → Maker
+
+-- who allocates, how many objects it has made, and their words, each object counted as its words plus one
+pub record Names : Type 0 where
+  pub maker : Maker
+  pub next : ℕ
+  pub words : ℕ
+
+-- a name depends on no thread, chunk or attempt
+abbrev pub name_of : Maker → ℕ → Obj
+name_of Program k = Serial k
+name_of (Iteration e j) k = Iter e j k
+
+abbrev pub word_limit : Maker → ℕ
+word_limit Program = 4194304
+word_limit (Iteration e j) = 1048576
+
+-- ---- the access record of a chunk
+
+pub record Log : Type 0 where
+  -- the addresses that were read before the chunk wrote them
+  pub reads : FinSet addr_cmp
+  -- those that were written
+  pub touched : FinSet addr_cmp
+  -- the objects that the chunk made
+  pub made : FinSet obj_cmp
+  -- the reductions, and the accumulator of each
+  pub reds : List Red
+  pub accumulators : List Val
+
+pub record Content : Type 0 where
+  pub memory : Memory
+  pub names : Names
+  pub printed : List ℕ
+  -- there is none where code runs plain
+  pub log : Option Log
+
+abbrev pub with_memory : Content → Memory → Content
+with_memory c m = record c { memory = m }
+
+abbrev pub with_log : Content → Log → Content
+with_log c log = record c { log = Some log }
+
+abbrev pub with_read : Log → Addr → Log
+with_read log a = record log { reads = set.insert log.reads a }
+
+abbrev pub with_touched : Log → Addr → Log
+with_touched log a = record log { touched = set.insert log.touched a }
+
+-- a word that was written before is not read from outside
+abbrev pub with_load : Log → Addr → Log
+with_load log a = if set.contains log.touched a then log else with_read log a
+
+-- ---- loads and stores of a memory
+
+-- An object that is not there, and then a word outside it.
+abbrev pub missing_or_outside : Memory → Addr → Trap
+missing_or_outside m (Word o w) = if has_object m o then trap.Bounds else trap.Missing
+missing_or_outside m (Head o) = trap.Missing
+missing_or_outside m (Local k) = trap.Missing
+
+-- A word is read as a value of a kind. A local holds a value of its own kind.
+abbrev pub read_as : Addr → Kind → Val → Result Val Trap
+read_as (Word o w) want v = of_kind want v
+read_as (Head o) want v = Ok v
+read_as (Local k) want v = Ok v
+
+abbrev pub loaded : Memory → Addr → Kind → Option Val → Result Val Trap
+loaded m a want (Some v) = read_as a want v
+loaded m a want None = Err (missing_or_outside m a)
+
+abbrev pub load_in : Memory → Addr → Kind → Result Val Trap
+load_in m a want = loaded m a want (value_at m a)
+
+-- a store never minds the kind
+abbrev pub store_in : Content → Addr → Val → Option Val → Result (Unit {0}) Trap × Content
+store_in c a v (Some old) = (Ok tt, with_memory c (put c.memory a v))
+store_in c a v None = (Err (missing_or_outside c.memory a), c)
+
+-- ---- in a chunk
+
+-- the place of a reduction variable among the reductions
+abbrev pub red_index : List Red → Addr → Option ℕ
+red_index [] a = None
+red_index (r ∷ reds) a = if addr_eq r.at a then Some 0 else option_map suc (red_index reds a)
+
+-- an access to a word of an object that the chunk made records nothing
+abbrev pub is_own : Log → Addr → Bool
+is_own log (Word o w) = set.contains log.made o
+is_own log (Head o) = false
+is_own log (Local k) = false
+
+-- any other access to a word reads the object's head, also where it traps; a shared local has no head
+abbrev pub with_head : Log → Addr → Log
+with_head log (Word o w) = with_read log (Head o)
+with_head log (Head o) = log
+with_head log (Local k) = log
+
+-- a load that finds a value reads it
+abbrev pub log_load : Log → Addr → Option Val → Log
+log_load log a (Some v) = with_load (with_head log a) a
+log_load log a None = with_head log a
+
+abbrev pub log_store : Log → Addr → Option Val → Log
+log_store log a (Some v) = with_touched (with_head log a) a
+log_store log a None = with_head log a
+
+-- a reduction variable is read and changed in its accumulator, and nothing is recorded
+abbrev pub load_logged : Content → Log → Addr → Kind → Option ℕ → Result Val Trap × Content
+load_logged c log a want (Some i) = (read_as a want (or_zero (slice_get log.accumulators i)), c)
+load_logged c log a want None =
+    (load_in c.memory a want, if is_own log a then c else with_log c (log_load log a (value_at c.memory a)))
+
+abbrev pub store_logged : Content → Log → Addr → Val → Option ℕ → Result (Unit {0}) Trap × Content
+store_logged c log a v (Some i) = (Ok tt, with_log c (record log { accumulators = slice_set log.accumulators i v }))
+store_logged c log a v None =
+    store_in (if is_own log a then c else with_log c (log_store log a (value_at c.memory a))) a v (value_at c.memory a)
+
+-- ---- the operations
+
+abbrev pub load_by : Option Log → Content → Addr → Kind → Result Val Trap × Content
+load_by None c a want = (load_in c.memory a want, c)
+load_by (Some log) c a want = load_logged c log a want (red_index log.reds a)
+
+abbrev pub store_by : Option Log → Content → Addr → Val → Result (Unit {0}) Trap × Content
+store_by None c a v = store_in c a v (value_at c.memory a)
+store_by (Some log) c a v = store_logged c log a v (red_index log.reds a)
+
+-- making an object writes its head
+abbrev pub log_make : Option Log → Obj → Option Log
+log_make None o = None
+log_make (Some log) o = Some (with_touched (record log { made = set.insert log.made o }) (Head o))
+
+abbrev pub one_more : Names → ℕ → Names
+one_more names words = record names { next = names.next + 1; words = names.words + words + 1 }
+
+-- the words of an object that is made are all 0
+abbrev pub with_object : Content → Obj → ℕ → Content
+with_object c o words =
+    record { memory = add c.memory o (replicate words (Int (pos 0))); names = one_more c.names words; printed = c.printed; log = log_make c.log o }
+
+abbrev pub load : Addr → Kind → Content → Result Val Trap × Content
+load a want c = load_by c.log c a want
+
+abbrev pub store : Addr → Val → Content → Result (Unit {0}) Trap × Content
+store a v c = store_by c.log c a v
+
+abbrev pub make : ℕ → Content → Result Obj Trap × Content
+make words c =
+    if nat_lt (word_limit c.names.maker) (c.names.words + words + 1) then (Err trap.Alloc, c)
+    else (Ok (name_of c.names.maker c.names.next), with_object c (name_of c.names.maker c.names.next) words)
+
+abbrev pub print : List ℕ → Content → Content
+print bytes c = record c { printed = c.printed ++ bytes }
+
+-- The world of an iteration. No loop is handed on in it.
+abbrev pub in_iteration : World Content
+in_iteration = record { load = load; store = store; make = make; print = print; visit = λ loop lo hi locals c. (Ok locals, c) }

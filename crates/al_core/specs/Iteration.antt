@@ -1,0 +1,65 @@
+-- An iteration of an annotated loop, and iterations one after another.
+use Rattle.std.specs.Prelude.{ℕ, zero, suc, ◌+◌, ◌-◌, List, replicate, Ok, Err, ℤ, pos, ◌+ℤ◌}
+use Rattle.al_core.specs.declared.reports.Ending.{Ending}
+use Rattle.al_core.specs.declared.reports.Ending.TheVariants as ending
+use Rattle.al_core.specs.declared.typed_tree.Typed.{Typed}
+use Rattle.al_core.specs.declared.values.Val.TheVariants.{Int}
+use Rattle.al_core.specs.Action.{Own, State, Answer, Act, pure, spend, ◌>>=◌, ◌>>◌, set_local}
+use Rattle.al_core.specs.Access.{Iteration, Content, in_iteration}
+use Rattle.al_core.specs.Loops.{Loop}
+use Rattle.al_core.specs.Meaning.{Inside, execute, call_to}
+
+-- an execution of an annotated loop: its number, the loop's start, its trips, the chunk factor and the steps of an iteration
+pub record Execution : Type 0 where
+  pub typed : Typed
+  pub input : List ℤ
+  pub loop : Loop
+  pub number : ℕ
+  pub lo : ℤ
+  pub trips : ℕ
+  pub chunk : ℕ
+  pub iter_steps : ℕ
+
+-- how code ended, the steps that it spent, and what it left
+pub record Ran : Type 0 where
+  pub ending : Ending
+  pub steps : ℕ
+  pub content : Content
+
+-- An iteration spends a step, sets its counter and does the loop's body. One call is active, so 255 more may be.
+abbrev pub iteration_does : Execution → ℕ → Act Content (Unit {0})
+iteration_does x j =
+    spend x.loop.info.line
+    >> (set_local in_iteration x.loop.info.counter (Int (x.lo +ℤ pos j)) x.loop.info.line
+    >> (execute in_iteration Inside x.input (call_to in_iteration Inside x.typed.funcs x.input 255) x.loop.body >>= (λ flow. pure tt)))
+
+-- It begins with a budget of its own, allocates by names of its own, and its private locals are 0.
+abbrev pub iteration_from : Execution → ℕ → Content → State Content
+iteration_from x j c = record {
+  frame = record { locals = replicate x.loop.locals (Int (pos 0)); own = Own x.loop.info.counter x.loop.info.first x.loop.info.last };
+  budget = x.iter_steps;
+  world = record c { names = record { maker = Iteration x.number j; next = 0; words = 0 } };
+}
+
+abbrev pub ending_of : {A : Type 0} → Answer A → Ending
+ending_of (Ok a) = ending.Done
+ending_of (Err e) = ending.Trap e.0 e.1
+
+abbrev pub ran : ℕ → Answer (Unit {0}) × State Content → Ran
+ran budget r = record { ending = ending_of r.0; steps = budget - r.1.budget; content = r.1.world }
+
+abbrev pub iteration : Execution → ℕ → Content → Ran
+iteration x j c = ran x.iter_steps (iteration_does x j (iteration_from x j c))
+
+abbrev pub add_steps : ℕ → Ran → Ran
+add_steps n r = record r { steps = n + r.steps }
+
+-- what comes next runs only where there was no trap
+abbrev pub then_runs : Ending → Ran → (Content → Ran) → Ran
+then_runs ending.Done r next = add_steps r.steps (next r.content)
+then_runs (ending.Trap t line) r next = r
+
+-- so many iterations from iteration j on, up to the first trap
+abbrev pub iterations : Execution → ℕ → ℕ → Content → Ran
+iterations x zero j c = record { ending = ending.Done; steps = 0; content = c }
+iterations x (suc n) j c = then_runs (iteration x j c).ending (iteration x j c) (iterations x n (suc j))
