@@ -17,3 +17,4 @@ pub mod Lockstep
 pub mod Serial
 pub mod Run
 pub mod Report
+pub mod Accepted
