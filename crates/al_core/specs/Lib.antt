@@ -16,5 +16,6 @@ pub mod Round
 pub mod Lockstep
 pub mod Serial
 pub mod Run
+pub mod Views
 pub mod Report
 pub mod Accepted

@@ -2,7 +2,7 @@ ghost use Rattle.std.specs.Prelude.{◌≡◌};
 ghost use Rattle.al_core.specs.Arithmetic as spec;
 
 use crate::values::Trap;
-use al_source::BinOp;
+use al_source::{BinOp, UnOp};
 
 /// The value of a binary operator. Integers wrap at 64 bits, `/` truncates towards 0 (C99 6.5.5p6), `MIN / -1` is
 /// `MIN` and `MIN % -1` is 0, a shift count is taken modulo 64, `>>` keeps the sign, and a comparison is 0 or 1.
@@ -47,6 +47,17 @@ fn remainder(a: i64, b: i64) -> Result<i64, Trap>
         Err(Trap::Divide)
     } else {
         Ok(a.wrapping_rem(b))
+    }
+}
+
+/// The value of a unary operator on a number. `-` wraps, and `!` is 1 at 0 and else 0.
+pub fn unary(op: UnOp, a: i64) -> i64
+    ensures { result ≡ spec.unary op a }
+{
+    match op {
+        UnOp::Neg => a.wrapping_neg(),
+        UnOp::BitNot => !a,
+        UnOp::Not => i64::from(a == 0),
     }
 }
 
