@@ -3,6 +3,7 @@
 
 pub mod arithmetic;
 pub mod choices;
+pub mod operations;
 pub mod reductions;
 pub mod reports;
 pub mod steps;
