@@ -159,18 +159,18 @@ abbrev pub with_object : Content → Obj → ℕ → Content
 with_object c o words =
     record { memory = add c.memory o (replicate words (Int (pos 0))); names = one_more c.names words; printed = c.printed; log = log_make c.log o }
 
-abbrev pub load : Addr → Kind → Content → Result Val Trap × Content
+unfoldable pub load : Addr → Kind → Content → Result Val Trap × Content
 load a want c = load_by c.log c a want
 
-abbrev pub store : Addr → Val → Content → Result (Unit {0}) Trap × Content
+unfoldable pub store : Addr → Val → Content → Result (Unit {0}) Trap × Content
 store a v c = store_by c.log c a v
 
-abbrev pub make : ℕ → Content → Result Obj Trap × Content
+unfoldable pub make : ℕ → Content → Result Obj Trap × Content
 make words c =
     if nat_lt (word_limit c.names.maker) (c.names.words + words + 1) then (Err trap.Alloc, c)
     else (Ok (name_of c.names.maker c.names.next), with_object c (name_of c.names.maker c.names.next) words)
 
-abbrev pub print : List ℕ → Content → Content
+unfoldable pub print : List ℕ → Content → Content
 print bytes c = record c { printed = c.printed ++ bytes }
 
 -- The world of an iteration. No loop is handed on in it.

@@ -28,5 +28,5 @@ reduced (r ∷ rs) [] m = m
 reduced (r ∷ rs) (n ∷ ns) m = reduced rs ns (joined r n m (value_at m r.at))
 
 -- the written words are laid over it, the made objects are added, and each reduction variable is changed
-abbrev pub applied : List Red → Memory → Outcome → Memory
+unfoldable pub applied : List Red → Memory → Outcome → Memory
 applied reds m o = reduced reds o.accumulators (added (map.entries o.made) (laid (map.entries o.writes) m))

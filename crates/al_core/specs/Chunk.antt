@@ -65,10 +65,10 @@ abbrev pub with_value : Addr → Option Val → Option (Addr × Val)
 with_value a (Some v) = Some (a, v)
 with_value a None = None
 
-abbrev pub written : Memory → FinSet addr_cmp → FinMap addr_cmp Val
+unfoldable pub written : Memory → FinSet addr_cmp → FinMap addr_cmp Val
 written m touched = map.from_entries (filter_map (λ a. with_value a (value_at m a)) (set.items touched))
 
-abbrev pub made_objects : Memory → FinSet obj_cmp → FinMap obj_cmp (List Val)
+unfoldable pub made_objects : Memory → FinSet obj_cmp → FinMap obj_cmp (List Val)
 made_objects m made = map.from_entries (map (λ o. (o, words_or_none (map.get m.objects o))) (set.items made))
 
 abbrev pub gathered : Val → ℤ
@@ -88,7 +88,7 @@ outcome_of r (Some log) = record {
 }
 outcome_of r None = record { reads = set.empty; touched = set.empty; writes = map.empty; made = map.empty; accumulators = []; printed = r.content.printed; ending = r.ending; steps = r.steps }
 
-abbrev pub outcome : Execution → List Red → Memory → ℕ → Outcome
+unfoldable pub outcome : Execution → List Red → Memory → ℕ → Outcome
 outcome x reds m c = outcome_of (chunk_runs x c (chunk_from x reds m c)) (chunk_runs x c (chunk_from x reds m c)).content.log
 
 -- ---- readiness

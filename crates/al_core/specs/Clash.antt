@@ -9,7 +9,7 @@ use Rattle.al_core.specs.Orders.{addr_cmp}
 use Rattle.al_core.specs.Chunk.{Outcome}
 
 -- some address is in both sets
-abbrev pub meets : FinSet addr_cmp → FinSet addr_cmp → Bool
+unfoldable pub meets : FinSet addr_cmp → FinSet addr_cmp → Bool
 meets a b = list_any (set.contains b) (set.items a)
 
 abbrev pub clashes : Policy → Outcome → FinSet addr_cmp → Bool

@@ -48,7 +48,7 @@ ending_of (Err e) = ending.Trap e.0 e.1
 abbrev pub ran : ℕ → Answer (Unit {0}) × State Content → Ran
 ran budget r = record { ending = ending_of r.0; steps = budget - r.1.budget; content = r.1.world }
 
-abbrev pub iteration : Execution → ℕ → Content → Ran
+unfoldable pub iteration : Execution → ℕ → Content → Ran
 iteration x j c = ran x.iter_steps (iteration_does x j (iteration_from x j c))
 
 abbrev pub add_steps : ℕ → Ran → Ran

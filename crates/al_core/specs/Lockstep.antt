@@ -66,7 +66,7 @@ up_from (suc n) c = c ∷ up_from n (suc c)
 abbrev pub all_chunks : Execution → List ℕ
 all_chunks x = up_from (chunk_count x) 0
 
-abbrev pub lockstep : Execution → Choice → ℕ → Memory → Rounds
+unfoldable pub lockstep : Execution → Choice → ℕ → Memory → Rounds
 lockstep x choice lanes m =
     rounds_from (chunk_count x) x choice lanes (all_chunks x) (record { memory = m; printed = []; ending = ending.Done; rounds = []; span = 0 })
 

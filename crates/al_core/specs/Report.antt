@@ -36,7 +36,7 @@ abbrev pub by_choices : List (Option Choice) → ℕ → ℕ → Way
 by_choices choices number execution = way_of (slice_get choices number)
 
 -- the report of a run with a choice for each annotated loop, or none where it runs plain
-abbrev pub report : Typed → List ℤ → Knobs → List (Option Choice) → Report
+unfoldable pub report : Typed → List ℤ → Knobs → List (Option Choice) → Report
 report typed input knobs choices =
     report_of knobs.serial_steps (whole_run (record { typed = typed; input = input; knobs = knobs; ways = by_choices choices }))
 
@@ -72,6 +72,6 @@ abbrev pub in_commit_order : List Event → ℕ → ℕ → Way
 in_commit_order events number execution = InChunks (commit_order events execution)
 
 -- What a program prints, and how it ends, where each execution runs its chunks one after another on one memory, in the commit order that these events tell.
-abbrev pub serial_run : Typed → List ℤ → Knobs → List Event → Shown
+unfoldable pub serial_run : Typed → List ℤ → Knobs → List Event → Shown
 serial_run typed input knobs events =
     shown_of (whole_run (record { typed = typed; input = input; knobs = knobs; ways = in_commit_order events }))

@@ -39,7 +39,7 @@ abbrev pub commit_or_trap : Ending → Verdict
 commit_or_trap ending.Done = verdict.Commit
 commit_or_trap (ending.Trap t line) = verdict.CommitTrap
 
-abbrev pub verdict_of : Choice → Judging → Outcome → Verdict
+unfoldable pub verdict_of : Choice → Judging → Outcome → Verdict
 verdict_of choice so_far o =
     if (is_in_order choice.order && so_far.failed) || so_far.trapped then verdict.After
     else if clashes choice.policy o so_far.written then verdict.Fail
@@ -63,7 +63,7 @@ settled choice verdict.After so_far o = so_far
 abbrev pub judged_by : Choice → ℕ → Verdict → Judging → Outcome → Judging
 judged_by choice c v so_far o = told c v (settled choice v so_far o) o
 
-abbrev pub judged : Choice → Judging → ℕ → Outcome → Judging
+unfoldable pub judged : Choice → Judging → ℕ → Outcome → Judging
 judged choice so_far c o = judged_by choice c (verdict_of choice so_far o) so_far o
 
 -- every chunk runs on the memory at the round's start, whatever was committed before it
@@ -74,5 +74,5 @@ judge_all x choice m (c ∷ cs) so_far = judge_all x choice m cs (judged choice 
 abbrev pub nothing_judged : Memory → Judging
 nothing_judged m = record { memory = m; written = set.empty; failed = false; trapped = false; verdicts = []; printed = []; ending = ending.Done; longest = 0 }
 
-abbrev pub round : Execution → Choice → List ℕ → Memory → Judging
+unfoldable pub round : Execution → Choice → List ℕ → Memory → Judging
 round x choice lanes m = judge_all x choice m lanes (nothing_judged m)

@@ -181,5 +181,5 @@ line_of (Some f) = f.line
 line_of None = 0
 
 -- `main` is called from nowhere, at the line of its definition
-abbrev pub whole_run : Setting → Answer Val × State Whole
+unfoldable pub whole_run : Setting → Answer Val × State Whole
 whole_run g = call_to (outside g) Outside g.typed.funcs g.input 256 g.typed.main [] (line_of (slice_get g.typed.funcs g.typed.main)) (start g)

@@ -11,7 +11,7 @@ abbrev pub direct : Execution → Memory → Content
 direct x m = record { memory = m; names = record { maker = Iteration x.number 0; next = 0; words = 0 }; printed = []; log = None }
 
 -- iterations 0, 1, 2 and so on, up to the first trap
-abbrev pub plain_loop : Execution → Memory → Ran
+unfoldable pub plain_loop : Execution → Memory → Ran
 plain_loop x m = iterations x x.trips 0 (direct x m)
 
 -- the chunks of a list, each as its iterations in ascending order, up to the first trap
@@ -19,5 +19,5 @@ abbrev pub chunks_run : Execution → List ℕ → Content → Ran
 chunks_run x [] content = record { ending = ending.Done; steps = 0; content = content }
 chunks_run x (c ∷ cs) content = then_runs (chunk_runs x c content).ending (chunk_runs x c content) (chunks_run x cs)
 
-abbrev pub serial : Execution → List ℕ → Memory → Ran
+unfoldable pub serial : Execution → List ℕ → Memory → Ran
 serial x cs m = chunks_run x cs (direct x m)

@@ -37,17 +37,17 @@ numbers [] = Ok []
 numbers (v ∷ vs) = then_ok (number v) (λ n. then_ok (numbers vs) (λ ns. Ok (n ∷ ns)))
 
 -- a binary operator of two numbers
-abbrev pub operate : BinOp → Val → Val → Result Val Trap
+unfoldable pub operate : BinOp → Val → Val → Result Val Trap
 operate op a b = then_ok (number a) (λ x. then_ok (number b) (λ y. then_ok (operated op x y) (λ z. Ok (Int z))))
 
 -- `!` takes pointers too
-abbrev pub operate_one : UnOp → Val → Result Val Trap
+unfoldable pub operate_one : UnOp → Val → Result Val Trap
 operate_one Neg a = then_ok (number a) (λ x. Ok (Int (unary Neg x)))
 operate_one BitNot a = then_ok (number a) (λ x. Ok (Int (unary BitNot x)))
 operate_one Not a = Ok (of_test (not (truth a)))
 
 -- the built-in `min` and `max`
-abbrev pub choose : RedOp → Val → Val → Result Val Trap
+unfoldable pub choose : RedOp → Val → Val → Result Val Trap
 choose op a b = then_ok (number a) (λ x. then_ok (number b) (λ y. Ok (Int (red_apply op x y))))
 
 -- pointers are equal where they lead to the same offset of the same object, or are both null
@@ -57,7 +57,7 @@ same (Ptr o v) (Ptr p w) = obj_eq o p && (v == w)
 same _ _ = false
 
 -- whether two pointers are equal, or whether they differ
-abbrev pub compare : Bool → Val → Val → Val
+unfoldable pub compare : Bool → Val → Val → Val
 compare true a b = of_test (same a b)
 compare false a b = of_test (not (same a b))
 
@@ -79,11 +79,11 @@ offset_at o (pos n) = if nat_lt n (2 ^ 32) then Ok (o, n) else Err trap.Bounds
 offset_at o (negsuc n) = Err trap.Bounds
 
 -- so many words on
-abbrev pub shift : Pointer → ℕ → Result Pointer Trap
+unfoldable pub shift : Pointer → ℕ → Result Pointer Trap
 shift p n = offset_at p.0 (pos (p.1 + n))
 
 -- the element of that index, where an element has so many words
-abbrev pub element : Pointer → Val → ℕ → Result Pointer Trap
+unfoldable pub element : Pointer → Val → ℕ → Result Pointer Trap
 element p i size = then_ok (number i) (λ n. offset_at p.0 (pos p.1 +ℤ (n *ℤ pos size)))
 
 -- the input number of that index
@@ -96,7 +96,7 @@ input_at input (pos i) = input_number (slice_get input i)
 input_at input (negsuc i) = Err trap.Input
 
 -- the words of so many elements; a count past 32 bits passes every limit of allocation
-abbrev pub words_of : ℤ → ℕ → Result ℕ Trap
+unfoldable pub words_of : ℤ → ℕ → Result ℕ Trap
 words_of (pos n) size = if nat_lt (n * size) (2 ^ 32) then Ok (n * size) else Err trap.Alloc
 words_of (negsuc n) size = Err trap.Alloc
 
@@ -116,5 +116,5 @@ abbrev pub trip_count : ℤ → ℤ → ℕ
 trip_count lo hi = not_negative (hi -ℤ lo)
 
 -- not more than 16,777,216 times
-abbrev pub trips : ℤ → ℤ → Result ℕ Trap
+unfoldable pub trips : ℤ → ℤ → Result ℕ Trap
 trips lo hi = if nat_lt 16777216 (trip_count lo hi) then Err trap.Trips else Ok (trip_count lo hi)

@@ -32,6 +32,7 @@ pub fn number(v: Val) -> Result<i64, Trap>
     }
 }
 
+#[tactic(auto, unfolding(crate::specs::Values::operate))]
 pub fn operate(op: BinOp, a: Val, b: Val) -> Result<Val, Trap>
     ensures { result ≡ spec.operate op a b }
 {
@@ -39,6 +40,7 @@ pub fn operate(op: BinOp, a: Val, b: Val) -> Result<Val, Trap>
 }
 
 /// A unary operator. `!` takes pointers too.
+#[tactic(auto, unfolding(crate::specs::Values::operate_one))]
 pub fn operate_one(op: UnOp, a: Val) -> Result<Val, Trap>
     ensures { result ≡ spec.operate_one op a }
 {
@@ -49,6 +51,7 @@ pub fn operate_one(op: UnOp, a: Val) -> Result<Val, Trap>
 }
 
 /// The built-in `min` or `max`.
+#[tactic(auto, unfolding(crate::specs::Values::choose))]
 pub fn choose(op: RedOp, a: Val, b: Val) -> Result<Val, Trap>
     ensures { result ≡ spec.choose op a b }
 {
@@ -88,6 +91,7 @@ pub fn point(v: Val) -> Result<(Obj, u32), Trap>
 }
 
 /// So many words on. It traps `Bounds` where the offset passes 32 bits.
+#[tactic(auto, unfolding(crate::specs::Values::shift))]
 pub fn shift(at: (Obj, u32), words: u32) -> Result<(Obj, u32), Trap>
     ensures { result ≡ spec.shift at words }
 {
@@ -98,6 +102,7 @@ pub fn shift(at: (Obj, u32), words: u32) -> Result<(Obj, u32), Trap>
 }
 
 /// The element of an index, where an element has so many words.
+#[tactic(auto, unfolding(crate::specs::Values::element))]
 pub fn element(at: (Obj, u32), index: Val, size: u32) -> Result<(Obj, u32), Trap>
     ensures { result ≡ spec.element at index size }
 {
@@ -122,6 +127,7 @@ pub fn input_at(input: &[i64], index: i64) -> Result<Val, Trap>
 }
 
 /// The words of so many elements of so many words. It traps `Alloc` where the count is negative, and past 32 bits.
+#[tactic(auto, unfolding(crate::specs::Values::words_of))]
 pub fn words_of(count: i64, size: u32) -> Result<u32, Trap>
     ensures { result ≡ spec.words_of count size }
 {
@@ -135,6 +141,7 @@ pub fn words_of(count: i64, size: u32) -> Result<u32, Trap>
 }
 
 /// How often an annotated loop runs from a start to below a bound. It traps `Trips` past 16,777,216.
+#[tactic(auto, unfolding(crate::specs::Values::trips))]
 pub fn trips(lo: i64, hi: i64) -> Result<u64, Trap>
     ensures { result ≡ spec.trips lo hi }
 {
