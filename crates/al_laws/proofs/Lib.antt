@@ -1,2 +1,3 @@
 pub mod Induction
 pub mod Abstraction
+pub mod Joining

@@ -1,7 +1,4 @@
-//! Laws over the definitions of what a program means.
+//! Laws over the definitions of what a program means. A law stands on a function that does nothing.
 #![tactic(auto)]
 
-/// One.
-pub fn one() -> u8 {
-    1
-}
+pub mod reductions;
