@@ -2,7 +2,12 @@
 #![tactic(auto)]
 
 mod files;
+mod mem_files;
+mod mem_sink;
+mod reserved;
 mod sink;
 
 pub use files::{Files, ReadFault};
+pub use mem_files::{MemFile, MemFiles};
+pub use mem_sink::{Cut, MemSink};
 pub use sink::{PutFault, Sink};
