@@ -1,7 +1,7 @@
 -- What files hold, as a list of names and bytes, and what a read gives of it.
-use Rattle.std.specs.Prelude.{◌≡◌, ◌≢◌, ℕ, List, take, Option, map, AllPairs}
+use Rattle.std.specs.Prelude.{ℕ, List, take, Option}
 use Rattle.std.specs.Option.{option_map}
-use Rattle.std.specs.Map.{lookup, keys_of}
+use Rattle.std.specs.Map.{lookup}
 use Rattle.std.specs.Str.{bytes_eq}
 
 -- the names of files, as the bytes of their text, each with the bytes of the file

@@ -1,5 +1,5 @@
 -- Counts of calls and of faults, which stop at the top of 64 bits, and what may be said of a count before and after.
-use Rattle.std.specs.Prelude.{ℕ, ◌+◌, ◌<◌, ◌≤◌, ◌≡◌, min}
+use Rattle.std.specs.Prelude.{ℕ, ◌+◌, ◌<◌, ◌≤◌, min}
 
 -- the last value of a count: one that has reached it stays there
 abbrev pub last_count : ℕ

@@ -1,5 +1,5 @@
 -- A sink in memory: what it holds, how much it has room for, which puts are cut short, and what a put leaves.
-use Rattle.std.specs.Prelude.{ℕ, ◌+◌, ◌-◌, ◌<◌, ◌++◌, ◌==◌, ◌||◌, Bool, List, map, find, min, length, take, Option, is_some, nat_lt, if◌then◌else◌}
+use Rattle.std.specs.Prelude.{ℕ, ◌-◌, ◌++◌, ◌==◌, ◌||◌, Bool, List, map, find, min, length, take, Option, is_some, nat_lt, if◌then◌else◌}
 use Rattle.std.specs.Option.{option_map_or, option_map}
 use Rattle.al_io.specs.declared.mem_sink.Cut.{Cut}
 use Rattle.al_io.specs.Counts.{counted_on}

@@ -18,6 +18,16 @@ pub enum ReadFault {
     Memory,
 }
 
+impl From<AllocError> for ReadFault {
+    ghost use Rattle.al_io.specs.declared.files.ReadFault.TheVariants.{Memory};
+
+    ghost from_gives = { λ _ fault. fault ≡ Memory };
+
+    fn from(_: AllocError) -> ReadFault {
+        ReadFault::Memory
+    }
+}
+
 /// Files that can be read by their names.
 pub trait Files {
     /// What the files hold, by their names, where that is told.

@@ -53,6 +53,20 @@ impl MemFiles {
             faults: 0,
         }
     }
+
+    /// How many reads there were: 18446744073709551615 where there were more.
+    pub fn calls(&self) -> u64
+        ensures { result ≡ self.now.calls }
+    {
+        self.calls
+    }
+
+    /// How many of them have failed: 18446744073709551615 where there were more.
+    pub fn faults(&self) -> u64
+        ensures { result ≡ self.now.faults }
+    {
+        self.faults
+    }
 }
 
 impl Files for MemFiles {
@@ -105,10 +119,7 @@ fn beginning(
     ensures read { IfOk result (λ bytes. beginning_of (named files.now) name.now most ≡ Some bytes) }
 {
     let file = file_named(files, name).ok_or(ReadFault::NoSuch)?;
-    match Items::from_slice(alloc, first(file.bytes.as_slice(), most)) {
-        Ok(bytes) => Ok(bytes),
-        Err(_) => Err(ReadFault::Memory),
-    }
+    Ok(Items::from_slice(alloc, first(file.bytes.as_slice(), most))?)
 }
 
 /// The first file of this name.

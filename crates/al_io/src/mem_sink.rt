@@ -59,6 +59,20 @@ impl MemSink {
     {
         self.kept.as_slice()
     }
+
+    /// How many puts there were: 18446744073709551615 where there were more.
+    pub fn calls(&self) -> u64
+        ensures { result ≡ self.now.calls }
+    {
+        self.calls
+    }
+
+    /// How many of them have failed: 18446744073709551615 where there were more.
+    pub fn faults(&self) -> u64
+        ensures { result ≡ self.now.faults }
+    {
+        self.faults
+    }
 }
 
 impl Sink for MemSink {

@@ -1,4 +1,4 @@
-use Rattle.std.proofs.Common.{rules, ◌≡◌, IsTrue, true, false, subst}
+use Rattle.std.proofs.Common.{rules, ◌≡◌, true, false}
 use Rattle.al_io.specs.MemFiles.{next_fails}
 use Rattle.al_io.proofs.mem_files.MemFilesFiles.read.Goals as goal
 
