@@ -15,3 +15,6 @@ pub use host_streams::{HostErr, HostOut, HostStream};
 pub use mem_files::{MemFile, MemFiles};
 pub use mem_sink::{Cut, MemSink};
 pub use sink::{PutFault, Sink};
+
+#[cfg(test)]
+mod tests;

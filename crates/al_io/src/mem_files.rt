@@ -54,6 +54,19 @@ impl MemFiles {
         }
     }
 
+    /// The same files after so many reads, of which so many have failed.
+    #[cfg(test)]
+    pub(crate) fn after(self, calls: u64, faults: u64) -> MemFiles
+        ensures { result ≡ record self { calls = calls; faults = faults } }
+    {
+        MemFiles {
+            files: self.files,
+            fails: self.fails,
+            calls,
+            faults,
+        }
+    }
+
     /// How many reads there were: 18446744073709551615 where there were more.
     pub fn calls(&self) -> u64
         ensures { result ≡ self.now.calls }

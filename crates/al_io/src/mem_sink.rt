@@ -60,6 +60,19 @@ impl MemSink {
         self.kept.as_slice()
     }
 
+    /// The same sink after so many puts, of which so many have failed.
+    #[cfg(test)]
+    pub(crate) fn after(self, calls: u64, faults: u64) -> MemSink
+        ensures { result ≡ record self { calls = calls; faults = faults } }
+    {
+        MemSink {
+            kept: self.kept,
+            cuts: self.cuts,
+            calls,
+            faults,
+        }
+    }
+
     /// How many puts there were: 18446744073709551615 where there were more.
     pub fn calls(&self) -> u64
         ensures { result ≡ self.now.calls }
