@@ -46,11 +46,16 @@ fn files_in_memory(rt: HostRuntime) -> Result<(), Fail> {
     let alloc = rt.alloc();
     let files = one_file(alloc, "n.txt", b"1 2 3 4\n")?;
     let mut files = MemFiles::new(files, Items::from_slice(alloc, &[1])?);
-    assert!(rt; reads(&mut files, alloc, "n.txt", 100, Ok(b"1 2 3 4\n")));
-    assert!(rt; reads(&mut files, alloc, "n.txt", 100, Err(ReadFault::Failed)));
-    assert!(rt; reads(&mut files, alloc, "n.txt", 3, Ok(b"1 2")));
-    assert!(rt; reads(&mut files, alloc, "n.tx", 3, Err(ReadFault::NoSuch)));
-    assert!(rt; reads(&mut files, alloc, "n.txt", 0, Ok(b"")));
+    let cases: [(&str, usize, Result<&[u8], ReadFault>); 5] = [
+        ("n.txt", 100, Ok(b"1 2 3 4\n")),
+        ("n.txt", 100, Err(ReadFault::Failed)),
+        ("n.txt", 3, Ok(b"1 2")),
+        ("n.tx", 3, Err(ReadFault::NoSuch)),
+        ("n.txt", 0, Ok(b"")),
+    ];
+    for (name, most, want) in cases {
+        assert!(rt; reads(&mut files, alloc, name, most, want), "{name} {most}");
+    }
     assert_eq!(rt; (files.calls(), files.faults()), (5, 1));
     Ok(())
 }
@@ -80,40 +85,39 @@ fn leaves(
 #[test]
 fn a_sink_in_memory(rt: HostRuntime) -> Result<(), Fail> {
     let alloc = rt.alloc();
-    let cut = |call, taken| Cut { call, taken };
-    assert!(rt;
-        leaves(
-            alloc,
-            1_048_576,
-            cut(9, 0),
-            &["1 2\n", "", "ok\n"],
+    let ample = 1_048_576;
+    let cases: [(u32, Cut, [&str; 2], &[u8], u64); 6] = [
+        (
+            ample,
+            Cut { call: 9, taken: 0 },
+            ["1 2\n", "ok\n"],
             b"1 2\nok\n",
-            0
-        )?
-    );
-    assert!(rt;
-        leaves(
-            alloc,
-            1_048_576,
-            cut(0, 3),
-            &["1 2\n", "ok\n"],
+            0,
+        ),
+        (
+            ample,
+            Cut { call: 0, taken: 3 },
+            ["1 2\n", "ok\n"],
             b"1 2ok\n",
-            1
-        )?
-    );
-    assert!(rt;
-        leaves(
-            alloc,
-            1_048_576,
-            cut(1, 9),
-            &["1 2\n", "ok\n"],
+            1,
+        ),
+        (
+            ample,
+            Cut { call: 1, taken: 9 },
+            ["1 2\n", "ok\n"],
             b"1 2\nok\n",
-            1
-        )?
-    );
-    assert!(rt; leaves(alloc, 2, cut(9, 0), &["1 2\n", "ok\n", ""], b"1 ", 2)?);
-    assert!(rt; leaves(alloc, 2, cut(0, 3), &["1 2\n"], b"1 ", 1)?);
-    assert!(rt; leaves(alloc, 3, cut(0, 0), &["1", "1 2"], b"1 2", 1)?);
+            1,
+        ),
+        (2, Cut { call: 9, taken: 0 }, ["1 2\n", "ok\n"], b"1 ", 2),
+        (2, Cut { call: 0, taken: 3 }, ["1 2\n", ""], b"1 ", 1),
+        (3, Cut { call: 0, taken: 0 }, ["1", "1 2"], b"1 2", 1),
+    ];
+    for (room, cut, puts, want, faults) in cases {
+        assert!(rt;
+            leaves(alloc, room, cut, &puts, want, faults)?,
+            "{room} {cut:?}"
+        );
+    }
     Ok(())
 }
 
