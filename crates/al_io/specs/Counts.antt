@@ -1,5 +1,5 @@
 -- Counts of calls and of faults, which stop at the top of 64 bits, and what may be said of a count before and after.
-use Rattle.std.specs.Prelude.{ℕ, ◌+◌, ◌<◌, ◌≤◌, min}
+use Rattle.std.specs.Prelude.{ℕ, ◌+◌, ◌<◌, ◌≤◌, min, Bool, if◌then◌else◌}
 
 -- the last value of a count: one that has reached it stays there
 abbrev pub last_count : ℕ
@@ -8,6 +8,10 @@ last_count = 18446744073709551615
 -- the count after k more steps
 abbrev pub counted_on : ℕ → ℕ → ℕ
 counted_on k n = min (n + k) last_count
+
+-- the count after a call: one step more, where it has failed
+abbrev pub counted_if : Bool → ℕ → ℕ
+counted_if failed n = (if failed then counted_on 1 n else n)
 
 -- the count has grown
 abbrev pub HasRisen : ℕ → ℕ → Type 0

@@ -4,3 +4,4 @@ pub mod Written
 pub mod Distinct
 pub mod MemFiles
 pub mod MemSink
+pub mod HostStream

@@ -1,10 +1,10 @@
 -- Files in memory: what they hold, which reads fail, and what a read leaves.
-use Rattle.std.specs.Prelude.{ℕ, ◌==◌, Bool, List, map, string_bytes, if◌then◌else◌}
+use Rattle.std.specs.Prelude.{ℕ, ◌==◌, Bool, List, map, string_bytes}
 use Rattle.std.specs.List.{list_any}
 use Rattle.std.specs.Str.{bytes_eq}
 use Rattle.al_io.specs.declared.mem_files.MemFile.{MemFile}
 use Rattle.al_io.specs.Contents.{Contents}
-use Rattle.al_io.specs.Counts.{counted_on}
+use Rattle.al_io.specs.Counts.{counted_on, counted_if}
 
 -- the name and the bytes of each file, in order
 abbrev pub named : List MemFile → Contents
@@ -29,5 +29,5 @@ next_fails m = list_any (λ number. number == m.calls) m.fails
 abbrev pub after_read : FilesInMemory → FilesInMemory
 after_read m = record m {
   calls = counted_on 1 m.calls;
-  faults = (if next_fails m then counted_on 1 m.faults else m.faults);
+  faults = counted_if (next_fails m) m.faults;
 }

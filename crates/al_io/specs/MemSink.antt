@@ -1,8 +1,8 @@
 -- A sink in memory: what it holds, how much it has room for, which puts are cut short, and what a put leaves.
-use Rattle.std.specs.Prelude.{ℕ, ◌-◌, ◌++◌, ◌==◌, ◌||◌, Bool, List, map, find, min, length, take, Option, is_some, nat_lt, if◌then◌else◌}
+use Rattle.std.specs.Prelude.{ℕ, ◌-◌, ◌++◌, ◌==◌, ◌||◌, Bool, List, map, find, min, length, take, Option, is_some, nat_lt}
 use Rattle.std.specs.Option.{option_map_or, option_map}
 use Rattle.al_io.specs.declared.mem_sink.Cut.{Cut}
-use Rattle.al_io.specs.Counts.{counted_on}
+use Rattle.al_io.specs.Counts.{counted_on, counted_if}
 
 -- the number of each put that is cut short
 abbrev pub numbers_of : List Cut → List ℕ
@@ -41,5 +41,5 @@ abbrev pub after_put : SinkInMemory → List ℕ → SinkInMemory
 after_put s bytes = record s {
   bytes = s.bytes ++ take (taken_of s bytes) bytes;
   calls = counted_on 1 s.calls;
-  faults = (if put_fails s bytes then counted_on 1 s.faults else s.faults);
+  faults = counted_if (put_fails s bytes) s.faults;
 }
