@@ -1,3 +1,4 @@
 pub mod Induction
 pub mod Abstraction
 pub mod Joining
+pub mod Falls
