@@ -2,3 +2,4 @@ pub mod Induction
 pub mod Abstraction
 pub mod Joining
 pub mod Falls
+pub mod Agree
