@@ -3,3 +3,4 @@ pub mod Abstraction
 pub mod Joining
 pub mod Falls
 pub mod Agree
+pub mod Recording

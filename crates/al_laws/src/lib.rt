@@ -2,4 +2,5 @@
 #![tactic(auto)]
 
 pub mod budgets;
+pub mod records;
 pub mod reductions;
