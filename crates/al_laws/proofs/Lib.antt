@@ -4,3 +4,4 @@ pub mod Joining
 pub mod Falls
 pub mod Agree
 pub mod Recording
+pub mod Commits

@@ -4,3 +4,4 @@
 pub mod budgets;
 pub mod records;
 pub mod reductions;
+pub mod rounds;
