@@ -1,3 +1,7 @@
 pub mod Induction
 pub mod Abstraction
 pub mod Joining
+pub mod Falls
+pub mod Agree
+pub mod Recording
+pub mod Commits

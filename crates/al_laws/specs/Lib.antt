@@ -1,1 +1,4 @@
 pub mod Joining
+pub mod Budgets
+pub mod Recording
+pub mod Rounds
