@@ -33,10 +33,10 @@ pub trait Files {
     /// What the files hold, by their names, where that is told.
     ghost contents: { Self → Option Contents } = { λ _. None };
 
-    /// How many reads there were, where that is told.
+    /// How many reads there were, where that is told, up to 18446744073709551615.
     ghost calls: { Self → Option ℕ } = { λ _. None };
 
-    /// How many reads have failed.
+    /// How many reads have failed, up to 18446744073709551615. Nothing else raises it.
     ghost faults: { Self → ℕ };
 
     /// Reads the first `most` bytes of the file of this name, or all of them where it has no more.

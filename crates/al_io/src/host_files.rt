@@ -12,8 +12,9 @@ use std::{fmt, fs, io, rt};
 /// How many bytes are asked for at a time.
 const CHUNK: usize = 8192;
 
-/// The files of the operating system, of which `faults` reads have failed. They tell neither what they
-/// hold nor how many reads there were, and a file that is missing is a fault.
+/// The files of the operating system, seen as the number of reads that have failed. They tell neither
+/// what they hold nor how many reads there were. A file that is missing is a fault, and so is a read that
+/// an interrupt ends.
 #[derive(Drop)]
 pub struct HostFiles<'a, R> {
     system: &'a R,
@@ -94,8 +95,8 @@ fn read_opened<R: Read + Drop>(
     }
 }
 
-/// Reads up to the end or up to `most` bytes. Each turn but the last gives at least one byte, and one
-/// that gives none is the end.
+/// Reads up to the end or up to `most` bytes. A turn that gives no byte is the end, and each other one
+/// gives at least one, so there are at most `most` of them.
 pub(crate) fn read_up_to<R: Read>(
     alloc: Global,
     reader: &mut R,

@@ -6,8 +6,8 @@ use crate::{PutFault, Sink};
 use std::io::Write;
 use std::rt::{Stderr, Stdout};
 
-/// A stream as a sink. It tells neither what it holds nor how many puts there were, and a write that
-/// takes nothing is a fault.
+/// A stream as a sink. It tells neither what it holds nor how many puts there were. A write that fails,
+/// be it by an interrupt, and one that takes nothing are faults.
 #[derive(Debug, Drop)]
 pub struct HostStream<W> {
     to: W,
@@ -65,6 +65,7 @@ impl<W: Write> Sink for HostStream<W> {
         put
     }
 }
+
 /// Writes the bytes, piece by piece, up to the first write that fails or takes nothing.
 fn put_all<W: Write>(to: &mut W, bytes: &[u8]) -> Result<(), PutFault>
     ensures all { OnOk result (Appends (W.contents to.old) (W.contents to.new) bytes.now) }

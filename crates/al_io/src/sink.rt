@@ -17,10 +17,10 @@ pub trait Sink {
     /// All the bytes that it has taken, where that is told.
     ghost written: { Self → Option (List ℕ) } = { λ _. None };
 
-    /// How many puts there were, where that is told.
+    /// How many puts there were, where that is told, up to 18446744073709551615.
     ghost calls: { Self → Option ℕ } = { λ _. None };
 
-    /// How many puts have failed.
+    /// How many puts have failed, up to 18446744073709551615. Nothing else raises it.
     ghost faults: { Self → ℕ };
 
     /// Appends the bytes, all of them, or at an error a prefix of them. It takes no memory.
