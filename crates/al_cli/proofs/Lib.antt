@@ -1,0 +1,5 @@
+pub mod Turns
+pub mod Comings
+pub mod Runs
+pub mod Forms
+pub mod Outcomes
