@@ -1,6 +1,6 @@
 -- The abstraction theorem: a relation between actions in two worlds that the words of actions keep is kept by every program.
-use Rattle.std.proofs.Common.{◌≡◌, ℕ, zero, suc, ◌+◌, ◌-◌, List, [], ◌∷◌, ◌++◌, Option, Some, None, Result, Ok, Err, refl, sym, ap, subst, ◌∙◌}
-use Rattle.std.specs.Prelude.{ℤ, pos, ◌+ℤ◌, Bool, true, false, if◌then◌else◌, slice_get, slice_set, map, length, replicate, option_map}
+use Rattle.std.proofs.Common.{◌≡◌, ℕ, zero, suc, List, [], ◌∷◌, Option, Some, None, Result, Err, refl, sym, ap, subst}
+use Rattle.std.specs.Prelude.{ℤ, pos, ◌+ℤ◌, Bool, true, false, if◌then◌else◌, slice_get, slice_set, map, length, option_map}
 use Rattle.std.specs.Int.{int_max}
 use Rattle.al_core.specs.declared.values.Obj.TheVariants.{Global}
 use Rattle.al_core.specs.declared.values.Val.TheVariants.{Int, Ptr}
@@ -13,7 +13,7 @@ use Rattle.al_core.specs.declared.typed_tree.TExpr.{TExpr, map-TExpr, fold-roll-
 use Rattle.al_core.specs.declared.typed_tree.TExpr.TheViews.{roll-TExpr, roll-TPlace}
 use Rattle.al_core.specs.declared.typed_tree.TPlace.{TPlace, map-TPlace, fold-roll-TPlace}
 use Rattle.al_core.specs.declared.typed_tree.TExpr.TheOpen.{TExpr-F, TPlace-F}
-use Rattle.al_core.specs.declared.typed_tree.TStmt.{TStmt, map-TStmt, fold-TStmt, fold-roll-TStmt}
+use Rattle.al_core.specs.declared.typed_tree.TStmt.{TStmt, map-TStmt, fold-roll-TStmt}
 use Rattle.al_core.specs.declared.typed_tree.TKind.{TKind, map-TKind, fold-TKind, fold-roll-TKind}
 use Rattle.al_core.specs.declared.typed_tree.TKind.TheViews.{roll-TStmt, roll-TKind}
 use Rattle.al_core.specs.declared.typed_tree.TKind.TheOpen.{TStmt-F, TKind-F}
@@ -25,9 +25,9 @@ use Rattle.al_core.specs.declared.values.Kind.{Kind}
 use Rattle.al_core.specs.declared.values.Trap.{Trap}
 use Rattle.al_core.specs.World.{Pointer, World}
 use Rattle.al_core.specs.Values.{then_ok, truth, of_test, number, numbers, operate, operate_one, choose, compare, point, shift, element, input_at, words_of, text, trips}
-use Rattle.al_core.specs.Action.{Frame, State, Act, At, bind, pure, lift, asks, hands_on, spend, get_budget, get_frame, set_frame, or_zero, is_private, with_locals, ◌>>=◌, ◌>>◌, all, get_local, set_local, load, store, make, print, visit, enter, leave}
+use Rattle.al_core.specs.Action.{Frame, Act, At, pure, lift, asks, hands_on, spend, get_budget, get_frame, set_frame, or_zero, is_private, with_locals, ◌>>=◌, ◌>>◌, all, get_local, set_local, store, make, print, visit, enter, leave}
 use Rattle.al_core.specs.Loops.{bound_of}
-use Rattle.al_core.specs.Meaning.{Flow, Next, Broke, Continued, Returned, returned, Where, Outside, Inside, Part, PartAt, then_flow, sequence, at_each, all_do, if_any, turn_end, turns_to, turns, start_of, bound_value, trips_to, ordinary_trips, annotated, annotated_loop, expr_case, place_case, value, place, values, test_value, result_value, kind_does, kind_sets, kind_case, stmt_case, part, execute, execute_all, frame_of, body_of, call_to}
+use Rattle.al_core.specs.Meaning.{Flow, Next, Broke, Continued, Returned, returned, Where, Outside, Inside, Part, PartAt, then_flow, sequence, at_each, all_do, turn_end, turns_to, turns, bound_value, trips_to, annotated, annotated_loop, expr_case, place_case, value, place, values, test_value, result_value, kind_does, kind_sets, kind_case, stmt_case, part, execute, execute_all, frame_of, body_of, call_to}
 use Rattle.al_laws.proofs.Induction.{With, expr_induct, place_induct, stmt_induct}
 
 -- a relation between actions in two worlds, which their words keep

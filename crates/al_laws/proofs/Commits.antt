@@ -1,5 +1,5 @@
 -- The first chunk of a round commits, and each chunk is committed once.
-use Rattle.std.proofs.Common.{◌≡◌, ◌≢◌, ℕ, zero, suc, ◌+◌, ◌-◌, ◌≤◌, ◌<◌, List, [], ◌∷◌, ◌++◌, length, take, drop, Bool, true, false, cond, ◌&&◌, ◌||◌, refl, sym, ap, subst, ◌∙◌, arith, length-append, append_assoc}
+use Rattle.std.proofs.Common.{◌≡◌, ◌≢◌, ℕ, zero, suc, ◌+◌, ◌≤◌, ◌<◌, List, [], ◌∷◌, ◌++◌, length, take, drop, Bool, true, false, ◌&&◌, ◌||◌, refl, sym, ap, subst, ◌∙◌, arith, length-append, append_assoc}
 use Rattle.std.proofs.lemmas.Bool.{ne_eqb, eqb-true, eqb-false}
 use Rattle.std.proofs.Math.Bool.{true≢false}
 use Rattle.std.specs.Prelude.{if◌then◌else◌, ◌==◌, map, not}
@@ -21,7 +21,7 @@ use Rattle.al_core.specs.Memory.{Memory}
 use Rattle.al_core.specs.Iteration.{Execution}
 use Rattle.al_core.specs.Chunk.{Outcome, outcome, chunk_count}
 use Rattle.al_core.specs.Clash.{meets, clashes}
-use Rattle.al_core.specs.Round.{Judging, is_in_order, commit_or_trap, verdict_of, settled, judged_by, judged, judge_all, nothing_judged, round}
+use Rattle.al_core.specs.Round.{Judging, is_in_order, commit_or_trap, verdict_of, judged_by, judged, judge_all, nothing_judged, round}
 use Rattle.al_core.specs.Lockstep.{Rounds, is_committed, cons_if, not_committed, commits, with_round, next_round, still_pending, rounds_from, up_from, all_chunks, lockstep, commits_of}
 use Rattle.al_laws.specs.Rounds.{FirstCommits, times, RoundsAtMostChunks, CommittedAtMostOnce, AllCommitted}
 
@@ -261,7 +261,7 @@ times_done c (suc n) x choice lanes (d ∷ ds) s h l e =
     let next = times_next c x choice lanes (d ∷ ds) s in
     let shorter = pending_falls x choice lanes d ds s h in
     elim r.trapped as (λ b. r.trapped ≡ b → (if b then with_round r s else rounds_from n x choice lanes (still_pending lanes (d ∷ ds) r) (with_round r s)).ending ≡ ending.Done
-        → times c (commits_of (if b then with_round r s else rounds_from n x choice lanes (still_pending lanes (d ∷ ds) r) (with_round r s)).rounds) ≡ times c (commits_of s.rounds) + times c (d ∷ ds)) [
+    → times c (commits_of (if b then with_round r s else rounds_from n x choice lanes (still_pending lanes (d ∷ ds) r) (with_round r s)).rounds) ≡ times c (commits_of s.rounds) + times c (d ∷ ds)) [
       | true ↦ λ t e. absurd (coherent_round x choice (take lanes (d ∷ ds)) s.memory t e)
       | false ↦ λ t e. times_done c n x choice lanes (still_pending lanes (d ∷ ds) r) (with_round r s) h (omega (arith, shorter)) e ∙ next
     ] refl e
