@@ -5,3 +5,4 @@ pub mod Falls
 pub mod Agree
 pub mod Recording
 pub mod Commits
+pub mod Orders
