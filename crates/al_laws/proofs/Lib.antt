@@ -6,3 +6,6 @@ pub mod Agree
 pub mod Recording
 pub mod Commits
 pub mod Orders
+pub mod Keeps
+pub mod Words
+pub mod Stays
