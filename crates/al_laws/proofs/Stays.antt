@@ -1,6 +1,6 @@
 -- A chunk's private memory differs from the one it was copied from only where the record says so.
-use Rattle.std.proofs.Common.{◌≡◌, ℕ, zero, suc, ◌+◌, ◌<◌, ◌≤◌, List, [], ◌∷◌, length, Option, Some, None, Result, Ok, Err, Bool, true, false, cond, ◌||◌, refl, sym, ap, subst, ◌∙◌, arith}
-use Rattle.std.specs.Prelude.{ℤ, pos, if◌then◌else◌, nat_lt, is_some, option_map, slice_get, slice_set, replicate}
+use Rattle.std.proofs.Common.{◌≡◌, ◌≢◌, ℕ, zero, suc, ◌+◌, ◌<◌, ◌≤◌, List, [], ◌∷◌, length, Option, Some, None, Result, Ok, Err, Bool, true, false, cond, ◌||◌, refl, sym, ap, subst, ◌∙◌, arith}
+use Rattle.std.specs.Prelude.{ℤ, pos, if◌then◌else◌, nat_lt, is_some, option_map, slice_get, slice_set, slice_index, replicate}
 use Rattle.std.specs.FinMap as map
 use Rattle.std.specs.FinSet as set
 use Rattle.std.specs.FinSet.{FinSet}
@@ -13,9 +13,10 @@ use Rattle.al_core.specs.declared.values.Kind.{Kind}
 use Rattle.al_core.specs.declared.values.Trap.{Trap}
 use Rattle.al_core.specs.declared.values.Obj.{Obj}
 use Rattle.al_core.specs.declared.values.Obj.TheVariants.{Iter}
-use Rattle.al_core.specs.Orders.{obj_cmp, obj_eq, addr_cmp, addr_eq}
+use Rattle.al_core.specs.declared.values.Trap.TheVariants as trap
+use Rattle.al_core.specs.Orders.{obj_numbers, obj_cmp, obj_eq, addr_cmp, addr_eq}
 use Rattle.al_core.specs.Memory.{Memory, value_at, with_words, put}
-use Rattle.al_core.specs.Access.{Maker, Iteration, Log, Content, Names, with_memory, with_log, with_load, with_head, log_load, log_store, is_own, red_index, load_logged, store_logged, load_by, store_by, store_in, load, store, make, print, in_iteration}
+use Rattle.al_core.specs.Access.{Maker, Iteration, Log, Content, Names, with_memory, with_log, with_load, with_head, log_load, log_store, is_own, red_index, load_logged, store_logged, load_by, store_by, store_in, log_make, with_touched, with_object, word_limit, name_of, load, store, make, print, in_iteration}
 use Rattle.al_laws.proofs.Orders.{obj_total, addr_total, obj_equal, obj_itself, addr_equal, addr_itself}
 use Rattle.al_laws.proofs.Keeps.{KeepsOp, KeepsWorld}
 use Rattle.al_laws.proofs.Words.{some_none, get_set_other}
@@ -219,3 +220,98 @@ module _ (m : Memory) (e j last : ℕ) where
         subst (λ l. Holds (store_by l c a v).1) (sym h.is)
         (subst (λ reds. Holds (store_logged c h.log a v (red_index reds a)).1) (sym h.no_reds) (stored c h a v));
   }
+
+  -- ---- allocations
+
+  number_of : (i : ℕ) (x y : Obj) → x ≡ y → slice_index (obj_numbers x) i ≡ slice_index (obj_numbers y) i
+  number_of i x y s = ap (λ o. slice_index (obj_numbers o) i) s
+
+  iter_apart_next : (k n : ℕ) → n < k → Iter e j k ≢ Iter e j n
+  iter_apart_next k n l s = absurd (omega (arith, number_of 3 (Iter e j k) (Iter e j n) s))
+
+  iter_apart : (i k n : ℕ) → j < i → Iter e i k ≢ Iter e j n
+  iter_apart i k n l s = absurd (omega (arith, number_of 2 (Iter e i k) (Iter e j n) s))
+
+  obj_differs : (x y : Obj) → x ≢ y → obj_eq x y ≡ false
+  obj_differs x y n = elim (obj_eq x y) as (λ b. obj_eq x y ≡ b → b ≡ false) [ true ↦ λ t. absurd (n (obj_equal x y t)) | false ↦ λ t. refl ] refl
+
+  same_none : (t : FinSet addr_cmp) (o : Obj) (x : Option (List Val)) → SameBut t o x None → x ≡ None
+  same_none t o None s = refl
+  same_none t o (Some vs) s = absurd s
+
+  -- an object that is not there now was not there at the start
+  not_there : (c : Content) (h : Holds c) (o : Obj) → map.get c.memory.objects o ≡ None → map.get m.objects o ≡ None
+  not_there c h o none =
+      elim (set.contains h.log.made o) as (λ b. set.contains h.log.made o ≡ b → map.get m.objects o ≡ None) [
+        | true ↦ λ t. (h.made o t).0
+        | false ↦ λ t. same_none h.log.touched o (map.get m.objects o) (subst (λ x. SameBut h.log.touched o (map.get m.objects o) x) none (h.kept o t))
+      ] refl
+
+  get_added : (c : Content) (o : Obj) (ws : List Val) (q : Obj) → obj_eq q o ≡ false → map.get (map.insert c.memory.objects o ws) q ≡ map.get c.memory.objects q
+  get_added c o ws q n = map.get-insert obj_total c.memory.objects o ws q ∙ ap (λ b. cond b (Some ws) (map.get c.memory.objects q)) n
+
+  get_made : (c : Content) (o : Obj) (ws : List Val) → map.get (map.insert c.memory.objects o ws) o ≡ Some ws
+  get_made c o ws = map.get-insert obj_total c.memory.objects o ws o ∙ ap (λ b. cond b (Some ws) (map.get c.memory.objects o)) (obj_itself o)
+
+  made_of : (c : Content) (h : Holds c) (o : Obj) (ws : List Val) → map.get c.memory.objects o ≡ None → (q : Obj) (b : Bool) → obj_eq q o ≡ b → (b || set.contains h.log.made q) ≡ true
+      → (map.get m.objects q ≡ None) × (is_some (map.get (map.insert c.memory.objects o ws) q) ≡ true)
+  made_of c h o ws none q true t k =
+      let same = obj_equal q o t in
+      (ap (map.get m.objects) same ∙ not_there c h o none, ap is_some (ap (map.get (map.insert c.memory.objects o ws)) same ∙ get_made c o ws))
+  made_of c h o ws none q false t k = ((h.made q k).0, ap is_some (get_added c o ws q t) ∙ (h.made q k).1)
+
+  or_left : (b c : Bool) → (b || c) ≡ false → b ≡ false
+  or_left true c h = h
+  or_left false c h = refl
+
+  made_stays : (c : Content) (h : Holds c) (o : Obj) (words : ℕ) → o ≡ Iter e j c.names.next → Holds (with_object c o words)
+  made_stays c h o words name =
+      let ws = replicate words (Int (pos 0)) in
+      let none = ap (map.get c.memory.objects) name ∙ h.next c.names.next (omega arith) in
+      record {
+        log = with_touched (record h.log { made = set.insert h.log.made o }) (Head o);
+        is = ap (λ l. log_make l o) h.is;
+        no_reds = h.no_reds;
+        maker = h.maker;
+        made = λ q k. made_of c h o ws none q (obj_eq q o) refl (sym (set.contains-insert obj_total h.log.made o q) ∙ k);
+        kept = λ q n.
+            let both = sym (set.contains-insert obj_total h.log.made o q) ∙ n in
+            subst (λ x. SameBut (set.insert h.log.touched (Head o)) q (map.get m.objects q) x) (sym (get_added c o ws q (or_left (obj_eq q o) (set.contains h.log.made q) both)))
+            (weaker h.log.touched (set.insert h.log.touched (Head o)) q (map.get m.objects q) (map.get c.memory.objects q) (inserted_weaker h.log.touched (Head o)) (h.kept q (or_right (obj_eq q o) (set.contains h.log.made q) both)));
+        locals_length = h.locals_length;
+        locals = λ k n. h.locals k (inserted_weaker h.log.touched (Head o) (Local k) n);
+        next = λ k l. get_added c o ws (Iter e j k) (obj_differs (Iter e j k) o (λ s. iter_apart_next k c.names.next (omega arith) (s ∙ name))) ∙ h.next k (omega arith);
+        later = λ i k a b. get_added c o ws (Iter e i k) (obj_differs (Iter e i k) o (λ s. iter_apart i k c.names.next a (s ∙ name))) ∙ h.later i k a b;
+      }
+
+  abbrev limited : Content → Bool → ℕ → Result Obj Trap × Content
+  limited c b words = if b then (Err trap.Alloc, c) else (Ok (name_of c.names.maker c.names.next), with_object c (name_of c.names.maker c.names.next) words)
+
+  by_limit : (c : Content) (h : Holds c) (b : Bool) (words : ℕ)
+      → Holds (limited c b words).1
+  by_limit c h true words = h
+  by_limit c h false words = made_stays c h (name_of c.names.maker c.names.next) words (ap (λ k. name_of k c.names.next) h.maker)
+
+  make_stays : (words : ℕ) → KeepsOp Holds (make words)
+  unfolding make
+  make_stays words = record { by = λ c h. by_limit c h (nat_lt (word_limit c.names.maker) (c.names.words + words + 1)) words }
+
+  print_stays : (bytes : List ℕ) → KeepsOp Holds {A = Result (Unit {0}) Trap} (λ c. (Ok tt, print bytes c))
+  unfolding print
+  print_stays bytes = record {
+    by = λ c h. record {
+      log = h.log;
+      is = h.is;
+      no_reds = h.no_reds;
+      maker = h.maker;
+      made = h.made;
+      kept = h.kept;
+      locals_length = h.locals_length;
+      locals = h.locals;
+      next = h.next;
+      later = h.later;
+    };
+  }
+
+  pub stays : KeepsWorld Holds in_iteration
+  stays = record { load = load_stays; store = store_stays; make = make_stays; print = print_stays; visit = λ loop lo hi locals. record { by = λ c h. h } }
