@@ -9,3 +9,4 @@ pub mod Orders
 pub mod Keeps
 pub mod Words
 pub mod Stays
+pub mod Overlay
