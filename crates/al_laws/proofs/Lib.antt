@@ -10,3 +10,4 @@ pub mod Keeps
 pub mod Words
 pub mod Stays
 pub mod Overlay
+pub mod Laid

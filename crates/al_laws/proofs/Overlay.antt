@@ -47,12 +47,12 @@ module _ {K X : Type 0} (R : K → K → Ordering) (o : IsTotalOrder R) where
 
 -- ---- a value laid over another, where there is one
 
-abbrev over : Option Val → Option Val → Option Val
+abbrev pub over : Option Val → Option Val → Option Val
 over (Some v) (Some x) = Some v
 over (Some v) None = None
 over None x = x
 
-over_same : (x y : Option Val) → is_some x ≡ is_some y → over x y ≡ x
+pub over_same : (x y : Option Val) → is_some x ≡ is_some y → over x y ≡ x
 over_same (Some v) (Some x) e = refl
 over_same (Some v) None e = absurd (true≢false e)
 over_same None (Some x) e = absurd (true≢false (sym e))
@@ -89,7 +89,7 @@ put_elsewhere m o w v q i n =
 differs : (a b : Addr) → addr_eq a b ≡ false → a ≢ b
 differs a b f e = true≢false (sym (addr_itself a) ∙ ap (addr_eq a) e ∙ f)
 
-laid_words : (es : List (Addr × Val)) (m : Memory) (q : Obj) (i : ℕ) → T (is_sorted addr_cmp es) → word_in (fin.get (laid es m).objects q) i ≡ over (find addr_cmp (Word q i) es) (word_in (fin.get m.objects q) i)
+pub laid_words : (es : List (Addr × Val)) (m : Memory) (q : Obj) (i : ℕ) → T (is_sorted addr_cmp es) → word_in (fin.get (laid es m).objects q) i ≡ over (find addr_cmp (Word q i) es) (word_in (fin.get m.objects q) i)
 laid_words [] m q i s = refl
 laid_words ((Word o w, v) ∷ es) m q i s =
     laid_words es (put m (Word o w) v) q i (both_second (below_all addr_cmp (Word o w) es) (is_sorted addr_cmp es) s)
@@ -104,7 +104,7 @@ laid_words ((Word o w, v) ∷ es) m q i s =
 laid_words ((Head o, v) ∷ es) m q i s = laid_words es m q i (both_second (below_all addr_cmp (Head o) es) (is_sorted addr_cmp es) s)
 laid_words ((Local k, v) ∷ es) m q i s = laid_words es (put m (Local k) v) q i (both_second (below_all addr_cmp (Local k) es) (is_sorted addr_cmp es) s)
 
-laid_locals : (es : List (Addr × Val)) (m : Memory) (k : ℕ) → T (is_sorted addr_cmp es) → slice_get (laid es m).locals k ≡ over (find addr_cmp (Local k) es) (slice_get m.locals k)
+pub laid_locals : (es : List (Addr × Val)) (m : Memory) (k : ℕ) → T (is_sorted addr_cmp es) → slice_get (laid es m).locals k ≡ over (find addr_cmp (Local k) es) (slice_get m.locals k)
 laid_locals [] m k s = refl
 laid_locals ((Word o w, v) ∷ es) m k s = laid_locals es (put m (Word o w) v) k (both_second (below_all addr_cmp (Word o w) es) (is_sorted addr_cmp es) s)
 laid_locals ((Head o, v) ∷ es) m k s = laid_locals es m k (both_second (below_all addr_cmp (Head o) es) (is_sorted addr_cmp es) s)
@@ -119,7 +119,7 @@ laid_locals ((Local j, v) ∷ es) m k s =
     ] refl
 
 -- an object is there exactly where it was
-laid_there : (es : List (Addr × Val)) (m : Memory) (q : Obj) → is_some (fin.get (laid es m).objects q) ≡ is_some (fin.get m.objects q)
+pub laid_there : (es : List (Addr × Val)) (m : Memory) (q : Obj) → is_some (fin.get (laid es m).objects q) ≡ is_some (fin.get m.objects q)
 laid_there [] m q = refl
 laid_there ((Word o w, v) ∷ es) m q =
     laid_there es (put m (Word o w) v) q ∙ ap is_some (get_put m o w v q)
@@ -132,7 +132,7 @@ laid_there ((Local k, v) ∷ es) m q = laid_there es (put m (Local k) v) q
 
 -- ---- made objects
 
-added_objects : (es : List (Obj × List Val)) (m : Memory) (q : Obj) → T (is_sorted obj_cmp es) → fin.get (added es m).objects q ≡ elim (find obj_cmp q es) as (λ _. Option (List Val)) [ None ↦ fin.get m.objects q | Some ws ↦ Some ws ]
+pub added_objects : (es : List (Obj × List Val)) (m : Memory) (q : Obj) → T (is_sorted obj_cmp es) → fin.get (added es m).objects q ≡ elim (find obj_cmp q es) as (λ _. Option (List Val)) [ None ↦ fin.get m.objects q | Some ws ↦ Some ws ]
 added_objects [] m q s = refl
 added_objects (e ∷ es) m q s =
     added_objects es (add m e.0 e.1) q (both_second (below_all obj_cmp e.0 es) (is_sorted obj_cmp es) s)
@@ -145,7 +145,7 @@ added_objects (e ∷ es) m q s =
       | false ↦ λ t. ap (λ x. elim (find obj_cmp q es) as (λ _. Option (List Val)) [ None ↦ x | Some ws ↦ Some ws ]) (fin.get-insert obj_total m.objects e.0 e.1 q ∙ ap (λ b. cond b (Some e.1) (fin.get m.objects q)) t)
     ] refl
 
-added_locals : (es : List (Obj × List Val)) (m : Memory) → (added es m).locals ≡ m.locals
+pub added_locals : (es : List (Obj × List Val)) (m : Memory) → (added es m).locals ≡ m.locals
 added_locals [] m = refl
 added_locals (e ∷ es) m = added_locals es (add m e.0 e.1)
 
@@ -174,14 +174,14 @@ find_made m (o ∷ items) q =
       | false ↦ λ t. find_made m items q
     ] refl
 
-get_written : (m : Memory) (touched : FinSet addr_cmp) (a : Addr) → find addr_cmp a (fin.entries (written m touched)) ≡ (if set.contains touched a then value_at m a else None)
+pub get_written : (m : Memory) (touched : FinSet addr_cmp) (a : Addr) → find addr_cmp a (fin.entries (written m touched)) ≡ (if set.contains touched a then value_at m a else None)
 unfolding written
 get_written m touched a =
     sym (fin.get-entries (fin.from_entries (filter_map (λ b. with_value b (value_at m b)) (set.items touched))) a)
     ∙ fin.get-from_entries addr_total (filter_map (λ b. with_value b (value_at m b)) (set.items touched)) a
     ∙ find_written m (set.items touched) a ∙ ap (λ b. if b then value_at m a else None) (sym (set.contains-items touched a))
 
-get_made_objects : (m : Memory) (made : FinSet obj_cmp) (q : Obj) → find obj_cmp q (fin.entries (made_objects m made)) ≡ (if set.contains made q then Some (words_or_none (fin.get m.objects q)) else None)
+pub get_made_objects : (m : Memory) (made : FinSet obj_cmp) (q : Obj) → find obj_cmp q (fin.entries (made_objects m made)) ≡ (if set.contains made q then Some (words_or_none (fin.get m.objects q)) else None)
 unfolding made_objects
 get_made_objects m made q =
     sym (fin.get-entries (fin.from_entries (map (λ o. (o, words_or_none (fin.get m.objects o))) (set.items made))) q)

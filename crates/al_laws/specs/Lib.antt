@@ -2,3 +2,4 @@ pub mod Joining
 pub mod Budgets
 pub mod Recording
 pub mod Rounds
+pub mod DirectRuns
