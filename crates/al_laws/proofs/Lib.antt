@@ -11,3 +11,4 @@ pub mod Words
 pub mod Stays
 pub mod Overlay
 pub mod Laid
+pub mod DirectRuns

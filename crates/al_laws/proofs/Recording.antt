@@ -84,11 +84,11 @@ make_quiet c words false h = record { answer = refl; content = refl; logged = ma
 
 -- ---- the worlds agree
 
-record Recorded (c d : Content) : Type 0 where
+pub record Recorded (c d : Content) : Type 0 where
   pub same : without_log c ≡ d
   pub logged : HasNoReds c.log
 
-abbrev Good : Content → Type 0
+abbrev pub Good : Content → Type 0
 Good c = Unit {0}
 
 matches : {A : Type 0} (f : Content → A × Content) → ((c : Content) → HasNoReds c.log → Quiet (f c) (f (without_log c))) → Matches Recorded Good f f
@@ -115,7 +115,7 @@ print_kept : (bytes : List ℕ) → Matches Recorded Good {A = Result (Unit {0})
 unfolding print
 print_kept bytes = matches (λ c. (Ok tt, print bytes c)) (λ c h. record { answer = refl; content = refl; logged = h })
 
-recorded_kept : Kept Recorded Good in_iteration in_iteration
+pub recorded_kept : Kept Recorded Good in_iteration in_iteration
 recorded_kept = record {
   load = load_kept;
   store = store_kept;

@@ -2,6 +2,7 @@
 #![tactic(auto)]
 
 pub mod budgets;
+pub mod chunks;
 pub mod records;
 pub mod reductions;
 pub mod rounds;
