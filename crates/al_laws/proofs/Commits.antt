@@ -67,7 +67,7 @@ judged_verdicts : (choice : Choice) (c : ℕ) (s : Judging) (o : Outcome) → (j
 unfolding judged
 judged_verdicts choice c s o = settled_verdicts choice c (verdict_of choice s o) s o
 
-abbrev more_verdicts : Execution → Choice → Memory → List ℕ → Judging → List Judged
+abbrev pub more_verdicts : Execution → Choice → Memory → List ℕ → Judging → List Judged
 more_verdicts x choice m [] s = []
 more_verdicts x choice m (c ∷ cs) s =
     record { chunk = c; verdict = verdict_of choice s (outcome x choice.reds m c) } ∷ more_verdicts x choice m cs (judged choice s c (outcome x choice.reds m c))
@@ -82,7 +82,7 @@ all_verdicts x choice m (c ∷ cs) s =
     let o = outcome x choice.reds m c in
     all_verdicts x choice m cs (judged choice s c o) ∙ ap (λ l. l ++ more_verdicts x choice m cs (judged choice s c o)) (judged_verdicts choice c s o) ∙ append_assoc s.verdicts _ _
 
-round_verdicts : (x : Execution) (choice : Choice) (cs : List ℕ) (m : Memory) → (round x choice cs m).verdicts ≡ more_verdicts x choice m cs (nothing_judged m)
+pub round_verdicts : (x : Execution) (choice : Choice) (cs : List ℕ) (m : Memory) → (round x choice cs m).verdicts ≡ more_verdicts x choice m cs (nothing_judged m)
 unfolding round
 round_verdicts x choice cs m = all_verdicts x choice m cs (nothing_judged m)
 
@@ -105,7 +105,7 @@ rounds_bound (suc n) x choice lanes (c ∷ cs) s =
       | false ↦ omega (arith, one, rounds_bound n x choice lanes (still_pending lanes (c ∷ cs) r) (with_round r s))
     ]
 
-abbrev no_rounds : Memory → Rounds
+abbrev pub no_rounds : Memory → Rounds
 no_rounds m = record { memory = m; printed = []; ending = ending.Done; rounds = []; span = 0 }
 
 pub rounds_at_most_chunks : RoundsAtMostChunks
@@ -224,14 +224,14 @@ coherent_round : (x : Execution) (choice : Choice) (cs : List ℕ) (m : Memory) 
 unfolding round
 coherent_round x choice cs m = coherent_all x choice m cs (nothing_judged m) (λ e. absurd (true≢false (sym e)))
 
-fewer : (js : List Judged) → length (not_committed js) ≤ length js
+pub fewer : (js : List Judged) → length (not_committed js) ≤ length js
 fewer [] = omega arith
 fewer (j ∷ js) = elim (is_committed j.verdict) as (λ b. length (cons_if (not b) j.chunk (not_committed js)) ≤ suc (length js)) [ true ↦ omega (arith, fewer js) | false ↦ omega (arith, fewer js) ]
 
 fewer_after_first : (j : Judged) (js : List Judged) → is_committed j.verdict ≡ true → length (not_committed (j ∷ js)) ≤ length js
 fewer_after_first j js e = subst (λ b. length (cons_if (not b) j.chunk (not_committed js)) ≤ length js) (sym e) (fewer js)
 
-verdict_count : (x : Execution) (choice : Choice) (m : Memory) (cs : List ℕ) (s : Judging) → length (more_verdicts x choice m cs s) ≡ length cs
+pub verdict_count : (x : Execution) (choice : Choice) (m : Memory) (cs : List ℕ) (s : Judging) → length (more_verdicts x choice m cs s) ≡ length cs
 verdict_count x choice m [] s = refl
 verdict_count x choice m (c ∷ cs) s = ap suc (verdict_count x choice m cs _)
 

@@ -12,3 +12,5 @@ pub mod Stays
 pub mod Overlay
 pub mod Laid
 pub mod DirectRuns
+pub mod Executions
+pub mod Counts

@@ -3,3 +3,4 @@ pub mod Budgets
 pub mod Recording
 pub mod Rounds
 pub mod DirectRuns
+pub mod Bounds
