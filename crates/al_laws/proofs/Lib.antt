@@ -14,3 +14,4 @@ pub mod Laid
 pub mod DirectRuns
 pub mod Executions
 pub mod Counts
+pub mod Fits
