@@ -1,5 +1,5 @@
 -- The ranges of a run's numbers.
-use Rattle.std.specs.Prelude.{ℕ, ◌≤◌}
+use Rattle.std.specs.Prelude.{◌≤◌}
 use Rattle.al_core.specs.declared.choices.Knobs.{Knobs}
 
 pub record AreInRange (k : Knobs) : Type 0 where

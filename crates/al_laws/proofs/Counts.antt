@@ -1,6 +1,6 @@
 -- How large the counts of a run become.
-use Rattle.std.proofs.Common.{◌≡◌, ℕ, zero, suc, ◌+◌, ◌-◌, ◌*◌, ◌/◌, ◌%◌, ◌<◌, ◌≤◌, ◌^◌, List, [], ◌∷◌, ◌++◌, length, take, drop, Option, Some, None, Result, Ok, Err, Bool, true, false, refl, sym, ap, subst, ◌∙◌, arith, length-append}
-use Rattle.std.specs.Prelude.{ℤ, if◌then◌else◌, slice_get, nat_lt, max, min}
+use Rattle.std.proofs.Common.{◌≡◌, ℕ, zero, suc, ◌+◌, ◌*◌, ◌/◌, ◌≤◌, List, [], ◌∷◌, ◌++◌, length, take, Option, Some, None, true, false, refl, sym, ap, subst, arith}
+use Rattle.std.specs.Prelude.{if◌then◌else◌, max}
 use Rattle.std.proofs.Math.Nat.{suc-mul, le-mul_of_pos_right}
 use Rattle.std.proofs.lemmas.Nat.{mul-le, div-add-mod'}
 use Rattle.al_core.specs.declared.choices.Choice.{Choice}
@@ -11,13 +11,13 @@ use Rattle.al_core.specs.declared.reports.Verdict.TheVariants as verdict
 use Rattle.al_core.specs.declared.reports.Judged.{Judged}
 use Rattle.al_core.specs.Memory.{Memory}
 use Rattle.al_core.specs.Access.{Log, Content}
-use Rattle.al_core.specs.Iteration.{Execution, Ran, ran, iteration, then_runs, iterations}
-use Rattle.al_core.specs.Chunk.{Outcome, chunk_count, chunk_start, chunk_end, chunk_trips, chunk_runs, chunk_from, outcome_of, outcome}
+use Rattle.al_core.specs.Iteration.{Execution, Ran, iteration, then_runs, iterations}
+use Rattle.al_core.specs.Chunk.{Outcome, chunk_count, chunk_start, chunk_trips, chunk_runs, chunk_from, outcome_of, outcome}
 use Rattle.al_core.specs.Round.{Judging, verdict_of, judged_by, judged, judge_all, nothing_judged, round}
-use Rattle.al_core.specs.Lockstep.{Rounds, not_committed, with_round, next_round, still_pending, rounds_from, all_chunks, lockstep}
+use Rattle.al_core.specs.Lockstep.{Rounds, with_round, next_round, still_pending, rounds_from, all_chunks, lockstep}
 use Rattle.al_core.specs.Serial.{direct, plain_loop}
 use Rattle.al_core.specs.Run.{attempts_of, aborted_of}
-use Rattle.al_laws.proofs.Commits.{more_verdicts, round_verdicts, verdict_count, fewer, no_rounds, rounds_at_most_chunks}
+use Rattle.al_laws.proofs.Commits.{round_verdicts, verdict_count, fewer, no_rounds, rounds_at_most_chunks}
 
 -- ---- steps
 

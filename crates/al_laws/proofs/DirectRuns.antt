@@ -1,9 +1,9 @@
 -- A chunk without reductions is the direct run of its iterations.
-use Rattle.std.proofs.Common.{◌≡◌, ℕ, zero, suc, ◌+◌, ◌-◌, ◌<◌, ◌≤◌, List, [], ◌∷◌, length, Option, Some, None, Result, Ok, Err, Bool, true, false, refl, sym, ap, subst, ◌∙◌, arith}
+use Rattle.std.proofs.Common.{◌≡◌, ℕ, zero, suc, ◌+◌, ◌-◌, ◌<◌, ◌≤◌, List, [], length, Option, Some, None, true, false, refl, sym, ap, subst, ◌∙◌, arith}
 use Rattle.std.specs.Prelude.{is_some, slice_get}
 use Rattle.std.specs.FinMap as fin
 use Rattle.std.specs.FinSet as set
-use Rattle.std.specs.FinSet.{FinSet, contains-empty}
+use Rattle.std.specs.FinSet.{contains-empty}
 use Rattle.std.proofs.Math.Bool.{true≢false}
 use Rattle.al_core.specs.declared.reports.Ending.{Ending}
 use Rattle.al_core.specs.declared.reports.Ending.TheVariants as ending
@@ -11,17 +11,16 @@ use Rattle.al_core.specs.declared.values.Addr.TheVariants.{Local}
 use Rattle.al_core.specs.declared.values.Val.{Val}
 use Rattle.al_core.specs.declared.values.Obj.{Obj}
 use Rattle.al_core.specs.declared.values.Obj.TheVariants.{Iter}
-use Rattle.al_core.specs.Orders.{obj_cmp, addr_cmp}
-use Rattle.al_core.specs.Action.{State}
+use Rattle.al_core.specs.Orders.{obj_cmp}
 use Rattle.al_core.specs.Memory.{Memory}
-use Rattle.al_core.specs.Access.{Iteration, Names, Log, Content, in_iteration}
-use Rattle.al_core.specs.Iteration.{Execution, Ran, ending_of, ran, iteration, iteration_does, iteration_from, then_runs, add_steps, iterations}
-use Rattle.al_core.specs.Chunk.{Outcome, IsReady, chunk_start, chunk_end, chunk_trips, chunk_runs, chunk_from, fresh_log, outcome_of, outcome}
+use Rattle.al_core.specs.Access.{Names, Log, Content, in_iteration}
+use Rattle.al_core.specs.Iteration.{Execution, Ran, ending_of, iteration, iteration_from, then_runs, add_steps, iterations}
+use Rattle.al_core.specs.Chunk.{IsReady, chunk_start, chunk_end, chunk_trips, chunk_runs, chunk_from, fresh_log, outcome_of, outcome}
 use Rattle.al_core.specs.Applied.{applied}
 use Rattle.al_core.specs.Serial.{direct}
 use Rattle.al_laws.specs.Recording.{without_log, HasNoReds}
 use Rattle.al_laws.specs.DirectRuns.{IsDirectRun, ChunkIsDirectRun}
-use Rattle.al_laws.proofs.Agree.{Agree, Same, agree_closed}
+use Rattle.al_laws.proofs.Agree.{Agree, agree_closed}
 use Rattle.al_laws.proofs.Recording.{Recorded, Good, recorded_kept}
 use Rattle.al_laws.proofs.Keeps.{Keeps, keeps_closed, of_iteration}
 use Rattle.al_laws.proofs.Stays.{SameBut, Stays, stays}

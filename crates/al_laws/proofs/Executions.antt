@@ -2,13 +2,9 @@
 use Rattle.std.proofs.Common.{◌≡◌, ℕ, zero, suc, ◌+◌, ◌≤◌, List, [], Option, Some, None, Result, Ok, Err, refl, arith}
 use Rattle.std.specs.Prelude.{ℤ, slice_get}
 use Rattle.al_core.specs.declared.values.Val.{Val}
-use Rattle.al_core.specs.declared.values.Addr.{Addr}
-use Rattle.al_core.specs.declared.values.Kind.{Kind}
 use Rattle.al_core.specs.declared.values.Trap.{Trap}
-use Rattle.al_core.specs.declared.values.Obj.{Obj}
-use Rattle.al_core.specs.World.{World}
 use Rattle.al_core.specs.Values.{trips}
-use Rattle.al_core.specs.Action.{Frame, State, Answer, Act, after, bind, ◌>>=◌, ◌>>◌, pure, lift, asks, hands_on, spend, spend_from, get_budget, get_frame, set_frame, with_locals, print, visit}
+use Rattle.al_core.specs.Action.{Frame, State, Answer, Act, after, bind, ◌>>=◌, ◌>>◌, pure, lift, asks, hands_on, spend, spend_from, get_budget, get_frame, set_frame, with_locals, visit}
 use Rattle.al_core.specs.Meaning.{Outside, Flow, Next}
 use Rattle.al_core.specs.Loops.{Loop, loop_at}
 use Rattle.al_core.specs.Run.{Setting, Whole, outside, if_trips, visit_loop, line_of, whole_run, start}

@@ -1,5 +1,5 @@
 -- The counts of a run fit their types.
-use Rattle.std.proofs.Common.{◌≡◌, ℕ, zero, suc, ◌+◌, ◌*◌, ◌<◌, ◌≤◌, List, [], length, Option, Some, None, Result, Ok, Err, Bool, true, false, refl, arith}
+use Rattle.std.proofs.Common.{◌≡◌, ℕ, ◌+◌, ◌*◌, ◌≤◌, List, [], Option, Some, None, Result, Ok, Err, Bool, true, false, refl, arith}
 use Rattle.std.specs.Prelude.{ℤ, if◌then◌else◌, slice_get, nat_lt}
 use Rattle.std.proofs.lemmas.Nat.{mul-le}
 use Rattle.std.proofs.lemmas.Bool.{ltb-false}
@@ -14,14 +14,12 @@ use Rattle.al_core.specs.Memory.{Memory}
 use Rattle.al_core.specs.Loops.{Loop, loop_at}
 use Rattle.al_core.specs.Meaning.{Outside}
 use Rattle.al_core.specs.Iteration.{Execution}
-use Rattle.al_core.specs.Lockstep.{lockstep}
-use Rattle.al_core.specs.Serial.{plain_loop}
-use Rattle.al_core.specs.Run.{Way, Plainly, InRounds, InChunks, Setting, Counts, Whole, attempts_of, aborted_of, by_way, come_back, execution, at_loop, run_loop, if_trips, visit_loop, outside, line_of, start, whole_run}
+use Rattle.al_core.specs.Run.{Way, Plainly, InRounds, InChunks, Setting, Counts, Whole, by_way, execution, at_loop, if_trips, visit_loop, outside, line_of, start, whole_run}
 use Rattle.al_core.specs.Report.{way_of, by_choices, report}
 use Rattle.al_core.specs.Limits.{AreInRange}
 use Rattle.al_laws.specs.Bounds.{Fit, CountsFit}
 use Rattle.al_laws.proofs.Abstraction.{of_call}
-use Rattle.al_laws.proofs.Keeps.{Keeps, KeepsOp, KeepsWorld, keeps_closed}
+use Rattle.al_laws.proofs.Keeps.{Keeps, KeepsWorld, keeps_closed}
 use Rattle.al_laws.proofs.Executions.{executions_bound}
 use Rattle.al_laws.proofs.Counts.{lockstep_rounds, lockstep_attempts, lockstep_aborted, lockstep_span, plain_steps}
 

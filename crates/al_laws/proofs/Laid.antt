@@ -1,14 +1,13 @@
 -- The whole memory that an outcome gives.
-use Rattle.std.proofs.Common.{◌≡◌, ℕ, zero, suc, List, [], ◌∷◌, length, Option, Some, None, Bool, true, false, refl, sym, ap, subst, ◌∙◌, arith}
+use Rattle.std.proofs.Common.{◌≡◌, ℕ, zero, suc, List, [], ◌∷◌, length, Option, Some, None, Bool, true, false, refl, sym, ap, ◌∙◌, arith}
 use Rattle.std.specs.Prelude.{if◌then◌else◌, is_some, slice_get}
 use Rattle.std.specs.FinMap as fin
-use Rattle.std.specs.FinMap.Entries.{find}
 use Rattle.std.specs.FinSet as set
 use Rattle.std.specs.FinSet.{FinSet}
 use Rattle.std.proofs.Math.Bool.{true≢false}
 use Rattle.al_core.specs.declared.values.Val.{Val}
 use Rattle.al_core.specs.declared.values.Addr.{Addr}
-use Rattle.al_core.specs.declared.values.Addr.TheVariants.{Word, Head, Local}
+use Rattle.al_core.specs.declared.values.Addr.TheVariants.{Word, Local}
 use Rattle.al_core.specs.declared.values.Obj.{Obj}
 use Rattle.al_core.specs.Orders.{obj_cmp, addr_cmp}
 use Rattle.al_core.specs.Memory.{Memory, words_or_none, word_in, value_at}
@@ -64,9 +63,9 @@ module _ (m n : Memory) (touched : FinSet addr_cmp) (made : FinSet obj_cmp) wher
   laid_object q (Some vs) (Some ws) ex ey s =
       let l = some_of (fin.get words_laid.objects q) (laid_there (fin.entries (written n touched)) m q ∙ ap is_some ex) in
       l.1 ∙ ap (λ l. Some l) (same_list l.0 ws (λ i.
-          ap (λ x. word_in x i) (sym l.1) ∙ word_laid q i ∙ ap (λ x. laid_value (Word q i) (word_in x i)) ex
-          ∙ ap (λ x. over (if set.contains touched (Word q i) then word_in x i else None) (slice_get vs i)) ey
-          ∙ by_touch (set.contains touched (Word q i)) (slice_get ws i) (slice_get vs i) (same_shape ws vs s.0 i) (s.1 i)))
+      ap (λ x. word_in x i) (sym l.1) ∙ word_laid q i ∙ ap (λ x. laid_value (Word q i) (word_in x i)) ex
+      ∙ ap (λ x. over (if set.contains touched (Word q i) then word_in x i else None) (slice_get vs i)) ey
+      ∙ by_touch (set.contains touched (Word q i)) (slice_get ws i) (slice_get vs i) (same_shape ws vs s.0 i) (s.1 i)))
 
   whole_object : ((o : Obj) → set.contains made o ≡ true → is_some (fin.get n.objects o) ≡ true) → ((o : Obj) → set.contains made o ≡ false → SameBut touched o (fin.get m.objects o) (fin.get n.objects o))
       → (q : Obj) → fin.get (added (fin.entries (made_objects n made)) words_laid).objects q ≡ fin.get n.objects q
@@ -84,5 +83,5 @@ module _ (m n : Memory) (touched : FinSet addr_cmp) (made : FinSet obj_cmp) wher
   whole_memory there kept len locals =
       let objects_same = fin.same_map obj_total obj_apart (added (fin.entries (made_objects n made)) words_laid).objects n.objects (whole_object there kept) in
       let locals_same = added_locals (fin.entries (made_objects n made)) words_laid
-          ∙ same_list words_laid.locals n.locals (λ k. local_laid k ∙ by_touch (set.contains touched (Local k)) (slice_get n.locals k) (slice_get m.locals k) (same_shape n.locals m.locals len k) (locals k)) in
+      ∙ same_list words_laid.locals n.locals (λ k. local_laid k ∙ by_touch (set.contains touched (Local k)) (slice_get n.locals k) (slice_get m.locals k) (same_shape n.locals m.locals len k) (locals k)) in
       λ t. record { objects = objects_same t; locals = locals_same t }

@@ -1,13 +1,12 @@
 -- An outcome laid over the memory that the chunk ran on gives the chunk's private memory.
-use Rattle.std.proofs.Common.{◌≡◌, ◌≢◌, ℕ, zero, suc, ◌<◌, List, [], ◌∷◌, ◌++◌, length, Option, Some, None, Bool, true, false, cond, ◌||◌, ◌&&◌, T, refl, sym, ap, subst, ◌∙◌, arith}
-use Rattle.std.specs.Prelude.{ℤ, if◌then◌else◌, is_some, option_map, slice_get, slice_set, map, filter_map}
+use Rattle.std.proofs.Common.{◌≡◌, ◌≢◌, ℕ, zero, suc, List, [], ◌∷◌, Option, Some, None, Bool, true, false, cond, ◌||◌, ◌&&◌, T, refl, sym, ap, ◌∙◌}
+use Rattle.std.specs.Prelude.{if◌then◌else◌, is_some, option_map, slice_get, slice_set, map, filter_map}
 use Rattle.std.specs.List.{list_any, cons_option}
 use Rattle.std.specs.declared.cmp.Ordering.{Ordering}
 use Rattle.std.specs.declared.cmp.Ordering.TheVariants.{Less, Equal, Greater}
 use Rattle.std.specs.Ordering.{is_eq, is_lt, eq_by_cmp}
 use Rattle.std.specs.Cmp.{IsTotalOrder, Equal-is}
 use Rattle.std.specs.FinMap as fin
-use Rattle.std.specs.FinMap.{FinMap}
 use Rattle.std.specs.FinMap.Entries.{find, is_sorted, below_all}
 use Rattle.std.specs.FinSet as set
 use Rattle.std.specs.FinSet.{FinSet}
@@ -18,12 +17,11 @@ use Rattle.al_core.specs.declared.values.Addr.TheVariants.{Word, Head, Local}
 use Rattle.al_core.specs.declared.values.Obj.{Obj}
 use Rattle.al_core.specs.Orders.{obj_cmp, obj_eq, addr_cmp, addr_eq}
 use Rattle.al_core.specs.Memory.{Memory, words_or_none, word_in, value_at, put, add}
-use Rattle.al_core.specs.Access.{Log, Content}
-use Rattle.al_core.specs.Chunk.{Outcome, with_value, written, made_objects}
-use Rattle.al_core.specs.Applied.{laid, added, reduced, applied}
-use Rattle.al_laws.proofs.Orders.{obj_total, addr_total, obj_apart, obj_equal, obj_itself, addr_equal, addr_itself}
-use Rattle.al_laws.proofs.Words.{some_none, same_some, same_list, get_set_other}
-use Rattle.al_laws.proofs.Stays.{get_put, SameBut}
+use Rattle.al_core.specs.Chunk.{with_value, written, made_objects}
+use Rattle.al_core.specs.Applied.{laid, added}
+use Rattle.al_laws.proofs.Orders.{obj_total, addr_total, obj_equal, obj_itself, addr_equal, addr_itself}
+use Rattle.al_laws.proofs.Words.{get_set_other}
+use Rattle.al_laws.proofs.Stays.{get_put}
 
 -- ---- sorted lists have each key once
 
@@ -94,7 +92,7 @@ laid_words [] m q i s = refl
 laid_words ((Word o w, v) ∷ es) m q i s =
     laid_words es (put m (Word o w) v) q i (both_second (below_all addr_cmp (Word o w) es) (is_sorted addr_cmp es) s)
     ∙ elim (addr_eq (Word q i) (Word o w)) as (λ b. addr_eq (Word q i) (Word o w) ≡ b
-        → over (find addr_cmp (Word q i) es) (word_in (fin.get (put m (Word o w) v).objects q) i) ≡ over (cond b (Some v) (find addr_cmp (Word q i) es)) (word_in (fin.get m.objects q) i)) [
+    → over (find addr_cmp (Word q i) es) (word_in (fin.get (put m (Word o w) v).objects q) i) ≡ over (cond b (Some v) (find addr_cmp (Word q i) es)) (word_in (fin.get m.objects q) i)) [
       | true ↦ λ t.
           let none = not_found addr_cmp addr_total (Word q i) (Word o w) es ((Equal-is (addr_cmp (Word q i) (Word o w))).0 t) (both_first (below_all addr_cmp (Word o w) es) (is_sorted addr_cmp es) s) in
           ap (λ x. over x (word_in (fin.get (put m (Word o w) v).objects q) i)) none
@@ -111,7 +109,7 @@ laid_locals ((Head o, v) ∷ es) m k s = laid_locals es m k (both_second (below_
 laid_locals ((Local j, v) ∷ es) m k s =
     laid_locals es (put m (Local j) v) k (both_second (below_all addr_cmp (Local j) es) (is_sorted addr_cmp es) s)
     ∙ elim (addr_eq (Local k) (Local j)) as (λ b. addr_eq (Local k) (Local j) ≡ b
-        → over (find addr_cmp (Local k) es) (slice_get (slice_set m.locals j v) k) ≡ over (cond b (Some v) (find addr_cmp (Local k) es)) (slice_get m.locals k)) [
+    → over (find addr_cmp (Local k) es) (slice_get (slice_set m.locals j v) k) ≡ over (cond b (Some v) (find addr_cmp (Local k) es)) (slice_get m.locals k)) [
       | true ↦ λ t.
           let none = not_found addr_cmp addr_total (Local k) (Local j) es ((Equal-is (addr_cmp (Local k) (Local j))).0 t) (both_first (below_all addr_cmp (Local j) es) (is_sorted addr_cmp es) s) in
           ap (λ x. over x (slice_get (slice_set m.locals j v) k)) none ∙ ap (λ a. slice_get (put m a v).locals k) (sym (addr_equal (Local k) (Local j) t)) ∙ set_over m.locals k v
@@ -137,7 +135,7 @@ added_objects [] m q s = refl
 added_objects (e ∷ es) m q s =
     added_objects es (add m e.0 e.1) q (both_second (below_all obj_cmp e.0 es) (is_sorted obj_cmp es) s)
     ∙ elim (obj_eq q e.0) as (λ b. obj_eq q e.0 ≡ b
-        → elim (find obj_cmp q es) as (λ _. Option (List Val)) [ None ↦ fin.get (add m e.0 e.1).objects q | Some ws ↦ Some ws ] ≡ elim (cond b (Some e.1) (find obj_cmp q es)) as (λ _. Option (List Val)) [ None ↦ fin.get m.objects q | Some ws ↦ Some ws ]) [
+    → elim (find obj_cmp q es) as (λ _. Option (List Val)) [ None ↦ fin.get (add m e.0 e.1).objects q | Some ws ↦ Some ws ] ≡ elim (cond b (Some e.1) (find obj_cmp q es)) as (λ _. Option (List Val)) [ None ↦ fin.get m.objects q | Some ws ↦ Some ws ]) [
       | true ↦ λ t.
           let none = not_found obj_cmp obj_total q e.0 es ((Equal-is (obj_cmp q e.0)).0 t) (both_first (below_all obj_cmp e.0 es) (is_sorted obj_cmp es) s) in
           ap (λ x. elim x as (λ _. Option (List Val)) [ None ↦ fin.get (add m e.0 e.1).objects q | Some ws ↦ Some ws ]) none

@@ -1,6 +1,6 @@
 -- A chunk's private memory differs from the one it was copied from only where the record says so.
-use Rattle.std.proofs.Common.{◌≡◌, ◌≢◌, ℕ, zero, suc, ◌+◌, ◌<◌, ◌≤◌, List, [], ◌∷◌, length, Option, Some, None, Result, Ok, Err, Bool, true, false, cond, ◌||◌, refl, sym, ap, subst, ◌∙◌, arith}
-use Rattle.std.specs.Prelude.{ℤ, pos, if◌then◌else◌, nat_lt, is_some, option_map, slice_get, slice_set, slice_index, replicate}
+use Rattle.std.proofs.Common.{◌≡◌, ◌≢◌, ℕ, ◌+◌, ◌<◌, ◌≤◌, List, [], length, Option, Some, None, Result, Ok, Err, Bool, true, false, cond, ◌||◌, refl, sym, ap, subst, ◌∙◌, arith}
+use Rattle.std.specs.Prelude.{pos, if◌then◌else◌, nat_lt, is_some, option_map, slice_get, slice_set, slice_index, replicate}
 use Rattle.std.specs.FinMap as map
 use Rattle.std.specs.FinSet as set
 use Rattle.std.specs.FinSet.{FinSet}
@@ -16,10 +16,10 @@ use Rattle.al_core.specs.declared.values.Obj.TheVariants.{Iter}
 use Rattle.al_core.specs.declared.values.Trap.TheVariants as trap
 use Rattle.al_core.specs.Orders.{obj_numbers, obj_cmp, obj_eq, addr_cmp, addr_eq}
 use Rattle.al_core.specs.Memory.{Memory, value_at, with_words, put}
-use Rattle.al_core.specs.Access.{Maker, Iteration, Log, Content, Names, with_memory, with_log, with_load, with_head, log_load, log_store, is_own, red_index, load_logged, store_logged, load_by, store_by, store_in, log_make, with_touched, with_object, word_limit, name_of, load, store, make, print, in_iteration}
-use Rattle.al_laws.proofs.Orders.{obj_total, addr_total, obj_equal, obj_itself, addr_equal, addr_itself}
+use Rattle.al_core.specs.Access.{Iteration, Log, Content, with_log, with_head, log_load, log_store, is_own, red_index, load_logged, store_logged, load_by, store_by, store_in, log_make, with_touched, with_object, word_limit, name_of, load, store, make, print, in_iteration}
+use Rattle.al_laws.proofs.Orders.{obj_total, addr_total, obj_equal, obj_itself, addr_itself}
 use Rattle.al_laws.proofs.Keeps.{KeepsOp, KeepsWorld}
-use Rattle.al_laws.proofs.Words.{some_none, get_set_other}
+use Rattle.al_laws.proofs.Words.{get_set_other}
 use Rattle.std.proofs.lemmas.List.{length-set}
 
 -- ---- a memory after a word was put

@@ -1,5 +1,5 @@
 -- The counts of a run fit their types, where its numbers are in range.
-use Rattle.std.specs.Prelude.{ℕ, ◌<◌, ◌^◌, List, Option, ℤ}
+use Rattle.std.specs.Prelude.{◌<◌, ◌^◌, List, Option, ℤ}
 use Rattle.al_core.specs.declared.choices.Choice.{Choice}
 use Rattle.al_core.specs.declared.choices.Knobs.{Knobs}
 use Rattle.al_core.specs.declared.reports.Report.{Report}

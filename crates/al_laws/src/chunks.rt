@@ -4,5 +4,4 @@ ghost use Rattle.al_laws.specs.DirectRuns.{ChunkIsDirectRun};
 /// the same memory once it is applied, the same bytes, ending and steps, traps included.
 pub fn chunk_is_direct_run()
     ensures { ChunkIsDirectRun }
-{
-}
+{}
