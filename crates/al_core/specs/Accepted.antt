@@ -8,12 +8,11 @@ use Rattle.al_source.specs.declared.operators.RedOp.TheVariants as red
 use Rattle.al_core.specs.declared.choices.Bound.{Bound}
 use Rattle.al_core.specs.declared.choices.Bound.TheVariants as bound
 use Rattle.al_core.specs.declared.choices.Red.{Red}
-use Rattle.al_core.specs.declared.choices.LoopInfo.{LoopInfo}
 use Rattle.al_core.specs.declared.typed_tree.TExpr.{TExpr, fold-TExpr, out-TExpr}
 use Rattle.al_core.specs.declared.typed_tree.TPlace.{TPlace, fold-TPlace, out-TPlace}
 use Rattle.al_core.specs.declared.typed_tree.TExpr.TheOpen.{TExpr-F, TPlace-F}
 use Rattle.al_core.specs.declared.typed_tree.TStmt.{TStmt, fold-TStmt}
-use Rattle.al_core.specs.declared.typed_tree.TKind.TheOpen.{TStmt-F, TKind-F}
+use Rattle.al_core.specs.declared.typed_tree.TKind.TheOpen.{TKind-F}
 use Rattle.al_core.specs.declared.typed_tree.TFunc.{TFunc}
 use Rattle.al_core.specs.declared.typed_tree.TGlobal.{TGlobal}
 use Rattle.al_core.specs.declared.typed_tree.TLocal.{TLocal}

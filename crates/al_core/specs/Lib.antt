@@ -17,5 +17,6 @@ pub mod Lockstep
 pub mod Serial
 pub mod Run
 pub mod Views
+pub mod Limits
 pub mod Report
 pub mod Accepted

@@ -108,10 +108,10 @@ pub record Loop : Type 0 where
 abbrev pub the_loop : ℕ → TNote → TFunc → Option Found → Option Loop
 the_loop n note f None = None
 the_loop n note f (Some found) = Some (record {
-    info = record { number = n; func = note.func; line = note.line; counter = found.counter; bound = found.bound; first = note.first; last = note.last; own = note.own };
-    locals = length f.locals;
-    body = found.body;
-  })
+  info = record { number = n; func = note.func; line = note.line; counter = found.counter; bound = found.bound; first = note.first; last = note.last; own = note.own };
+  locals = length f.locals;
+  body = found.body;
+})
 
 abbrev pub loop_in_func : ℕ → TNote → Option TFunc → Option Loop
 loop_in_func n note None = None

@@ -118,11 +118,14 @@ after_loop x hi ending.Done locals = Ok (slice_set locals x.loop.info.counter (I
 after_loop x hi (ending.Trap t line) locals = Err (t, line)
 
 abbrev pub come_back : Execution → ℤ → Whole → Came → Answer (List Val) × Whole
-come_back x hi w r = (after_loop x hi r.ending r.memory.locals, record {
-  content = record w.content { memory = record { objects = r.memory.objects; locals = [] }; printed = w.content.printed ++ r.printed };
-  executions = w.executions + 1;
-  counts = r.counts;
-})
+come_back x hi w r = (
+  after_loop x hi r.ending r.memory.locals,
+  record {
+    content = record w.content { memory = record { objects = r.memory.objects; locals = [] }; printed = w.content.printed ++ r.printed };
+    executions = w.executions + 1;
+    counts = r.counts;
+  },
+)
 
 abbrev pub execution : Setting → Loop → ℕ → ℤ → ℕ → Execution
 execution g l e lo n = record { typed = g.typed; input = g.input; loop = l; number = e; lo = lo; trips = n; chunk = g.knobs.chunk; iter_steps = g.knobs.iter_steps }

@@ -4,6 +4,7 @@
 pub mod arithmetic;
 pub mod choices;
 pub mod operations;
+pub mod orders;
 pub mod reductions;
 pub mod reports;
 pub mod steps;

@@ -69,6 +69,18 @@ pub fn same(a: Val, b: Val) -> bool
     }
 }
 
+/// Whether two pointers are equal, or whether they differ, as 1 or 0.
+#[tactic(auto, unfolding(crate::specs::Values::compare))]
+pub fn compare(equal: bool, a: Val, b: Val) -> Val
+    ensures { result ≡ spec.compare equal a b }
+{
+    if equal {
+        of_test(same(a, b))
+    } else {
+        of_test(!same(a, b))
+    }
+}
+
 /// Checks a value that is read as one of a kind.
 pub fn of_kind(want: Kind, v: Val) -> Result<Val, Trap>
     ensures { result ≡ spec.of_kind want v }
@@ -106,8 +118,7 @@ pub fn shift(at: (Obj, u32), words: u32) -> Result<(Obj, u32), Trap>
 pub fn element(at: (Obj, u32), index: Val, size: u32) -> Result<(Obj, u32), Trap>
     ensures { result ≡ spec.element at index size }
 {
-    let offset = i128::from(at.1) + i128::from(number(index)?) * i128::from(size);
-    match u32::try_from(offset) {
+    match u32::try_from(i128::from(at.1) + i128::from(number(index)?) * i128::from(size)) {
         Ok(w) => Ok((at.0, w)),
         Err(_) => Err(Trap::Bounds),
     }

@@ -1,5 +1,5 @@
 -- The first chunk of a round commits, and each chunk is committed once.
-use Rattle.std.proofs.Common.{◌≡◌, ◌≢◌, ℕ, zero, suc, ◌+◌, ◌-◌, ◌≤◌, ◌<◌, List, [], ◌∷◌, ◌++◌, length, take, drop, Bool, true, false, cond, ◌&&◌, ◌||◌, refl, sym, ap, subst, ◌∙◌, arith, length-append, append_assoc}
+use Rattle.std.proofs.Common.{◌≡◌, ◌≢◌, ℕ, zero, suc, ◌+◌, ◌≤◌, ◌<◌, List, [], ◌∷◌, ◌++◌, length, take, drop, Bool, true, false, ◌&&◌, ◌||◌, refl, sym, ap, subst, ◌∙◌, arith, length-append, append_assoc}
 use Rattle.std.proofs.lemmas.Bool.{ne_eqb, eqb-true, eqb-false}
 use Rattle.std.proofs.Math.Bool.{true≢false}
 use Rattle.std.specs.Prelude.{if◌then◌else◌, ◌==◌, map, not}
@@ -21,7 +21,7 @@ use Rattle.al_core.specs.Memory.{Memory}
 use Rattle.al_core.specs.Iteration.{Execution}
 use Rattle.al_core.specs.Chunk.{Outcome, outcome, chunk_count}
 use Rattle.al_core.specs.Clash.{meets, clashes}
-use Rattle.al_core.specs.Round.{Judging, is_in_order, commit_or_trap, verdict_of, settled, judged_by, judged, judge_all, nothing_judged, round}
+use Rattle.al_core.specs.Round.{Judging, is_in_order, commit_or_trap, verdict_of, judged_by, judged, judge_all, nothing_judged, round}
 use Rattle.al_core.specs.Lockstep.{Rounds, is_committed, cons_if, not_committed, commits, with_round, next_round, still_pending, rounds_from, up_from, all_chunks, lockstep, commits_of}
 use Rattle.al_laws.specs.Rounds.{FirstCommits, times, RoundsAtMostChunks, CommittedAtMostOnce, AllCommitted}
 
@@ -67,7 +67,7 @@ judged_verdicts : (choice : Choice) (c : ℕ) (s : Judging) (o : Outcome) → (j
 unfolding judged
 judged_verdicts choice c s o = settled_verdicts choice c (verdict_of choice s o) s o
 
-abbrev more_verdicts : Execution → Choice → Memory → List ℕ → Judging → List Judged
+abbrev pub more_verdicts : Execution → Choice → Memory → List ℕ → Judging → List Judged
 more_verdicts x choice m [] s = []
 more_verdicts x choice m (c ∷ cs) s =
     record { chunk = c; verdict = verdict_of choice s (outcome x choice.reds m c) } ∷ more_verdicts x choice m cs (judged choice s c (outcome x choice.reds m c))
@@ -82,7 +82,7 @@ all_verdicts x choice m (c ∷ cs) s =
     let o = outcome x choice.reds m c in
     all_verdicts x choice m cs (judged choice s c o) ∙ ap (λ l. l ++ more_verdicts x choice m cs (judged choice s c o)) (judged_verdicts choice c s o) ∙ append_assoc s.verdicts _ _
 
-round_verdicts : (x : Execution) (choice : Choice) (cs : List ℕ) (m : Memory) → (round x choice cs m).verdicts ≡ more_verdicts x choice m cs (nothing_judged m)
+pub round_verdicts : (x : Execution) (choice : Choice) (cs : List ℕ) (m : Memory) → (round x choice cs m).verdicts ≡ more_verdicts x choice m cs (nothing_judged m)
 unfolding round
 round_verdicts x choice cs m = all_verdicts x choice m cs (nothing_judged m)
 
@@ -105,7 +105,7 @@ rounds_bound (suc n) x choice lanes (c ∷ cs) s =
       | false ↦ omega (arith, one, rounds_bound n x choice lanes (still_pending lanes (c ∷ cs) r) (with_round r s))
     ]
 
-abbrev no_rounds : Memory → Rounds
+abbrev pub no_rounds : Memory → Rounds
 no_rounds m = record { memory = m; printed = []; ending = ending.Done; rounds = []; span = 0 }
 
 pub rounds_at_most_chunks : RoundsAtMostChunks
@@ -224,14 +224,14 @@ coherent_round : (x : Execution) (choice : Choice) (cs : List ℕ) (m : Memory) 
 unfolding round
 coherent_round x choice cs m = coherent_all x choice m cs (nothing_judged m) (λ e. absurd (true≢false (sym e)))
 
-fewer : (js : List Judged) → length (not_committed js) ≤ length js
+pub fewer : (js : List Judged) → length (not_committed js) ≤ length js
 fewer [] = omega arith
 fewer (j ∷ js) = elim (is_committed j.verdict) as (λ b. length (cons_if (not b) j.chunk (not_committed js)) ≤ suc (length js)) [ true ↦ omega (arith, fewer js) | false ↦ omega (arith, fewer js) ]
 
 fewer_after_first : (j : Judged) (js : List Judged) → is_committed j.verdict ≡ true → length (not_committed (j ∷ js)) ≤ length js
 fewer_after_first j js e = subst (λ b. length (cons_if (not b) j.chunk (not_committed js)) ≤ length js) (sym e) (fewer js)
 
-verdict_count : (x : Execution) (choice : Choice) (m : Memory) (cs : List ℕ) (s : Judging) → length (more_verdicts x choice m cs s) ≡ length cs
+pub verdict_count : (x : Execution) (choice : Choice) (m : Memory) (cs : List ℕ) (s : Judging) → length (more_verdicts x choice m cs s) ≡ length cs
 verdict_count x choice m [] s = refl
 verdict_count x choice m (c ∷ cs) s = ap suc (verdict_count x choice m cs _)
 
@@ -261,7 +261,7 @@ times_done c (suc n) x choice lanes (d ∷ ds) s h l e =
     let next = times_next c x choice lanes (d ∷ ds) s in
     let shorter = pending_falls x choice lanes d ds s h in
     elim r.trapped as (λ b. r.trapped ≡ b → (if b then with_round r s else rounds_from n x choice lanes (still_pending lanes (d ∷ ds) r) (with_round r s)).ending ≡ ending.Done
-        → times c (commits_of (if b then with_round r s else rounds_from n x choice lanes (still_pending lanes (d ∷ ds) r) (with_round r s)).rounds) ≡ times c (commits_of s.rounds) + times c (d ∷ ds)) [
+    → times c (commits_of (if b then with_round r s else rounds_from n x choice lanes (still_pending lanes (d ∷ ds) r) (with_round r s)).rounds) ≡ times c (commits_of s.rounds) + times c (d ∷ ds)) [
       | true ↦ λ t e. absurd (coherent_round x choice (take lanes (d ∷ ds)) s.memory t e)
       | false ↦ λ t e. times_done c n x choice lanes (still_pending lanes (d ∷ ds) r) (with_round r s) h (omega (arith, shorter)) e ∙ next
     ] refl e

@@ -5,3 +5,13 @@ pub mod Falls
 pub mod Agree
 pub mod Recording
 pub mod Commits
+pub mod Orders
+pub mod Keeps
+pub mod Words
+pub mod Stays
+pub mod Overlay
+pub mod Laid
+pub mod DirectRuns
+pub mod Executions
+pub mod Counts
+pub mod Fits

@@ -1,6 +1,6 @@
 -- To keep a record changes nothing: an instance of the abstraction theorem.
-use Rattle.std.proofs.Common.{◌≡◌, ℕ, zero, suc, ◌+◌, List, [], Option, Some, None, Result, Ok, Err, Bool, true, false, cond, refl, sym, ap, subst, ◌∙◌}
-use Rattle.std.specs.Prelude.{ℤ, if◌then◌else◌, nat_lt}
+use Rattle.std.proofs.Common.{◌≡◌, ℕ, ◌+◌, List, [], Option, Some, None, Result, Ok, Err, Bool, true, false, refl, sym, ap, subst, ◌∙◌}
+use Rattle.std.specs.Prelude.{if◌then◌else◌, nat_lt}
 use Rattle.std.specs.FinSet as set
 use Rattle.al_core.specs.declared.values.Val.{Val}
 use Rattle.al_core.specs.declared.values.Addr.{Addr}
@@ -11,9 +11,9 @@ use Rattle.al_core.specs.declared.values.Trap.TheVariants as trap
 use Rattle.al_core.specs.declared.values.Obj.{Obj}
 use Rattle.al_core.specs.Action.{State}
 use Rattle.al_core.specs.Memory.{value_at}
-use Rattle.al_core.specs.Access.{Log, Content, Names, word_limit, name_of, load_in, missing_or_outside, with_memory, with_log, with_load, with_head, log_load, log_store, log_make, is_own, red_index, load_logged, store_logged, load_by, store_by, store_in, with_object, load, store, make, print, in_iteration}
+use Rattle.al_core.specs.Access.{Log, Content, word_limit, name_of, load_in, missing_or_outside, with_memory, with_log, with_head, log_load, log_store, log_make, is_own, red_index, load_logged, store_logged, load_by, store_by, store_in, with_object, load, store, make, print, in_iteration}
 use Rattle.al_laws.specs.Recording.{without_log, HasNoReds, unrecorded, RecordChangesNothing}
-use Rattle.al_laws.proofs.Agree.{Alike, Same, Matches, Kept, agree_program}
+use Rattle.al_laws.proofs.Agree.{Alike, Matches, Kept, agree_program}
 
 -- ---- records keep their reductions
 
@@ -84,11 +84,11 @@ make_quiet c words false h = record { answer = refl; content = refl; logged = ma
 
 -- ---- the worlds agree
 
-record Recorded (c d : Content) : Type 0 where
+pub record Recorded (c d : Content) : Type 0 where
   pub same : without_log c ≡ d
   pub logged : HasNoReds c.log
 
-abbrev Good : Content → Type 0
+abbrev pub Good : Content → Type 0
 Good c = Unit {0}
 
 matches : {A : Type 0} (f : Content → A × Content) → ((c : Content) → HasNoReds c.log → Quiet (f c) (f (without_log c))) → Matches Recorded Good f f
@@ -115,7 +115,7 @@ print_kept : (bytes : List ℕ) → Matches Recorded Good {A = Result (Unit {0})
 unfolding print
 print_kept bytes = matches (λ c. (Ok tt, print bytes c)) (λ c h. record { answer = refl; content = refl; logged = h })
 
-recorded_kept : Kept Recorded Good in_iteration in_iteration
+pub recorded_kept : Kept Recorded Good in_iteration in_iteration
 recorded_kept = record {
   load = load_kept;
   store = store_kept;

@@ -2,3 +2,5 @@ pub mod Joining
 pub mod Budgets
 pub mod Recording
 pub mod Rounds
+pub mod DirectRuns
+pub mod Bounds

@@ -2,11 +2,9 @@
 use Rattle.std.specs.Prelude.{◌≡◌, ℕ, ℤ, List, [], Option, Some, None}
 use Rattle.al_core.specs.declared.typed_tree.TStmt.{TStmt}
 use Rattle.al_core.specs.declared.typed_tree.TFunc.{TFunc}
-use Rattle.al_core.specs.declared.values.Val.{Val}
-use Rattle.al_core.specs.World.{World}
-use Rattle.al_core.specs.Action.{State, Answer}
+use Rattle.al_core.specs.Action.{State}
 use Rattle.al_core.specs.Access.{Log, Content, in_iteration}
-use Rattle.al_core.specs.Meaning.{Where, Flow, execute, call_to}
+use Rattle.al_core.specs.Meaning.{Where, execute, call_to}
 
 -- the same, with no record
 abbrev pub without_log : Content → Content
@@ -24,4 +22,4 @@ unrecorded s = record { frame = s.frame; budget = s.budget; world = without_log 
 abbrev pub RecordChangesNothing : Type 0
 RecordChangesNothing = (here : Where) (funcs : List TFunc) (input : List ℤ) (calls : ℕ) (stmt : TStmt) (s : State Content) → HasNoReds s.world.log
     → ((execute in_iteration here input (call_to in_iteration here funcs input calls) stmt s).0 ≡ (execute in_iteration here input (call_to in_iteration here funcs input calls) stmt (unrecorded s)).0)
-      × (unrecorded (execute in_iteration here input (call_to in_iteration here funcs input calls) stmt s).1 ≡ (execute in_iteration here input (call_to in_iteration here funcs input calls) stmt (unrecorded s)).1)
+    × (unrecorded (execute in_iteration here input (call_to in_iteration here funcs input calls) stmt s).1 ≡ (execute in_iteration here input (call_to in_iteration here funcs input calls) stmt (unrecorded s)).1)
