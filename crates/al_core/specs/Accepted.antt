@@ -77,7 +77,9 @@ module _ (a : Addr) where
   any_mentions (Some e) = mentions e
   any_mentions None = false
 
--- ---- addresses taken: whether an expression takes the variable's address, and whether a place is in the variable, and takes it too
+-- ---- addresses taken
+
+-- For an expression: whether it takes the variable's address. For a place: whether it lies in the variable, and whether forming it takes the variable's address.
 
 module _ (a : Addr) where
   abbrev pub expr_takes : TExpr-F Bool (Bool × Bool) → Bool
@@ -198,6 +200,7 @@ terms_of (s ∷ ss) = both_terms (terms s) (terms_of ss)
 abbrev pub calls_of : Terms → List ℕ
 calls_of t = all_called (map calls t.exprs) ++ all_called (map calls_at t.places)
 
+-- whether they mention a global; a local that a statement sets is not among its terms
 abbrev pub mentions_in : Addr → Terms → Bool
 mentions_in a t = list_any (mentions a) t.exprs || list_any (mentions_at a) t.places
 

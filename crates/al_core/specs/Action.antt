@@ -106,7 +106,7 @@ module _ {S : Type 0} where
   all [] = pure []
   all (p ∷ ps) = p >>= (λ v. all ps >>= (λ vs. pure (v ∷ vs)))
 
-  -- A private local is read and set in the frame. Any other is the world's.
+  -- A private local is read and set in the frame. Any other is the world's, where the kind that is asked for says nothing.
   abbrev pub get_local : World S → ℕ → At S Val
   get_local world k line =
       get_frame >>= (λ f. if is_private f.own k then pure (or_zero (slice_get f.locals k)) else asks line (world.load (Local k) kind.Int))

@@ -93,7 +93,7 @@ outcome x reds m c = outcome_of (chunk_runs x c (chunk_from x reds m c)) (chunk_
 
 -- ---- readiness
 
--- a local or a word holds a value of its kind
+-- a value that a local of that kind may hold
 abbrev pub IsOfKind : Kind → Val → Type 0
 IsOfKind k v = of_kind k v ≡ Ok v
 
@@ -112,7 +112,7 @@ abbrev pub LeadsTo : Val → Red → Type 0
 LeadsTo (Int n) r = ⊥
 LeadsTo (Ptr o w) r = (v : ℕ) × (r.at ≡ Word o v)
 
--- the names that the iterations from a first to below a last may give to objects
+-- the names that the iterations of execution e, from a first to below a last, may give to objects
 abbrev pub IsNameFrom : ℕ → ℕ → ℕ → Obj → Type 0
 IsNameFrom e first last (Global k) = ⊥
 IsNameFrom e first last (Serial k) = ⊥
@@ -120,10 +120,16 @@ IsNameFrom e first last (Iter f j k) = (f ≡ e) × (first ≤ j) × (j < last)
 
 -- a memory on which a chunk may run
 pub record IsReady (x : Execution) (reds : List Red) (m : Memory) (c : ℕ) : Type 0 where
+  -- each global has its length
   pub globals : (k : ℕ) (g : TGlobal) → slice_get x.typed.globals k ≡ Some g → length_at m (Global k) ≡ Some g.words
+  -- there are the locals of the loop's function, each with a value of its kind
   pub locals_count : (f : TFunc) → slice_get x.typed.funcs x.loop.info.func ≡ Some f → length m.locals ≡ length f.locals
   pub locals : (f : TFunc) (k : ℕ) (l : TLocal) (v : Val) → slice_get x.typed.funcs x.loop.info.func ≡ Some f → slice_get f.locals k ≡ Some l → slice_get m.locals k ≡ Some v → IsOfKind l.kind v
+  -- each reduction variable holds a number
   pub reductions : All (λ r. (n : ℤ) × (value_at m r.at ≡ Some (Int n))) reds
+  -- no object has a name that the chunk may give
   pub fresh : (o : Obj) → IsNameFrom x.number (chunk_start x c) (chunk_end x c) o → has_object m o ≡ false
+  -- no pointer leads into the object of a reduction variable
   pub unreached : (a : Addr) (v : Val) → value_at m a ≡ Some v → All (λ r. ¬ (LeadsTo v r)) reds
+  -- every number has 64 bits
   pub values : (a : Addr) (v : Val) → value_at m a ≡ Some v → IsVal v

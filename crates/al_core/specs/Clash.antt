@@ -1,4 +1,4 @@
--- When a chunk may not meet what its round has written.
+-- When a chunk clashes with what the committed chunks of its round wrote.
 use Rattle.std.specs.Prelude.{Bool, false, ◌||◌}
 use Rattle.std.specs.List.{list_any}
 use Rattle.std.specs.FinSet as set

@@ -50,7 +50,7 @@ next_round x choice lanes pending so_far = round x choice (take lanes pending) s
 abbrev pub still_pending : ℕ → List ℕ → Judging → List ℕ
 still_pending lanes pending r = not_committed r.verdicts ++ drop lanes pending
 
--- Each round takes a chunk away or ends the loop, so there are not more rounds than pending chunks.
+-- The first chunk of a round meets nothing and commits, so there are not more rounds than pending chunks.
 abbrev pub rounds_from : ℕ → Execution → Choice → ℕ → List ℕ → Rounds → Rounds
 rounds_from zero x choice lanes pending so_far = so_far
 rounds_from (suc n) x choice lanes [] so_far = so_far

@@ -121,6 +121,6 @@ abbrev pub loop_by_note : Typed → ℕ → Option TNote → Option Loop
 loop_by_note typed n None = None
 loop_by_note typed n (Some note) = loop_in_func n note (slice_get typed.funcs note.func)
 
--- it is looked up in the function that its entry names
+-- It is looked up in the function that its entry names. In the tree of a source the entry's function, line and locals are those of the loop where it stands.
 abbrev pub loop_at : Typed → ℕ → Option Loop
 loop_at typed n = loop_by_note typed n (slice_get typed.loops n)

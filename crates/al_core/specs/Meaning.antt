@@ -83,7 +83,7 @@ module _ {S : Type 0} where
   turns_to (suc n) line test body third =
       spend line >> (test >>= (λ v. if truth v then body >>= turn_end (third >>= then_flow (turns_to n line test body third)) else pure Next))
 
-  -- Since a turn spends a step, more turns than one past the budget are never begun.
+  -- Since a turn spends a step, more turns than one past the budget are never begun, and the case of no turn left is never met.
   abbrev pub turns : ℕ → Act S Val → Act S Flow → Act S Flow → Act S Flow
   turns line test body third = get_budget >>= (λ n. turns_to (suc n) line test body third)
 

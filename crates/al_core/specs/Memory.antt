@@ -1,4 +1,4 @@
--- The memory: the words of each present object, and the locals that the iterations of a loop share.
+-- The memory: the words of each present object and, while an annotated loop runs, the locals of its function. Its iterations share all of these but their private ones, which are not looked at here.
 use Rattle.std.specs.Prelude.{◌≡◌, ℕ, Bool, List, [], length, Option, Some, None, is_some, option_map, slice_get, slice_set}
 use Rattle.std.specs.FinMap as map
 use Rattle.std.specs.FinMap.{FinMap}

@@ -4,6 +4,7 @@ use Rattle.std.specs.FinSet as set
 use Rattle.std.specs.FinSet.{FinSet}
 use Rattle.al_source.specs.declared.annotations.CommitOrder.{CommitOrder}
 use Rattle.al_source.specs.declared.annotations.CommitOrder.TheVariants as order
+use Rattle.al_source.specs.declared.annotations.Policy.{Policy}
 use Rattle.al_core.specs.declared.choices.Choice.{Choice}
 use Rattle.al_core.specs.declared.reports.Ending.{Ending}
 use Rattle.al_core.specs.declared.reports.Ending.TheVariants as ending
@@ -39,11 +40,15 @@ abbrev pub commit_or_trap : Ending → Verdict
 commit_or_trap ending.Done = verdict.Commit
 commit_or_trap (ending.Trap t line) = verdict.CommitTrap
 
-unfoldable pub verdict_of : Choice → Judging → Outcome → Verdict
-verdict_of choice so_far o =
-    if (is_in_order choice.order && so_far.failed) || so_far.trapped then verdict.After
-    else if clashes choice.policy o so_far.written then verdict.Fail
+-- the verdict on an outcome, from what the committed chunks of its round wrote, whether a chunk failed, and whether a trap was committed
+abbrev pub verdict_by : Policy → CommitOrder → FinSet addr_cmp → Bool → Bool → Outcome → Verdict
+verdict_by policy order written failed trapped o =
+    if (is_in_order order && failed) || trapped then verdict.After
+    else if clashes policy o written then verdict.Fail
     else commit_or_trap o.ending
+
+unfoldable pub verdict_of : Choice → Judging → Outcome → Verdict
+verdict_of choice so_far o = verdict_by choice.policy choice.order so_far.written so_far.failed so_far.trapped o
 
 abbrev pub told : ℕ → Verdict → Judging → Outcome → Judging
 told c v so_far o =

@@ -34,11 +34,23 @@ pub data Way : Type 0 where
   InRounds : Choice → Way
   InChunks : Option (List ℕ) → Way
 
+-- the numbers on which a run's meaning depends; how many threads there are is none of them
+pub record Sizes : Type 0 where
+  -- the chunks of a round, and the iterations of a chunk
+  pub lanes : ℕ
+  pub chunk : ℕ
+  -- the steps of one iteration, and of all code outside iterations
+  pub iter_steps : ℕ
+  pub serial_steps : ℕ
+
+abbrev pub sizes_of : Knobs → Sizes
+sizes_of k = record { lanes = k.lanes; chunk = k.chunk; iter_steps = k.iter_steps; serial_steps = k.serial_steps }
+
 -- what a run is given, and the way of each execution, from its loop's number and its own
 pub record Setting : Type 0 where
   pub typed : Typed
   pub input : List ℤ
-  pub knobs : Knobs
+  pub sizes : Sizes
   pub ways : ℕ → ℕ → Way
 
 -- ---- counts
@@ -81,7 +93,7 @@ count_steps steps n = record n { span = n.span + steps }
 
 -- ---- the world outside iterations
 
--- what the code sees, how many executions there were, and the counts
+-- what the code sees, how many executions there were (entries of annotated loops outside iterations, those of 0 trips too), and the counts
 pub record Whole : Type 0 where
   pub content : Content
   pub executions : ℕ
@@ -128,14 +140,14 @@ come_back x hi w r = (
 )
 
 abbrev pub execution : Setting → Loop → ℕ → ℤ → ℕ → Execution
-execution g l e lo n = record { typed = g.typed; input = g.input; loop = l; number = e; lo = lo; trips = n; chunk = g.knobs.chunk; iter_steps = g.knobs.iter_steps }
+execution g l e lo n = record { typed = g.typed; input = g.input; loop = l; number = e; lo = lo; trips = n; chunk = g.sizes.chunk; iter_steps = g.sizes.iter_steps }
 
 -- the frame's locals are the memory's while the loop runs
 abbrev pub at_loop : Content → List Val → Memory
 at_loop c locals = record { objects = c.memory.objects; locals = locals }
 
 abbrev pub run_loop : Setting → Execution → ℤ → List Val → Whole → Answer (List Val) × Whole
-run_loop g x hi locals w = come_back x hi w (by_way x g.knobs.lanes w.counts (at_loop w.content locals) (g.ways x.loop.info.number x.number))
+run_loop g x hi locals w = come_back x hi w (by_way x g.sizes.lanes w.counts (at_loop w.content locals) (g.ways x.loop.info.number x.number))
 
 -- too many trips trap at the loop's own line, and are no execution
 abbrev pub if_trips : Setting → Loop → ℤ → ℤ → List Val → Whole → Result ℕ Trap → Answer (List Val) × Whole
@@ -171,7 +183,7 @@ no_counts = record { loops = 0; rounds = 0; attempts = 0; aborted = 0; span = 0;
 abbrev pub start : Setting → State Whole
 start g = record {
   frame = record { locals = []; own = All };
-  budget = g.knobs.serial_steps;
+  budget = g.sizes.serial_steps;
   world = record {
     content = record { memory = record { objects = globals_from 0 g.typed.globals; locals = [] }; names = record { maker = Program; next = 0; words = 0 }; printed = []; log = None };
     executions = 0;

@@ -107,11 +107,11 @@ text (piece.Plain bytes ∷ pieces) ns = bytes ++ text pieces ns
 text (piece.Number ∷ pieces) [] = text pieces []
 text (piece.Number ∷ pieces) (n ∷ ns) = signed_decimal n ++ text pieces ns
 
--- how often an annotated loop runs from a start to below a bound
 abbrev pub not_negative : ℤ → ℕ
 not_negative (pos n) = n
 not_negative (negsuc n) = 0
 
+-- how often an annotated loop runs from a start to below a bound
 abbrev pub trip_count : ℤ → ℤ → ℕ
 trip_count lo hi = not_negative (hi -ℤ lo)
 

@@ -11,7 +11,7 @@ abbrev pub Pointer : Type 0
 Pointer = Obj × ℕ
 
 pub record World (S : Type 0) : Type 0 where
-  -- reads a word of an object or a shared local, as a value of the kind
+  -- reads a word of an object, as a value of the kind, or a shared local, where the kind is not looked at
   pub load : Addr → Kind → S → Result Val Trap × S
   -- writes a word of an object or a shared local
   pub store : Addr → Val → S → Result (Unit {0}) Trap × S

@@ -22,6 +22,7 @@ pub enum Verdict {
     After,
 }
 
+/// A chunk of a round, by its number, with its verdict.
 #[derive(Clone, Copy, Debug, PartialEq, Eq)]
 pub struct Judged {
     pub chunk: u64,

@@ -32,6 +32,7 @@ pub struct TFunc {
     pub params: u32,
     pub locals: Items<TLocal>,
     pub body: Items<TStmt>,
+    /// The line of its definition's first token.
     pub line: u32,
 }
 
@@ -54,6 +55,7 @@ pub struct TNote {
 #[cycle(typed_stmt)]
 #[derive(Drop)]
 pub struct TStmt {
+    /// The line of its first token, and of an annotated loop that of its `for`.
     pub line: u32,
     pub kind: TKind,
 }

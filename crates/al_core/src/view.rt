@@ -28,7 +28,8 @@ impl From<AllocError> for ViewFault {
 pub trait View {
     ghost content: { Self → Content };
 
-    /// Reads a word or a shared local, as a value of the kind.
+    /// Reads a word as a value of the kind, or a shared local as it is. At a head, and at a local that is not there, it
+    /// traps `Missing`.
     fn load(&mut self, at: Addr, want: Kind) -> Result<Val, ViewFault>
         ensures { Gives result (load_of at want (content self.old)) (content self.new) };
 

@@ -14,7 +14,7 @@ use Rattle.al_core.specs.Memory.{Memory}
 use Rattle.al_core.specs.Loops.{Loop, loop_at}
 use Rattle.al_core.specs.Meaning.{Outside}
 use Rattle.al_core.specs.Iteration.{Execution}
-use Rattle.al_core.specs.Run.{Way, Plainly, InRounds, InChunks, Setting, Counts, Whole, by_way, execution, at_loop, if_trips, visit_loop, outside, line_of, start, whole_run}
+use Rattle.al_core.specs.Run.{Way, Plainly, InRounds, InChunks, Setting, Counts, Whole, by_way, execution, at_loop, if_trips, visit_loop, outside, line_of, start, whole_run, sizes_of}
 use Rattle.al_core.specs.Report.{way_of, by_choices, report}
 use Rattle.al_core.specs.Limits.{AreInRange}
 use Rattle.al_laws.specs.Bounds.{Fit, CountsFit}
@@ -83,7 +83,7 @@ module _ (k : Knobs) (ok : AreInRange k) where
 
   module _ (typed : Typed) (input : List ℤ) (choices : List (Option Choice)) where
     abbrev setting : Setting
-    setting = record { typed = typed; input = input; knobs = k; ways = by_choices choices }
+    setting = record { typed = typed; input = input; sizes = sizes_of k; ways = by_choices choices }
 
     trips_bounded : (l : Loop) (lo hi : ℤ) (locals : List Val) (w : Whole) (r : Result ℕ Trap) → ok_or_none r ≤ 16777216 → Holds w → Holds (if_trips setting l lo hi locals w r).1
     trips_bounded l lo hi locals w (Err t) h b = b
@@ -109,7 +109,7 @@ module _ (k : Knobs) (ok : AreInRange k) where
         (of_call (outside setting) (outside setting) (λ A. Keeps Holds {A = A}) (keeps_closed Holds (outside setting) bounded_world) Outside typed.funcs input 256 typed.main [] (line_of (slice_get typed.funcs typed.main))).by (start setting)
         (record { loops = omega arith; rounds = omega arith; attempts = omega arith; aborted = omega arith; span = omega arith })
 
-    fit : Fit (report typed input k choices)
+    fit : Fit (report typed input (sizes_of k) choices)
     unfolding report
     fit =
         let b = whole_bounded in

@@ -20,7 +20,7 @@ pub enum Policy {
 pub enum CommitOrder {
     /// After a chunk that failed no later one of its round commits.
     InOrder,
-    /// Each chunk is judged by its conflicts alone.
+    /// A chunk that failed holds back none of those after it.
     OutOfOrder,
 }
 
