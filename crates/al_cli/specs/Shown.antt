@@ -1,10 +1,10 @@
 -- What words show, over files of known contents: a status, and what is written to standard output and standard error.
 use Rattle.std.specs.Prelude.{ℕ, List, [], map, Option, Some, None, Result, Ok, Err}
 use Rattle.al_core.specs.declared.choices.Choice.{Choice}
-use Rattle.al_core.specs.declared.choices.Knobs.{Knobs}
 use Rattle.al_core.specs.declared.reports.Report.{Report}
 use Rattle.al_core.specs.declared.typed_tree.TNote.{TNote}
 use Rattle.al_core.specs.declared.typed_tree.Typed.{Typed}
+use Rattle.al_core.specs.Run.{Sizes}
 use Rattle.al_core.specs.Report.{report}
 use Rattle.al_io.specs.Contents.{Contents, contents_of}
 use Rattle.al_cli.specs.declared.answers.Answer.{Answer}
@@ -24,14 +24,14 @@ failed status line = record { status = status; out = []; err = line }
 
 -- ---- the run of a program: every annotated loop in rounds, by its own annotation
 
-abbrev pub default_knobs : Knobs
-default_knobs = record { lanes = 4; chunk = 16; threads = 4; iter_steps = 1000000; serial_steps = 10000000 }
+abbrev pub default_sizes : Sizes
+default_sizes = record { lanes = 4; chunk = 16; iter_steps = 1000000; serial_steps = 10000000 }
 
 abbrev pub own_choices : Typed → List (Option Choice)
 own_choices typed = map (λ (note : TNote). Some note.own) typed.loops
 
 abbrev pub ran : Typed → Report
-ran typed = report typed [] default_knobs (own_choices typed)
+ran typed = report typed [] default_sizes (own_choices typed)
 
 -- ---- the command
 
