@@ -1,0 +1,6 @@
+pub mod Histories
+pub mod Parts
+pub mod Draws
+pub mod Puts
+pub mod Batons
+pub mod Passes
