@@ -20,6 +20,7 @@ use Rattle.al_board.specs.Core.{Event, piece_of}
 use Rattle.al_board.specs.Views.{IsFull, missed, at_turn, handed}
 use Rattle.al_board.specs.Rule.{AreFirst, IsSound, IsSlot, IsBaton, IsKept}
 use Rattle.al_board.specs.Steps.{seized, tried, passed_on}
+use Rattle.al_board.specs.Helps.{IsCarried, IsTurned}
 use Rattle.al_board.proofs.Histories.{IsTold, judging, told_same, told_judges}
 use Rattle.al_board.proofs.Parts.{AllSound, turnless, sound_set, sound_one, made, same_baton, same_slot, at_most_one, full_puts, full_alone, told_of}
 
@@ -439,17 +440,9 @@ module _ {T H K : Type 0} (key : Setting K) (fits : ℕ → T → Type 0) (laid 
       back_keeps record { words = set s.words (key.lanes + 1) t.next; homes = set s.homes key.lanes (some (Shelf shelf)); views = set s.views id (handed t.next v) } (passes_at s k id v t shelf at live shelved turn standing same) lane y near
       (get_or-set_other {A = ℕ} s.words (key.lanes + 1) (lane + 1) t.next 0 (λ e. omega arith) ∙ three)
 
--- what the pass that has the baton holds: the shelf's slot, and behind it or before it maybe that of a lane that was taken
-module _ {T H : Type 0} where
-  abbrev pub IsCarried : ℕ → ℕ → List (ℕ × Slot T H) → Type 0
-  IsCarried lanes next c = (c ≡ (lanes, Empty) ∷ []) ⊎ ((lane : ℕ) × (lane < next) × (c ≡ (lane, Empty) ∷ (lanes, Empty) ∷ []))
-
-  abbrev pub IsTurned : ℕ → ℕ → Slot T H → List (ℕ × Slot T H) → Type 0
-  IsTurned lanes next x c = (c ≡ (lanes, x) ∷ []) ⊎ ((lane : ℕ) × (lane < next) × (c ≡ (lanes, x) ∷ (lane, Empty) ∷ []))
-
-module _ {T H K : Type 0} (key : Setting K) (fits : K → ℕ → T → Type 0) (laid : H → List T) (stands : K → H → Type 0) where
+module _ {T H K : Type 0} (key : Setting K) (fits : K → ℕ → T → Type 0) (laid : H → List T) (stands : K → ℕ → H → Type 0) where
   abbrev pub Rule : State (Slot T H) (View T K) → Type 0
-  Rule = IsKept key (fits key.task) laid (stands key.task)
+  Rule = IsKept key (fits key.task) laid (stands key.task key.lanes)
 
   abbrev Carry : Type 0
   Carry = List (ℕ × Slot T H)
@@ -460,8 +453,8 @@ module _ {T H K : Type 0} (key : Setting K) (fits : K → ℕ → T → Type 0) 
       let about = (k.sound id v at).about live in
       let same : key.lanes ≡ lanes = sym about.1 ∙ many in
       subst F same
-      (let r = seizes_at key (fits key.task) laid (stands key.task) s k id v c at live shelved idle put in
-      (r.0, r.1, r.2, r.3, (r.4.0, λ ne. let q = r.4.1 ne in (let e = about.1 in let l = q.0 in omega arith, (q.1.0, q.1.1, q.1.2 ∙ ap (λ (z : ℕ). (z, Shelf q.1.0) ∷ c) (sym about.1), q.1.3, λ task is. subst (λ (z : K). stands z q.1.0) (the_same v.task key.task task about.0 is) q.1.4)))))
+      (let r = seizes_at key (fits key.task) laid (stands key.task key.lanes) s k id v c at live shelved idle put in
+      (r.0, r.1, r.2, r.3, (r.4.0, λ ne. let q = r.4.1 ne in (let e = about.1 in let l = q.0 in omega arith, (q.1.0, q.1.1, q.1.2 ∙ ap (λ (z : ℕ). (z, Shelf q.1.0) ∷ c) (sym about.1), q.1.3, λ task is. subst (λ (z : K × ℕ). stands z.0 z.1 q.1.0) (λ i. (the_same v.task key.task task about.0 is i, sym about.1 i)) q.1.4)))))
     where
       F : ℕ → Type 0
       F n = (w : View T K) × (a : Act (Slot T H)) × Valid s.homes c a × Rule (stepped s (n + 1) 1025 id c w a)
@@ -489,15 +482,15 @@ module _ {T H K : Type 0} (key : Setting K) (fits : K → ℕ → T → Type 0) 
 
       one : c ≡ (lanes, Empty) ∷ [] → F c
       one e = subst F (sym e)
-          (let r = tries_at key (fits key.task) laid (stands key.task) s k id v ((lanes, Empty) ∷ []) t at live shelved turn near in
+          (let r = tries_at key (fits key.task) laid (stands key.task key.lanes) s k id v ((lanes, Empty) ∷ []) t at live shelved turn near in
           (r.0, r.1, r.2, r.3, λ u is. subst (Told v (get_or s.words (t.next + 1) 0) r.0 ((lanes, Empty) ∷ []) (carried_after ((lanes, Empty) ∷ []) r.1)) (the_same v.turn t u turn is) ((λ is2. let q = r.4.0 is2 in (q.0, q.1, q.2, λ task h. subst (λ (z : K). fits z t.next q.0) (task_is task h) q.3)), r.4.1)))
 
       two : (lane : ℕ) × (lane < t.next) × (c ≡ (lane, Empty) ∷ (lanes, Empty) ∷ []) → F c
       two e = subst F (sym e.2)
-          (let r = tries_back key (fits key.task) laid (stands key.task) s k id v e.0 Empty ((lanes, Empty) ∷ []) t at live shelved turn near e.1 in
+          (let r = tries_back key (fits key.task) laid (stands key.task key.lanes) s k id v e.0 Empty ((lanes, Empty) ∷ []) t at live shelved turn near e.1 in
           (r.0, r.1, r.2, r.3, λ u is. subst (Told v (get_or s.words (t.next + 1) 0) r.0 ((lanes, Empty) ∷ []) (carried_after ((e.0, Empty) ∷ (lanes, Empty) ∷ []) r.1)) (the_same v.turn t u turn is) ((λ is2. let q = r.4.0 is2 in (q.0, q.1, q.2, λ task h. subst (λ (z : K). fits z t.next q.0) (task_is task h) q.3)), r.4.1)))
 
-  pub passes_on : (slots lanes id : ℕ) (m : View T K × Carry) (t : Turn T) (shelf : H) → m.0.lanes ≡ lanes → 0 < m.0.share → m.0.shelved ≡ true → m.0.turn ≡ Some t → stands key.task shelf → laid shelf ≡ t.laid → IsTurned lanes t.next (Shelf shelf) m.1
+  pub passes_on : (slots lanes id : ℕ) (m : View T K × Carry) (t : Turn T) (shelf : H) → m.0.lanes ≡ lanes → 0 < m.0.share → m.0.shelved ≡ true → m.0.turn ≡ Some t → stands key.task key.lanes shelf → laid shelf ≡ t.laid → IsTurned lanes t.next (Shelf shelf) m.1
       → Allows Rule slots id m (lanes + 1) (λ _. t.next) (passed_on (step slots (lanes + 1) t.next 0 maybe.none) m)
   passes_on slots lanes id m t shelf many live shelved turn standing same shape s k len at small = ⊎_elim one two shape
     where
@@ -510,8 +503,8 @@ module _ {T H K : Type 0} (key : Setting K) (fits : K → ℕ → T → Type 0) 
 
       one : m.1 ≡ (lanes, Shelf shelf) ∷ [] → F lanes m.1
       one e = subst (F lanes) (sym e) (subst (λ (n : ℕ). F n ((n, Shelf shelf) ∷ [])) lanes_are
-          (handed t.next m.0, chain gives gives, (tt, tt), passes_at key (fits key.task) laid (stands key.task) s k id m.0 t shelf at live shelved turn standing same, (refl, refl)))
+          (handed t.next m.0, chain gives gives, (tt, tt), passes_at key (fits key.task) laid (stands key.task key.lanes) s k id m.0 t shelf at live shelved turn standing same, (refl, refl)))
 
       two : (lane : ℕ) × (lane < t.next) × (m.1 ≡ (lanes, Shelf shelf) ∷ (lane, Empty) ∷ []) → F lanes m.1
       two e = subst (F lanes) (sym e.2) (subst (λ (n : ℕ). F n ((n, Shelf shelf) ∷ (e.0, Empty) ∷ [])) lanes_are
-          (handed t.next m.0, chain gives gives, (tt, tt), passes_back key (fits key.task) laid (stands key.task) s k id m.0 t shelf e.0 Empty at live shelved turn standing same e.1, (refl, refl)))
+          (handed t.next m.0, chain gives gives, (tt, tt), passes_back key (fits key.task) laid (stands key.task key.lanes) s k id m.0 t shelf e.0 Empty at live shelved turn standing same e.1, (refl, refl)))

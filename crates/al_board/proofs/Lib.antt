@@ -4,3 +4,5 @@ pub mod Draws
 pub mod Puts
 pub mod Batons
 pub mod Passes
+pub mod Opens
+pub mod Lays

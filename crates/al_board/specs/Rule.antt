@@ -1,5 +1,5 @@
 -- The rule of a board, in the counting form that the proofs use: of its words, its slots and the views of all passes, also of those that were dropped.
-use Rattle.std.specs.Prelude.{◌≡◌, ℕ, ◌+◌, ◌*◌, ◌^◌, ◌<◌, ◌≤◌, ◌⊎◌, min, max, Bool, true, false, List, [], map, length, Some, slice_index}
+use Rattle.std.specs.Prelude.{replicate, ◌∷◌, ◌++◌, ◌≡◌, ℕ, ◌+◌, ◌*◌, ◌^◌, ◌<◌, ◌≤◌, ◌⊎◌, min, max, Bool, true, false, List, [], map, length, Some, slice_index}
 use mathlib.Core.Option.{some}
 use mathlib.Core.Option as maybe
 use lib.ListN.{get_elem?}
@@ -77,3 +77,7 @@ module _ {T H K : Type 0} (key : Setting K) (fits : ℕ → T → Type 0) (laid 
     -- a legal history leads to what is shown
     pub legal : IsHistory fits key.lanes history
     pub core : played key.lanes history ≡ shown (slice_index s.words 0) s.views pieces judged
+
+-- n empty slots, and the last one
+abbrev pub IsRow : {T H : Type 0} → ℕ → Slot T H → List (Slot T H) → Type 0
+IsRow n last xs = xs ≡ replicate n Empty ++ last ∷ []

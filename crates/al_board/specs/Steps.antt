@@ -40,10 +40,10 @@ module _ {T H K : Type 0} where
   passed_on st m n m' = (m'.0 ≡ handed st.first m.0) × (m'.1 ≡ rest (rest m.1))
 
   -- a swap of the baton's word: another pass has it, and this one is not full; or it is this pass's now, with the shelf
-  abbrev pub seized : (laid : H → List T) (stands : K → H → Type 0) → Step (Slot T H) → Seated T H K → ℕ → Seated T H K → Type 0
+  abbrev pub seized : (laid : H → List T) (stands : K → ℕ → H → Type 0) → Step (Slot T H) → Seated T H K → ℕ → Seated T H K → Type 0
   seized laid stands st m n m' =
       (n ≡ 1025 → (m'.0 ≡ missed Baton m.0) × (m'.1 ≡ m.1) × ¬ (IsFull m.0))
-      × (n ≢ 1025 → (n ≤ m.0.lanes) × ((shelf : H) × (m'.0 ≡ at_turn n n (laid shelf) m.0) × (m'.1 ≡ (m.0.lanes, Shelf shelf) ∷ m.1) × (length (laid shelf) ≡ n) × ((task : K) → m.0.task ≡ Some task → stands task shelf)))
+      × (n ≢ 1025 → (n ≤ m.0.lanes) × ((shelf : H) × (m'.0 ≡ at_turn n n (laid shelf) m.0) × (m'.1 ≡ (m.0.lanes, Shelf shelf) ∷ m.1) × (length (laid shelf) ≡ n) × ((task : K) → m.0.task ≡ Some task → stands task m.0.lanes shelf)))
 
   -- a compare and exchange of a lane's word: the lane is taken, with its piece; or it was not filled, so this pass has not put it and is not full
   abbrev pub tried : (fits : K → ℕ → T → Type 0) → Step (Slot T H) → Seated T H K → ℕ → Seated T H K → Type 0

@@ -3,6 +3,8 @@
 #![tactic(auto)]
 
 mod calls;
+mod helping;
+mod opening;
 mod piece;
 mod pile;
 mod plays;

@@ -1,4 +1,5 @@
 //! The rule of a board, and what each of its steps tells. These types are for the proofs alone.
+ghost use Rattle.std.specs.Prelude.{◌≡◌};
 ghost use Rattle.al_board.specs.Rule.{IsKept};
 ghost use Rattle.al_board.specs.Views.{opener, spent_view, keeping, parted, joined};
 ghost use Rattle.al_board.specs.Steps.{drew, looked, took, filled, seized, tried, passed_on};
@@ -10,7 +11,7 @@ use atomic_table::{Join, Play, Split, TableRule};
 pub struct Lanes;
 
 impl<T: Piece> TableRule<Slot<T, T::Shelf>, View<T, T::Task>, Setting<T::Task>> for Lanes {
-    ghost holds = { λ key. IsKept key (T.fits key.task) T.laid (T.stands key.task) };
+    ghost holds = { λ key. IsKept key (T.fits key.task) T.laid (λ h. T.stands key.task h × (T.lanes key.task ≡ key.lanes)) };
 
     ghost first = { opener };
 }
@@ -42,7 +43,7 @@ impl<T, H, K> Play<Slot<T, H>, View<T, K>> for Fill {
 pub struct Seize;
 
 impl<T: Piece> Play<Slot<T, T::Shelf>, View<T, T::Task>> for Seize {
-    ghost then = { seized T.laid T.stands };
+    ghost then = { seized T.laid (λ k n h. T.stands k h × (T.lanes k ≡ n)) };
 }
 
 pub struct Try;
