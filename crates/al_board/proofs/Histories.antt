@@ -1,5 +1,5 @@
 -- At each kind of step the history grows by its events, or stays.
-use Rattle.std.proofs.Common.{◌≡◌, ◌≢◌, ℕ, zero, suc, ◌+◌, ◌<◌, ◌≤◌, ◌==◌, nat_lt, cond, Bool, true, false, List, [], ◌∷◌, ◌++◌, map, length, get_or, set, Option, Some, refl, sym, ap, ◌∙◌, subst, arith}
+use Rattle.std.proofs.Common.{◌≡◌, ◌≢◌, ℕ, zero, suc, ◌+◌, ◌<◌, ◌≤◌, ◌==◌, nat_lt, cond, Bool, true, false, List, [], ◌∷◌, ◌++◌, map, length, get_or, set, Option, Some, None, refl, sym, ap, ◌∙◌, subst, arith}
 use Rattle.std.proofs.lemmas.Bool.Decides.{nat_tests}
 use mathlib.Core.Option.{some, some-injective, some-ne-none}
 use mathlib.Core.List.{map-append}
@@ -142,3 +142,24 @@ module _ {T K : Type 0} where
           (subst (λ (c : Core T). IsLegal fits n (judges (j + m)) c) (sym ih.1) (refl, (p.0, each (j + m) p.0 p.1)), ih.0),
           ap (after n (judges (j + m))) ih.1 ∙ parts _ _ _ _ _ _ _ _ _ _ refl refl refl refl (omega arith),
         )
+
+-- each piece that a legal history put fits its lane
+pub pieces_fit : {T : Type 0} (fits : ℕ → T → Type 0) (n : ℕ) (h : List (Event T)) (x : ℕ) (p : T) → IsHistory fits n h → piece_of x (played n h).pieces ≡ Some p → fits x p
+pieces_fit fits n [] x p legal e = absurd (none_is p e)
+  where
+    none_is : {A : Type 0} (a : A) → None ≡ Some a → ⊥
+    none_is a h = cc
+pieces_fit fits n (draws q ∷ h) x p legal e = pieces_fit fits n h x p legal.1 e
+pieces_fit {T} fits n (puts q lane piece ∷ h) x p legal e = go (ℕ_discrete x lane) (λ (e' : piece_of x (played n h).pieces ≡ Some p). pieces_fit fits n h x p legal.1 e')
+  where
+    same_of : (a b : T) → Some a ≡ Some b → a ≡ b
+    same_of a b h = cc
+
+    go : Dec (x ≡ lane) → (piece_of x (played n h).pieces ≡ Some p → fits x p) → fits x p
+    go (yes is) ih =
+        let same : piece ≡ p = same_of piece p (sym (piece_here lane piece (played n h).pieces) ∙ ap (λ (z : ℕ). piece_of z ((lane, piece) ∷ (played n h).pieces)) (sym is) ∙ e) in
+        subst (λ (z : ℕ × T). fits z.0 z.1) (λ i. (sym is i, same i)) legal.0.3
+    go (no ne) ih = ih (sym (piece_else x lane piece (played n h).pieces ne) ∙ e)
+pieces_fit fits n (splits q ∷ h) x p legal e = pieces_fit fits n h x p legal.1 e
+pieces_fit fits n (joins q r ∷ h) x p legal e = pieces_fit fits n h x p legal.1 e
+pieces_fit fits n (judges lane ∷ h) x p legal e = pieces_fit fits n h x p legal.1 e

@@ -6,3 +6,5 @@ pub mod Batons
 pub mod Passes
 pub mod Opens
 pub mod Lays
+pub mod Gathers
+pub mod Ends

@@ -5,3 +5,4 @@ pub mod Rule
 pub mod Steps
 pub mod Seen
 pub mod Helps
+pub mod Rounds

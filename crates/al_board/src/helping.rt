@@ -50,7 +50,7 @@ impl<T: Piece> Board<T> {
     }
 
     // Takes the baton, if no other pass has it, lays what is next and filled, and gives the baton back.
-    fn take_turn(&self, pass: &mut Pass<T>) -> Helped
+    pub(crate) fn take_turn(&self, pass: &mut Pass<T>) -> Helped
         requires own { IsPassOf self.now pass.old }
         requires shelf { has_shelf self.now ≡ true }
         requires put { (1 ≤ length (view pass.old).put) ⊎ IsFull (view pass.old) }
