@@ -8,3 +8,5 @@ pub mod Opens
 pub mod Lays
 pub mod Gathers
 pub mod Ends
+pub mod Works
+pub mod Rules

@@ -6,3 +6,4 @@ pub mod Steps
 pub mod Seen
 pub mod Helps
 pub mod Rounds
+pub mod Ruled

@@ -73,3 +73,12 @@ module _ {T K : Type 0} where
     pub allowance : v.allowance ≤ 2 ^ 63
     pub draws : length v.drawn ≤ v.lanes
     pub puts : length v.put ≤ v.lanes
+
+module _ {T K : Type 0} where
+  -- a run that has ended: it drew some lanes and put these, and then no lane was left
+  abbrev pub HasRun : View T K → View T K → Type 0
+  HasRun v w = (lanes : List ℕ) × (w ≡ over (ran lanes v))
+
+  -- a run that was stopped: it drew some lanes and put these, and drew one more
+  abbrev pub HasStopped : View T K → View T K → Type 0
+  HasStopped v w = (lanes : List ℕ) × (lane : ℕ) × (w ≡ got lane (ran lanes v))

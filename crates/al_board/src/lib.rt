@@ -5,14 +5,18 @@
 mod calls;
 mod closing;
 mod helping;
+mod law;
 mod opening;
 mod piece;
 mod pile;
 mod plays;
 mod table;
 mod view;
+mod working;
 
+pub use law::rule_says;
 pub use piece::{Maker, Piece};
 pub use pile::Pile;
 pub use table::{Board, Pass};
+pub use working::{fill_next, work};
 pub use view::{Helped, Miss, Setting, Slot, Turn, View};

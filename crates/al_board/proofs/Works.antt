@@ -1,0 +1,39 @@
+-- A worker's run.
+use Rattle.std.proofs.Common.{◌≡◌, ℕ, ◌+◌, ◌≤◌, List, [], ◌∷◌, ◌++◌, refl, sym, ap, ◌∙◌, arith, None}
+use Rattle.std.proofs.lemmas.List.{append-nil, append_assoc}
+use Rattle.al_board.specs.declared.view.View.{View}
+use Rattle.al_count.specs.Counts.{times}
+use Rattle.al_count.proofs.Totals.{one_same, times_append, times_snoc}
+use Rattle.al_board.specs.Views.{IsBounded, HasPutAll, got, gave, over, ran}
+
+module _ {T K : Type 0} where
+  pub has_drawn : (v w : View T K) (lane : ℕ) → w ≡ got lane v → 1 ≤ times lane w.drawn
+  has_drawn v w lane e =
+      let t : times lane w.drawn ≡ times lane (v.drawn ++ lane ∷ []) = ap (λ (z : View T K). times lane z.drawn) e in
+      let s = times_snoc lane lane v.drawn in
+      let o = one_same lane in omega arith
+
+  -- what was not drawn was not put
+  pub is_not_put : (v w : View T K) (lane : ℕ) → w ≡ got lane v → IsBounded v → times lane v.drawn ≡ 0 → times lane w.put ≡ 0
+  is_not_put v w lane e b none =
+      let p : times lane w.put ≡ times lane v.put = ap (λ (z : View T K). times lane z.put) e in
+      let h = b.put lane in omega arith
+
+  -- a run of no lanes
+  pub ran_none : (v : View T K) → v ≡ ran [] v
+  ran_none v = λ i. record v { drawn = sym (append-nil v.drawn) i; put = sym (append-nil v.put) i }
+
+  -- and of one lane more
+  pub ran_more : (u v w : View T K) (lanes : List ℕ) (lane : ℕ) → v ≡ ran lanes u → w ≡ gave lane (got lane v) → u.holds ≡ None → w ≡ ran (lanes ++ lane ∷ []) u
+  ran_more u v w lanes lane e e' free =
+      e' ∙ ap (λ (z : View T K). gave lane (got lane z)) e
+      ∙ (λ i. record u { drawn = append_assoc u.drawn lanes (lane ∷ []) i; put = append_assoc u.put lanes (lane ∷ []) i; holds = sym free i })
+
+  -- where all was put, all is
+  pub ran_all : (v w : View T K) (lanes : List ℕ) → w ≡ over (ran lanes v) → HasPutAll v → HasPutAll w
+  ran_all v w lanes e all x =
+      let a = times_append x v.drawn lanes in
+      let b = times_append x v.put lanes in
+      let d : times x w.drawn ≡ times x (v.drawn ++ lanes) = ap (λ (z : View T K). times x z.drawn) e in
+      let p : times x w.put ≡ times x (v.put ++ lanes) = ap (λ (z : View T K). times x z.put) e in
+      let h = all x in omega arith
