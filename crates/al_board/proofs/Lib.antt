@@ -10,3 +10,4 @@ pub mod Gathers
 pub mod Ends
 pub mod Works
 pub mod Rules
+pub mod Verdicts

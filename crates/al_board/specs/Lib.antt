@@ -7,3 +7,4 @@ pub mod Seen
 pub mod Helps
 pub mod Rounds
 pub mod Ruled
+pub mod Verdicts

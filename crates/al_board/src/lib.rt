@@ -14,7 +14,7 @@ mod table;
 mod view;
 mod working;
 
-pub use law::rule_says;
+pub use law::{rule_says, verdicts_in_order};
 pub use piece::{Maker, Piece};
 pub use pile::Pile;
 pub use table::{Board, Pass};
