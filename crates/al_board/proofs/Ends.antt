@@ -18,7 +18,8 @@ use Rattle.al_board.specs.Piles.{on_pile, room_of}
 use Rattle.al_board.specs.Core.{Core, of, piece_of, played}
 use Rattle.al_board.specs.Views.{IsFull, missed, handed}
 use Rattle.al_board.specs.Rule.{AreFirst, IsBaton, IsKept}
-use Rattle.al_board.specs.Rounds.{AreFit, IsRound}
+use Rattle.al_board.specs.Fits.{AreFit}
+use Rattle.al_board.specs.Rounds.{IsRound}
 use Rattle.al_board.specs.Helps.{IsHelped}
 use Rattle.al_board.proofs.Histories.{at_of, pieces_fit}
 use Rattle.al_board.proofs.Parts.{at_most_one, full_puts, full_alone}

@@ -10,7 +10,7 @@ use Rattle.al_board.specs.declared.view.Slot.{Slot}
 use Rattle.al_board.specs.declared.view.Slot.TheVariants.{Empty, Piece, Shelf, Room}
 use Rattle.al_board.specs.declared.pile.Pile.{Pile}
 use Rattle.al_count.specs.Counts.{times}
-use Rattle.al_board.specs.Views.{IsBounded, IsFull, missed, at_turn, handed}
+use Rattle.al_board.specs.Views.{IsBounded, IsFull, IsSameWork, missed, at_turn, handed}
 use Rattle.al_board.specs.Steps.{spared}
 use Rattle.al_board.specs.Helps.{IsCarried, IsTurned, IsLaid, IsHelped}
 
@@ -78,18 +78,6 @@ module _ {T H : Type 0} where
   turned_none lanes next x c h = ⊎_elim (λ e. ap (λ z. rest (rest z)) e) (λ y. ap (λ z. rest (rest z)) y.2) h
 
 module _ {T K : Type 0} where
-  -- its work, its rights and its board are the same
-  pub record IsSameWork (v w : View T K) : Type 0 where
-    pub task : w.task ≡ v.task
-    pub lanes : w.lanes ≡ v.lanes
-    pub shelved : w.shelved ≡ v.shelved
-    pub drawn : w.drawn ≡ v.drawn
-    pub put : w.put ≡ v.put
-    pub holds : w.holds ≡ v.holds
-    pub ended : w.ended ≡ v.ended
-    pub allowance : w.allowance ≡ v.allowance
-    pub share : w.share ≡ v.share
-
   work_as : (v w u : View T K) → w ≡ u → IsSameWork v u → IsSameWork v w
   work_as v w u e h = subst (IsSameWork v) (sym e) h
 
@@ -135,3 +123,7 @@ module _ {T K : Type 0} where
       (λ (t : (next < u.lanes) × (x ≡ handed next (missed (Lane next) u)) × (times next u.put ≡ 0) × ¬ (IsFull u)).
       (work_as u x (handed next (missed (Lane next) u)) t.1 record { task = refl; lanes = refl; shelved = refl; drawn = refl; put = refl; holds = refl; ended = refl; allowance = refl; share = refl }, ap (λ z. z.turn) t.1))
       h.1
+
+  pub helped_same : (v w : View T K) (r : Helped) → IsHelped v w r → IsSameWork v w
+  helped_same v w Busy h = missed_work Baton v w h.0
+  helped_same v w (Advanced j) h = (helped_work j v w h).0

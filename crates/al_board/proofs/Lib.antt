@@ -11,3 +11,4 @@ pub mod Ends
 pub mod Works
 pub mod Rules
 pub mod Verdicts
+pub mod Heaps

@@ -1,3 +1,4 @@
+pub mod Fits
 pub mod Piles
 pub mod Core
 pub mod Views

@@ -1,7 +1,6 @@
 -- What a clause says of a plain shelf.
 use Rattle.std.specs.Prelude.{◌≡◌, ℕ, ◌≤◌, List, length, vec_capacity}
-use mathlib.Core.Option.{some}
-use lib.ListN.{get_elem?}
+use Rattle.al_board.specs.Fits.{AreFit}
 use Rattle.al_board.specs.declared.pile.Pile.{Pile}
 
 module _ {T : Type 0} where
@@ -16,4 +15,4 @@ module _ {T : Type 0} where
   -- it has room for as many pieces as there are lanes, and its pieces fit their lanes
   pub record IsPileFor (fits : ℕ → T → Type 0) (lanes : ℕ) (p : Pile T) : Type 0 where
     pub room : lanes ≤ room_of p
-    pub fit : (lane : ℕ) (piece : T) → get_elem? (on_pile p) lane ≡ some piece → fits lane piece
+    pub fit : AreFit fits (on_pile p)

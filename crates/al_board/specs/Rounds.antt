@@ -5,10 +5,6 @@ use lib.ListN.{get_elem?}
 use Rattle.al_board.specs.declared.view.View.{View}
 use Rattle.al_board.specs.Core.{Event, of, played, piece_of, IsHistory}
 
--- each piece fits the lane whose number is its place
-abbrev pub AreFit : {T : Type 0} → (ℕ → T → Type 0) → List T → Type 0
-AreFit fits pieces = (lane : ℕ) (piece : _) → get_elem? pieces lane ≡ some piece → fits lane piece
-
 -- There is a legal history in which these pieces were put, each into the lane whose number is its place, so many were judged, and this pass drew and put what its view says
 pub record IsRound {T K : Type 0} (fits : ℕ → T → Type 0) (lanes judged pass : ℕ) (v : View T K) (pieces : List T) : Type 0 where
   pub history : List (Event T)

@@ -11,7 +11,7 @@ use Rattle.al_board.specs.declared.view.Slot.TheVariants.{Empty, Piece, Shelf}
 use Rattle.al_count.specs.Counts.{times, total}
 use Rattle.al_board.specs.Core.{Event, played, piece_of, IsHistory}
 use Rattle.al_board.specs.Rule.{shown}
-use Rattle.al_board.specs.Rounds.{AreFit}
+use Rattle.al_board.specs.Fits.{AreFit}
 
 module _ {T H K : Type 0} (key : Setting K) (fits : ℕ → T → Type 0) (laid : H → List T) (stands : H → Type 0) (s : State (Slot T H) (View T K)) where
   -- the pass of this number knows this, also once it is dropped

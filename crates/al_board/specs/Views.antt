@@ -82,3 +82,15 @@ module _ {T K : Type 0} where
   -- a run that was stopped: it drew some lanes and put these, and drew one more
   abbrev pub HasStopped : View T K → View T K → Type 0
   HasStopped v w = (lanes : List ℕ) × (lane : ℕ) × (w ≡ got lane (ran lanes v))
+
+  -- its work, its rights and its board are the same
+  pub record IsSameWork (v w : View T K) : Type 0 where
+    pub task : w.task ≡ v.task
+    pub lanes : w.lanes ≡ v.lanes
+    pub shelved : w.shelved ≡ v.shelved
+    pub drawn : w.drawn ≡ v.drawn
+    pub put : w.put ≡ v.put
+    pub holds : w.holds ≡ v.holds
+    pub ended : w.ended ≡ v.ended
+    pub allowance : w.allowance ≡ v.allowance
+    pub share : w.share ≡ v.share

@@ -8,7 +8,8 @@ ghost use Rattle.al_board.specs.declared.view.Slot.TheVariants.{Piece};
 ghost use Rattle.al_board.specs.Piles.{on_pile, room_of};
 ghost use Rattle.al_board.specs.Seen.{view, pass_number, IsPassOf, lane_count, task_of, has_shelf};
 ghost use Rattle.al_board.specs.Views.{IsFull};
-ghost use Rattle.al_board.specs.Rounds.{AreFit, IsRound};
+ghost use Rattle.al_board.specs.Fits.{AreFit};
+ghost use Rattle.al_board.specs.Rounds.{IsRound};
 
 use crate::piece::Piece;
 use crate::pile::Pile;

@@ -2,7 +2,7 @@
 ghost use Rattle.std.specs.Prelude.{ℕ, true, ◌≡◌, ◌≢◌, ◌+◌, ◌<◌, ◌≤◌, ◌⊎◌, [], ◌∷◌, Some, None, length};
 ghost use Rattle.al_board.specs.declared.view.Slot.TheVariants.{Empty};
 ghost use Rattle.al_board.specs.Seen.{view, IsSame, IsPassOf, lane_count, task_of, has_shelf};
-ghost use Rattle.al_board.specs.Views.{at_turn, IsFull};
+ghost use Rattle.al_board.specs.Views.{at_turn, IsFull, IsSameWork};
 ghost use Rattle.al_board.specs.Helps.{IsHelped, IsLaid, IsCarried};
 
 use crate::piece::Piece;
@@ -96,6 +96,7 @@ impl<T: Piece> Board<T> {
         requires put { 1 ≤ length (view pass.old).put }
         ensures own { IsSame self.now pass.old pass.new }
         ensures helped { IsHelped (view pass.old) (view pass.new) result }
+        ensures same { IsSameWork (view pass.old) (view pass.new) }
     {
         self.take_turn(pass)
     }

@@ -11,6 +11,8 @@ mod piece;
 mod pile;
 mod plays;
 mod table;
+#[cfg(test)]
+mod tests;
 mod view;
 mod working;
 

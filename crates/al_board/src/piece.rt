@@ -1,5 +1,6 @@
 //! What is put into lanes, and what makes it.
 ghost use Rattle.std.specs.Prelude.{ℕ, ◌≡◌, ◌<◌, List, [], ◌∷◌, ◌++◌, IfOk, length};
+ghost use Rattle.al_board.specs.Fits.{AreFit};
 
 use std::alloc::AllocError;
 
@@ -30,6 +31,9 @@ pub trait Piece: Send + Drop {
         requires fits { fits task.now (length (laid shelf.old)) piece }
         ensures stands { stands task.now shelf.new }
         ensures laid { laid shelf.new ≡ laid shelf.old ++ piece ∷ [] };
+
+    // A law: on a shelf that stands, each piece fits the lane whose number is its place.
+    ghost stands_fit: { (task : Self.Task) (shelf : Self.Shelf) → stands task shelf → AreFit (fits task) (laid shelf) };
 }
 
 /// Makes the pieces of a task.

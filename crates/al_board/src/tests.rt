@@ -1,0 +1,119 @@
+ghost use Rattle.std.specs.Prelude.{ℕ, true, false, ◌≡◌, ◌+◌, ◌*◌, ◌<◌, ◌≤◌, ◌^◌, IfOk, length};
+ghost use Rattle.al_board.specs.Fits.{AreFit};
+ghost use Rattle.al_board.specs.Piles.{on_pile, IsPileFor};
+ghost use Rattle.al_board.specs.Seen.{view, IsPassOf, lane_count, task_of};
+ghost use Rattle.al_board.specs.Views.{HasPutAll};
+
+use crate::{Board, Helped, Maker, Pass, Piece, Pile, fill_next, work};
+use sqlite_items::Items;
+use std::alloc::{AllocError, Global};
+use std::test::Fail;
+use std::thread;
+use std::thread::Threads;
+
+// The piece of lane k has the number 2k + 1; the task is the number of lanes.
+#[derive(Drop)]
+struct Mark {
+    value: u64,
+}
+
+impl Piece for Mark {
+    type Task = u32;
+
+    type Shelf = Pile<Mark>;
+
+    ghost fits = { λ task lane piece. piece.value ≡ 2 * lane + 1 };
+
+    ghost lanes = { λ task. task };
+
+    ghost laid = { on_pile };
+
+    ghost stands = { λ task pile. IsPileFor (λ lane piece. piece.value ≡ 2 * lane + 1) task pile };
+
+    fn lay(task: &u32, shelf: &mut Pile<Mark>, piece: Mark) {
+        let _ = task;
+        shelf.lay(piece);
+    }
+
+    ghost stands_fit = { λ task shelf h. h.fit };
+}
+
+#[derive(Drop)]
+struct Marker {
+    lanes: u32,
+}
+
+impl Maker<Mark> for Marker {
+    ghost task = { λ m. m.lanes };
+
+    ghost lanes = { λ m. m.lanes };
+
+    fn make(&self, lane: u32) -> Result<Mark, AllocError> {
+        Ok(mark(lane))
+    }
+}
+
+fn mark(lane: u32) -> Mark
+    ensures { result.value ≡ 2 * lane + 1 }
+{
+    Mark {
+        value: 2 * lane as u64 + 1,
+    }
+}
+
+// Whether there are so many pieces, each in its lane.
+fn is_whole(pieces: &Items<Mark>, lanes: usize) -> bool {
+    let mut right = pieces.len() == lanes;
+    for (lane, piece) in pieces.as_slice().iter().enumerate() {
+        right = right && piece.value == (lane as u64).wrapping_mul(2).wrapping_add(1);
+    }
+    right
+}
+
+// One pass fills a whole board; it has the whole share when it ends.
+fn fill(alloc: Global, lanes: u32) -> Result<Items<Mark>, AllocError>
+    requires { (1 ≤ lanes) × (lanes ≤ 1024) }
+    ensures each { IfOk result (λ v. length v ≡ lanes) }
+    ensures fit { IfOk result (λ v. AreFit (λ lane piece. piece.value ≡ 2 * lane + 1) v) }
+{
+    let (board, mut pass) = Board::<Mark>::new(alloc, lanes, lanes)?;
+    work(&board, &mut pass, &Marker { lanes })?;
+    Ok(board.close(pass))
+}
+
+#[test]
+fn boards_of_any_size(rt: HostRuntime) -> Result<(), Fail> {
+    for lanes in [1, 2, 1024] {
+        assert!(rt; is_whole(&fill(rt.alloc(), lanes)?, lanes as usize));
+    }
+    Ok(())
+}
+
+#[test]
+fn two_passes_in_turn(rt: HostRuntime) -> Result<(), Fail> {
+    let (board, mut one) = Board::<Mark>::new(rt.alloc(), 2, 2)?;
+    assert!(rt; board.allowance(&one) == 1 << 63);
+    let mut two = board.split(&mut one);
+    assert!(rt; board.allowance(&one) == 1 << 62 && board.allowance(&two) == 1 << 62);
+    let second = board.draw(&mut two).expect(&rt, "a lane");
+    let first = board.draw(&mut one).expect(&rt, "a lane");
+    board.put(&mut one, first, mark(first));
+    board.put(&mut two, second, mark(second));
+    board.join(&mut one, two);
+    assert!(rt; board.filled(&one) == 2);
+    assert!(rt; is_whole(&board.close(one), 2));
+    Ok(())
+}
+
+#[test]
+fn a_pass_is_dropped(rt: HostRuntime) -> Result<(), Fail> {
+    let (board, mut one) = Board::<Mark>::new(rt.alloc(), 3, 3)?;
+    let mut two = board.split(&mut one);
+    assert!(rt; board.draw(&mut two) == Some(0));
+    drop(two);
+    let maker = Marker { lanes: 3 };
+    assert!(rt; fill_next(&board, &mut one, &maker)? == Some(1));
+    work(&board, &mut one, &maker)?;
+    assert!(rt; board.filled(&one) == 2);
+    Ok(())
+}
