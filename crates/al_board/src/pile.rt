@@ -20,9 +20,7 @@ impl<T: Drop> Pile<T> {
         let items = Vec::with_capacity(alloc, room as usize)?;
         Ok(Pile { items })
     }
-}
 
-impl<T> Pile<T> {
     /// Lays a piece after the others. It takes no memory.
     pub fn lay(&mut self, piece: T)
         requires { length (on_pile self.old) < room_of self.old }
