@@ -190,17 +190,17 @@ module _ {T H K : Type 0} (key : Setting K) (fits : ℕ → T → Type 0) (laid 
             h.3.1,
             baton_step s k id v w at 1025 maybe.none k.judged k.history refl refl refl refl refl
                 (sound_one key fits laid stands (get_or s.words 0 0) k.taken k.judged k.pieces s.views id w k.sound record {
-              about = so.about;
-              late = so.late;
-              spent = so.spent;
-              paid = so.paid;
-              able = so.able;
-              own = so.own;
-              turn = λ t e.
-                  let q : record { found = r; next = r; laid = laid shelf } ≡ t = the_same w.turn record { found = r; next = r; laid = laid shelf } t refl e in
-                  subst (λ (z : Turn T). (z.next ≡ k.taken) × (z.found ≡ k.judged) × (1 ≤ length v.put) × AreFirst k.taken z.laid k.pieces) q (is, is ∙ sym h.1, has_put, first);
-              given = so.given;
-            })
+                  about = so.about;
+                  late = so.late;
+                  spent = so.spent;
+                  paid = so.paid;
+                  able = so.able;
+                  own = so.own;
+                  turn = λ t e.
+                      let q : record { found = r; next = r; laid = laid shelf } ≡ t = the_same w.turn record { found = r; next = r; laid = laid shelf } t refl e in
+                      subst (λ (z : Turn T). (z.next ≡ k.taken) × (z.found ≡ k.judged) × (1 ≤ length v.put) × AreFirst k.taken z.laid k.pieces) q (is, is ∙ sym h.1, has_put, first);
+                  given = so.given;
+                })
                 reached.0
                 (is_baton with_shelf _ _ _ _ _ _ (inl (refl, let t = total_set tu s.views id v w at in let z : present v.turn ≡ 0 = ap present idle in let o = h.2 in omega arith)))
                 (told_same fits n (get_or s.words 0 0) s.views k.pieces k.judged k.history id v w at refl refl (told_of key fits laid stands s k)),
@@ -378,8 +378,8 @@ module _ {T H K : Type 0} (key : Setting K) (fits : ℕ → T → Type 0) (laid 
   -- the same, where the slot of a lane that was taken is given back first
   tries_back : (s : St) (k : Kept s) (id : ℕ) (v : V) (lane : ℕ) (y : Slot T H) (c : Held) (t : Turn T) → get_elem? s.views id ≡ some v → 0 < v.share → v.shelved ≡ true → v.turn ≡ Some t → t.next < key.lanes → lane < t.next
       → (w : V) × (a : Act (Slot T H)) × Valid s.homes ((lane, y) ∷ c) a × Kept (stepped s (t.next + 1) (either (eqb (get_or s.words (t.next + 1) 0) 2) 3 (get_or s.words (t.next + 1) 0)) id ((lane, y) ∷ c) w a)
-          × ((get_or s.words (t.next + 1) 0 ≡ 2 → (piece : T) × (w ≡ at_turn t.found (t.next + 1) (t.laid ++ piece ∷ []) v) × (carried_after ((lane, y) ∷ c) a ≡ (t.next, Piece piece) ∷ c) × fits t.next piece)
-          × (get_or s.words (t.next + 1) 0 ≢ 2 → (w ≡ missed (Lane t.next) v) × (carried_after ((lane, y) ∷ c) a ≡ c) × (times t.next v.put ≡ 0) × ¬ (IsFull v)))
+      × ((get_or s.words (t.next + 1) 0 ≡ 2 → (piece : T) × (w ≡ at_turn t.found (t.next + 1) (t.laid ++ piece ∷ []) v) × (carried_after ((lane, y) ∷ c) a ≡ (t.next, Piece piece) ∷ c) × fits t.next piece)
+      × (get_or s.words (t.next + 1) 0 ≢ 2 → (w ≡ missed (Lane t.next) v) × (carried_after ((lane, y) ∷ c) a ≡ c) × (times t.next v.put ≡ 0) × ¬ (IsFull v)))
   tries_back s k id v lane y c t at live shelved turn near low =
       let q = ((k.sound id v at).turn t turn).0 in
       let three = is_three s k lane (omega arith) in

@@ -183,8 +183,7 @@ module _ {T H K : Type 0} (key setting : Setting K) (about : key ≡ setting) (f
       let share : w.share ≡ v.share = ap (λ (z : View T K). z.share) q.0 in
       let n : v.lanes ≡ key.lanes = lanes ∙ ap (λ (z : Setting K). z.lanes) (sym about) in
       let found = shelf_found key (fits key.task) laid (stands key.task key.lanes) id' w ws xs x (ap (λ (z : Setting K). z.shelved) about ∙ shelved) (omega arith) (subst IsFull (sym q.0) full) (ap (λ (z : View T K). z.turn) q.0) (subst (λ (z : ℕ). 1 ≤ times z w.given) n q.1) f (moved xs (some x) there) in
-      let round : IsRound (fits key.task) key.lanes key.lanes id' w (laid found.0) = found.5 in
-      (
+      let round : IsRound (fits key.task) key.lanes key.lanes id' w (laid found.0) = found.5 in (
         found.0,
         found.1,
         subst (λ (z : Setting K). stands z.task z.lanes found.0 × (length (laid found.0) ≡ z.lanes) × AreFit (fits z.task) (laid found.0) × IsRound (fits z.task) z.lanes z.lanes id v (laid found.0)) about (

@@ -59,10 +59,7 @@ impl<T: Piece> Board<T> {
     {
         let last = self.setting.lanes as usize;
         let baton = last + 1;
-        let found = self
-            .table
-            .shared
-            .swap::<Seize>(&mut pass.seat, baton, 1025);
+        let found = self.table.shared.swap::<Seize>(&mut pass.seat, baton, 1025);
         if found == 1025 {
             return Helped::Busy;
         }

@@ -20,5 +20,5 @@ pub use law::{rule_says, verdicts_in_order};
 pub use piece::{Maker, Piece};
 pub use pile::Pile;
 pub use table::{Board, Pass};
-pub use working::{fill_next, work};
 pub use view::{Helped, Miss, Setting, Slot, Turn, View};
+pub use working::{fill_next, work};

@@ -15,8 +15,7 @@ compare_exchange-word-requires g c =
     let q = c.args.self.now.sized in
     let t = c.loop-next-test.true in
     let s : c.loop-next.seat.me.0.share ≡ c.args.seat.now.me.0.share = ap (λ z. z.share) i.view in
-    let l = a.3 in
-    (
+    let l = a.3 in (
       i.table ∙ c.requires.own,
       omega arith,
       tries c.args.self.now.table.shared.key g.T.Piece.fits g.T.Piece.laid (λ k n h. g.T.Piece.stands k h × (g.T.Piece.lanes k ≡ n)) _ c.args.self.now.setting.lanes _ _ _

@@ -8,8 +8,7 @@ use Rattle.al_board.proofs.table.Board.take_turn.Goals as goal
 
 pub swap-found-requires : goal.swap-found-requires
 swap-found-requires g c =
-    let q = c.args.self.now.sized in
-    (
+    let q = c.args.self.now.sized in (
       c.requires.own.0,
       omega arith,
       seizes c.args.self.now.table.shared.key g.T.Piece.fits g.T.Piece.laid (λ k n h. g.T.Piece.stands k h × (g.T.Piece.lanes k ≡ n)) _ c.args.self.now.setting.lanes _ _ _ c.requires.own.2 c.args.pass.now.live.0 (c.requires.own.3 ∙ c.requires.shelf) c.args.pass.now.idle.2 c.requires.put,
@@ -31,8 +30,7 @@ swap-requires g c =
     let w = laid_work n c.swap-found.result c.lay_on-next.result (g.T.Piece.laid c.lay_on-next.new.shelf) c.exchange.new.seat.me.0 c.lay_on-next.new.seat.me.0 laid in
     let me : c.exchange-in-Shelf.new.seat.me.0 ≡ c.lay_on-next.new.seat.me.0 = ap (λ z. z.0) c.exchange-in-Shelf.ensures.3 ∙ ap (λ z. z.0) c.turn.ensures.2 in
     let share : c.exchange-in-Shelf.new.seat.me.0.share ≡ c.args.pass.now.seat.me.0.share = ap (λ z. z.share) me ∙ w.share ∙ ap (λ z. z.share) e in
-    let live = c.args.pass.now.live.0 in
-    (
+    let live = c.args.pass.now.live.0 in (
       c.exchange-in-Shelf.ensures.0 ∙ c.turn.ensures.0 ∙ c.lay_on-next.ensures.own.0 ∙ c.exchange.ensures.0 ∙ c.swap-found.ensures.0 ∙ own.0,
       omega arith,
       passes_on c.args.self.now.table.shared.key g.T.Piece.fits g.T.Piece.laid (λ k n h. g.T.Piece.stands k h × (g.T.Piece.lanes k ≡ n)) _ n _ _
