@@ -14,8 +14,8 @@ use Rattle.al_board.specs.declared.view.View.{View}
 use Rattle.al_board.specs.declared.view.Miss.TheVariants.{Baton, Lane}
 use Rattle.al_board.specs.declared.view.Slot.{Slot}
 use Rattle.al_board.specs.declared.view.Slot.TheVariants.{Empty, Piece, Shelf}
-use Rattle.al_count.specs.Counts.{one, below, times, holding, total, present}
-use Rattle.al_count.proofs.Totals.{one_same, one_other, below_yes, below_no, below_next, times_snoc, times_length, total_set, total_same, member_le, two_members, at_end}
+use Rattle.al_count.specs.Counts.{below, times, holding, total, present}
+use Rattle.al_count.proofs.Totals.{one_other, below_yes, below_no, below_next, times_snoc, times_length, total_set, total_same, member_le, two_members, at_end}
 use Rattle.al_board.specs.Core.{Event, piece_of}
 use Rattle.al_board.specs.Views.{IsFull, missed, at_turn, handed}
 use Rattle.al_board.specs.Rule.{AreFirst, IsSound, IsSlot, IsBaton, IsKept}
@@ -36,9 +36,6 @@ module _ {T H K : Type 0} (key : Setting K) (fits : ℕ → T → Type 0) (laid 
 
   abbrev St : Type 0
   St = State (Slot T H) (View T K)
-
-  abbrev Homes : Type 0
-  Homes = List (maybe.Option (Slot T H))
 
   abbrev Held : Type 0
   Held = List (ℕ × Slot T H)

@@ -1,5 +1,5 @@
 -- Draws, splits, joins and loads keep the rule.
-use Rattle.std.proofs.Common.{◌≡◌, ℕ, ◌+◌, ◌%◌, ◌^◌, ◌<◌, ◌≤◌, nat_lt, cond, Bool, min, max, false, true≢false, List, [], ◌∷◌, ◌++◌, length, get_or, set, Some, None, refl, sym, ap, ◌∙◌, subst, mod-eq_of_lt, arith, length-append, length-set, get_or-set_same, get_or-set_other}
+use Rattle.std.proofs.Common.{◌≡◌, ℕ, ◌+◌, ◌%◌, ◌^◌, ◌<◌, ◌≤◌, nat_lt, cond, Bool, min, max, false, true≢false, List, [], ◌∷◌, ◌++◌, get_or, set, Some, None, refl, sym, ap, ◌∙◌, subst, mod-eq_of_lt, arith, length-append, length-set, get_or-set_same, get_or-set_other}
 use mathlib.Core.Option.{some}
 use mathlib.Core.Option as maybe
 use native.Mathlib.Decide.{dec_le}
@@ -8,13 +8,12 @@ use lib.Seq.{set-get_or}
 use Rattle.atomic_table.specs.Table.{State, Act, keeps, step, stepped, Valid, carried_after, Allows, Splits, Joins}
 use Rattle.atomic_table.proofs.Lists.{set_else, set_again}
 use Rattle.al_board.specs.declared.view.Setting.{Setting}
-use Rattle.al_board.specs.declared.view.Turn.{Turn}
 use Rattle.al_board.specs.declared.view.View.{View}
 use Rattle.al_board.specs.declared.view.Slot.{Slot}
 use Rattle.al_count.specs.Counts.{below, times, holding, total, present}
 use Rattle.al_count.proofs.Totals.{below_next, times_append, times_snoc, total_set, total_snoc, total_same, set_at}
 use Rattle.al_board.specs.Core.{draws, splits, joins}
-use Rattle.al_board.specs.Views.{IsBounded, got, over, keeping, parted, joined, spent_view}
+use Rattle.al_board.specs.Views.{got, over, keeping, parted, joined, spent_view}
 use Rattle.al_board.specs.Rule.{IsSound, IsKept}
 use Rattle.al_board.specs.Steps.{drew, looked}
 use Rattle.al_board.proofs.Histories.{lt_yes, lt_no, told_draw, told_split, told_join}

@@ -1,5 +1,5 @@
 -- What a full pass finds in the closed table.
-use Rattle.std.proofs.Common.{◌≡◌, ℕ, ◌+◌, ◌*◌, ◌^◌, ◌<◌, ◌≤◌, ◌⊎◌, Bool, true, false, List, [], ◌∷◌, ◌++◌, length, get_or, Option, Some, None, sym, ap, ◌∙◌, subst, inl, inr, ⊎_elim, arith}
+use Rattle.std.proofs.Common.{◌≡◌, ℕ, ◌+◌, ◌<◌, ◌≤◌, Bool, true, false, List, [], ◌∷◌, ◌++◌, length, get_or, Some, None, sym, ap, ◌∙◌, subst, inl, inr, ⊎_elim, arith}
 use mathlib.Core.Option.{some, some-injective}
 use mathlib.Core.Option as maybe
 use lib.ListN.{get_elem?}
@@ -12,7 +12,7 @@ use Rattle.al_board.specs.declared.view.Slot.TheVariants.{Piece, Shelf, Room}
 use Rattle.al_board.specs.declared.view.Helped.{Helped}
 use Rattle.al_board.specs.declared.view.Helped.TheVariants.{Busy, Advanced}
 use Rattle.al_board.specs.declared.view.Miss.TheVariants.{Lane}
-use Rattle.al_count.specs.Counts.{one, below, times, holding, total, present}
+use Rattle.al_count.specs.Counts.{one, times, total, present}
 use Rattle.al_count.proofs.Totals.{one_same, below_no, times_snoc, member_le, place_below}
 use Rattle.al_board.specs.Piles.{on_pile, room_of}
 use Rattle.al_board.specs.Core.{Core, of, piece_of, played}
@@ -160,10 +160,6 @@ module _ {T H K : Type 0} (key setting : Setting K) (about : key ≡ setting) (f
       let found = plain_room key (fits key.task) laid (stands key.task key.lanes) id v ws xs x (ap (λ (z : Setting K). z.shelved) about ∙ e) f (moved xs (some x) there) in
       let same = same_room found.0 room (sym found.1 ∙ is) in
       subst (λ (z : Pile T × Setting K). (on_pile z.0 ≡ []) × (z.1.lanes ≤ room_of z.0)) (λ i. (same i, about i)) (found.2, found.3)
-
-  pub close_is_room : (id : ℕ) (v : View T K) (ws : List ℕ) (xs : List (Slot T H)) (x : Slot T H) → setting.shelved ≡ false → Ends id v ws xs → get_elem? xs setting.lanes ≡ some x → (room : Pile T) × (x ≡ Room room)
-  close_is_room id v ws xs x e f there =
-      let found = plain_room key (fits key.task) laid (stands key.task key.lanes) id v ws xs x (ap (λ (z : Setting K). z.shelved) about ∙ e) f (moved xs (some x) there) in (found.0, found.1)
 
   pub close_round : (id : ℕ) (v : View T K) (ws : List ℕ) (xs ys : List (Slot T H)) (ps : List T) → setting.shelved ≡ false → 0 < v.share → IsFull v → Ends id v ws xs → length ps ≡ setting.lanes → ys ≡ xs
       → ((k : ℕ) (piece : T) → get_elem? ps k ≡ some piece → get_elem? ys k ≡ some (Piece piece)) → AreFit (fits setting.task) ps × IsRound (fits setting.task) setting.lanes 0 id v ps

@@ -1,5 +1,5 @@
 -- What the steps of a run that lays pieces give, and what it leaves to the pass.
-use Rattle.std.proofs.Common.{◌≡◌, ◌≢◌, ℕ, ◌+◌, ◌<◌, ◌≤◌, ◌⊎◌, List, [], ◌∷◌, ◌++◌, length, Some, None, refl, sym, ap, ◌∙◌, subst, inl, inr, ⊎_elim, arith}
+use Rattle.std.proofs.Common.{◌≡◌, ℕ, ◌<◌, ◌≤◌, List, [], ◌∷◌, length, Some, None, refl, sym, ap, ◌∙◌, subst, inl, inr, ⊎_elim, arith}
 use Rattle.atomic_table.specs.Table.{rest, turned}
 use Rattle.al_board.specs.declared.view.View.{View}
 use Rattle.al_board.specs.declared.view.Miss.{Miss}
@@ -51,15 +51,6 @@ module _ {T H : Type 0} where
   pub room_shelf : (r : Pile T) (h : H) → ◌≡◌ {A = Slot T H} (Room r) (Shelf h) → ⊥
   room_shelf r h e = cc
 
-  pub empty_room : (r : Pile T) → ◌≡◌ {A = Slot T H} Empty (Room r) → ⊥
-  empty_room r e = cc
-
-  pub piece_room : (p : T) (r : Pile T) → ◌≡◌ {A = Slot T H} (Piece p) (Room r) → ⊥
-  piece_room p r e = cc
-
-  pub shelf_room : (h : H) (r : Pile T) → ◌≡◌ {A = Slot T H} (Shelf h) (Room r) → ⊥
-  shelf_room h r e = cc
-
   pub spared_is : (lanes next : ℕ) (c : List (ℕ × Slot T H)) → IsCarried lanes next c → spared c ≡ (lanes, Empty) ∷ []
   spared_is lanes next c h = ⊎_elim (λ e. ap spared e) (λ x. ap spared x.2) h
 
@@ -67,31 +58,13 @@ module _ {T H : Type 0} where
   pub turned_is : (lanes next : ℕ) (c : List (ℕ × Slot T H)) → IsCarried lanes next c → IsTurned lanes next Empty (turned c)
   turned_is lanes next c h = ⊎_elim (λ e. inl (ap turned e)) (λ x. inr (x.0, x.1, ap turned x.2)) h
 
-  pub turned_front : (lanes next : ℕ) (x : Slot T H) (c : List (ℕ × Slot T H)) → IsTurned lanes next x c → c ≡ (lanes, x) ∷ rest c
-  turned_front lanes next x c h = ⊎_elim (λ e. e ∙ (λ i. (lanes, x) ∷ sym (ap rest e) i)) (λ y. y.2 ∙ (λ i. (lanes, x) ∷ sym (ap rest y.2) i)) h
-
   -- and gets something else
   pub turned_other : (lanes next : ℕ) (x y : Slot T H) (c d : List (ℕ × Slot T H)) → IsTurned lanes next x c → d ≡ (lanes, y) ∷ rest c → IsTurned lanes next y d
   turned_other lanes next x y c d h e = ⊎_elim (λ q. inl (e ∙ ap (λ z. (lanes, y) ∷ rest z) q)) (λ q. inr (q.0, q.1, e ∙ ap (λ z. (lanes, y) ∷ rest z) q.2)) h
 
-  pub turned_none : (lanes next : ℕ) (x : Slot T H) (c : List (ℕ × Slot T H)) → IsTurned lanes next x c → rest (rest c) ≡ []
-  turned_none lanes next x c h = ⊎_elim (λ e. ap (λ z. rest (rest z)) e) (λ y. ap (λ z. rest (rest z)) y.2) h
-
 module _ {T K : Type 0} where
   work_as : (v w u : View T K) → w ≡ u → IsSameWork v u → IsSameWork v w
   work_as v w u e h = subst (IsSameWork v) (sym e) h
-
-  itself : (v : View T K) → IsSameWork v v
-  itself v = record { task = refl; lanes = refl; shelved = refl; drawn = refl; put = refl; holds = refl; ended = refl; allowance = refl; share = refl }
-
-  pub bounded_like : (v w : View T K) → IsSameWork v w → IsBounded v → IsBounded w
-  bounded_like v w s b = record {
-    drawn = λ x. subst (λ (z : List ℕ × ℕ). times x z.0 ≤ Rattle.al_count.specs.Counts.below x z.1) (λ i. (sym s.drawn i, sym s.lanes i)) (b.drawn x);
-    put = λ x. subst (λ (z : List ℕ × List ℕ). times x z.0 ≤ times x z.1) (λ i. (sym s.put i, sym s.drawn i)) (b.put x);
-    allowance = let e = s.allowance in let h = b.allowance in omega arith;
-    draws = let e : length w.drawn ≡ length v.drawn = ap length s.drawn in let h = b.draws in let l = s.lanes in omega arith;
-    puts = let e : length w.put ≡ length v.put = ap length s.put in let h = b.puts in let l = s.lanes in omega arith;
-  }
 
   pub missed_work : (m : Miss) (v w : View T K) → w ≡ missed m v → IsSameWork v w
   missed_work m v w e = work_as v w (missed m v) e record { task = refl; lanes = refl; shelved = refl; drawn = refl; put = refl; holds = refl; ended = refl; allowance = refl; share = refl }

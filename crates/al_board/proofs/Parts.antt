@@ -1,5 +1,5 @@
 -- The parts of the rule, and the facts that follow from it.
-use Rattle.std.proofs.Common.{◌≡◌, ◌≢◌, ℕ, zero, suc, ◌+◌, ◌*◌, ◌^◌, ◌<◌, ◌≤◌, min, max, Bool, true, false, List, [], ◌∷◌, ◌++◌, length, get_or, set, Option, Some, None, refl, sym, ap, ◌∙◌, subst, inl, inr, ⊎_elim, arith}
+use Rattle.std.proofs.Common.{◌≡◌, ◌≢◌, ℕ, ◌+◌, ◌*◌, ◌^◌, ◌<◌, ◌≤◌, min, max, Bool, true, false, List, [], ◌∷◌, ◌++◌, length, get_or, set, None, sym, ap, ◌∙◌, subst, inl, inr, ⊎_elim, arith}
 use mathlib.Core.Option.{some, some-injective, some-ne-none}
 use mathlib.Core.Option as maybe
 use native.Mathlib.Decide.{dec_le}
@@ -7,15 +7,14 @@ use lib.ListN.{get_elem?}
 use Rattle.atomic_table.specs.Table.{State}
 use Rattle.atomic_table.proofs.Lists.{at_set, at_snoc}
 use Rattle.al_board.specs.declared.view.Setting.{Setting}
-use Rattle.al_board.specs.declared.view.Turn.{Turn}
 use Rattle.al_board.specs.declared.view.View.{View}
 use Rattle.al_board.specs.declared.view.Slot.{Slot}
 use Rattle.al_count.specs.Counts.{below, times, holding, total, present}
 use Rattle.al_count.proofs.Totals.{below_yes, below_le, below_mono, below_true, member_le, total_le, total_gap, total_sum, total_only, two_members, some_member, some_number, distinct_few, distinct_full, is_present}
 use Rattle.al_board.specs.Core.{Event}
 use Rattle.al_board.specs.Views.{IsBounded, IsFull}
-use Rattle.al_board.specs.Rule.{AreFirst, IsSound, IsSlot, IsBaton, IsKept}
-use Rattle.al_board.proofs.Histories.{IsTold, first_grown, piece_else}
+use Rattle.al_board.specs.Rule.{IsSound, IsSlot, IsBaton, IsKept}
+use Rattle.al_board.proofs.Histories.{IsTold, first_grown}
 
 module _ {T H K : Type 0} (key : Setting K) (fits : ℕ → T → Type 0) (laid : H → List T) (stands : H → Type 0) where
   abbrev V : Type 0

@@ -1,5 +1,5 @@
 -- The two steps of a put keep the rule.
-use Rattle.std.proofs.Common.{◌≡◌, ◌≢◌, ℕ, ◌+◌, ◌*◌, ◌<◌, ◌≤◌, List, [], ◌∷◌, length, get_or, set, Some, None, refl, sym, ap, ◌∙◌, subst, arith, length-append, length-set, get_or-set_same, get_or-set_other}
+use Rattle.std.proofs.Common.{◌≡◌, ◌≢◌, ℕ, ◌+◌, ◌*◌, ◌<◌, ◌≤◌, List, [], ◌∷◌, get_or, set, Some, None, refl, sym, ap, ◌∙◌, subst, arith, length-append, length-set, get_or-set_same, get_or-set_other}
 use mathlib.Core.Option.{some}
 use mathlib.Core.Option as maybe
 use native.Mathlib.Decide.{dec_le, ℕ_discrete}
@@ -13,8 +13,8 @@ use Rattle.al_board.specs.declared.view.Slot.TheVariants.{Empty, Piece}
 use Rattle.al_count.specs.Counts.{one, below, times, holding, total, present}
 use Rattle.al_count.proofs.Totals.{one_same, one_other, one_le, below_no, times_snoc, total_set, total_same, member_le, set_at}
 use Rattle.al_board.specs.Core.{Event, puts, piece_of}
-use Rattle.al_board.specs.Views.{IsBounded, taking, gave}
-use Rattle.al_board.specs.Rule.{IsSound, IsSlot, IsBaton, IsKept}
+use Rattle.al_board.specs.Views.{taking, gave}
+use Rattle.al_board.specs.Rule.{IsSlot, IsBaton, IsKept}
 use Rattle.al_board.specs.Steps.{took, filled}
 use Rattle.al_board.proofs.Histories.{IsTold, piece_here, piece_else, told_same, told_put}
 use Rattle.al_board.proofs.Parts.{AllSound, grown, grown_baton, sound_set, sound_one, made, same_baton, same_slot, bounded, at_most_one, none_has, told_of}

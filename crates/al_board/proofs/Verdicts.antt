@@ -8,7 +8,7 @@ use lib.ListN.{get_elem?}
 use lib.Seq.{map-set}
 use Rattle.atomic_table.proofs.Lists.{at_set, at_snoc, set_else}
 use Rattle.al_count.specs.Counts.{one, below, times, total}
-use Rattle.al_count.proofs.Totals.{one_other, one_same, below_next, below_le, below_no, times_append, times_snoc, total_set, total_snoc, total_same, total_gap, member_le, place_has, set_at}
+use Rattle.al_count.proofs.Totals.{one_other, one_same, below_next, below_le, below_no, times_append, times_snoc, total_set, total_snoc, total_same, total_gap, place_has}
 use Rattle.al_board.specs.Core.{Event, draws, puts, splits, joins, judges, Core, of, piece_of, listed, first_pieces, played, IsLegal, IsHistory}
 use Rattle.al_board.specs.Verdicts.{said, in_order, verdicts, AgreeOn}
 use Rattle.al_board.proofs.Histories.{lt_yes, lt_no, piece_here, piece_else}

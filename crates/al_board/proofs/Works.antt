@@ -1,5 +1,5 @@
 -- A worker's run.
-use Rattle.std.proofs.Common.{◌≡◌, ℕ, ◌+◌, ◌≤◌, List, [], ◌∷◌, ◌++◌, refl, sym, ap, ◌∙◌, arith, subst, true, Option, Some, None, MatchOption, ◌<◌}
+use Rattle.std.proofs.Common.{◌≡◌, ℕ, ◌+◌, ◌≤◌, List, [], ◌∷◌, ◌++◌, sym, ap, ◌∙◌, arith, subst, true, Option, Some, None, MatchOption, ◌<◌}
 use Rattle.std.proofs.lemmas.List.{append-nil, append_assoc}
 use Rattle.al_board.specs.declared.view.View.{View}
 use Rattle.al_count.specs.Counts.{times}
@@ -18,16 +18,6 @@ module _ {T K : Type 0} where
   is_not_put v w lane e b none =
       let p : times lane w.put ≡ times lane v.put = ap (λ (z : View T K). times lane z.put) e in
       let h = b.put lane in omega arith
-
-  -- a run of no lanes
-  pub ran_none : (v : View T K) → v ≡ ran [] v
-  ran_none v = λ i. record v { drawn = sym (append-nil v.drawn) i; put = sym (append-nil v.put) i }
-
-  -- and of one lane more
-  pub ran_more : (u v w : View T K) (lanes : List ℕ) (lane : ℕ) → v ≡ ran lanes u → w ≡ gave lane (got lane v) → u.holds ≡ None → w ≡ ran (lanes ++ lane ∷ []) u
-  ran_more u v w lanes lane e e' free =
-      e' ∙ ap (λ (z : View T K). gave lane (got lane z)) e
-      ∙ (λ i. record u { drawn = append_assoc u.drawn lanes (lane ∷ []) i; put = append_assoc u.put lanes (lane ∷ []) i; holds = sym free i })
 
   -- where all was put, all is
   pub ran_all : (v w : View T K) (lanes : List ℕ) → w ≡ over (ran lanes v) → HasPutAll v → HasPutAll w

@@ -1,5 +1,5 @@
 -- What a call that lays pieces on the shelf gives.
-use Rattle.std.specs.Prelude.{◌≡◌, ℕ, ◌+◌, ◌<◌, ◌≤◌, ◌⊎◌, List, [], ◌∷◌, length}
+use Rattle.std.specs.Prelude.{◌≡◌, ℕ, ◌<◌, ◌≤◌, ◌⊎◌, List, [], ◌∷◌, length}
 use Rattle.al_board.specs.declared.view.View.{View}
 use Rattle.al_board.specs.declared.view.Slot.{Slot}
 use Rattle.al_board.specs.declared.view.Slot.TheVariants.{Empty}

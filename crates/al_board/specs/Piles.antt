@@ -1,5 +1,5 @@
 -- What a clause says of a plain shelf.
-use Rattle.std.specs.Prelude.{◌≡◌, ℕ, ◌≤◌, List, length, vec_capacity}
+use Rattle.std.specs.Prelude.{ℕ, ◌≤◌, List, vec_capacity}
 use Rattle.al_board.specs.Fits.{AreFit}
 use Rattle.al_board.specs.declared.pile.Pile.{Pile}
 

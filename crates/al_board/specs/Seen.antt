@@ -1,5 +1,5 @@
 -- What a clause says of a board and of its passes.
-use Rattle.std.specs.Prelude.{◌≡◌, ℕ, ◌<◌, ◌≤◌, ◌⊎◌, Bool, List, Some}
+use Rattle.std.specs.Prelude.{◌≡◌, ℕ, Bool, Some}
 use Rattle.al_board.specs.declared.view.View.{View}
 use Rattle.al_board.specs.declared.piece.Piece.{Ghosts}
 use Rattle.al_board.specs.declared.table.Board.{Board}

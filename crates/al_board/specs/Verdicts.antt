@@ -1,6 +1,6 @@
 -- Verdicts over a history, for any judge: a function from the pieces judged before and the next piece to a verdict.
 use Rattle.std.specs.Prelude.{◌≡◌, ℕ, ◌<◌, Option, Some, None, List, [], ◌∷◌, ◌++◌}
-use Rattle.al_board.specs.Core.{Event, draws, puts, splits, joins, judges, Core, played, piece_of, first_pieces, IsHistory}
+use Rattle.al_board.specs.Core.{Event, draws, puts, splits, joins, judges, played, piece_of, first_pieces}
 
 module _ {T W : Type 0} (judge : List T → T → W) where
   -- the verdict on a piece that is there, after those before

@@ -27,7 +27,7 @@ impl<T: Piece> Board<T> {
         }
     }
 
-    /// The pass's allowance: one more than how many splits it can still pay for, in halves.
+    /// The pass's allowance. A split halves it, and the draw that ends the pass takes 1.
     pub fn allowance(&self, pass: &Pass<T>) -> u64
         requires { IsPassOf self.now pass.now }
         ensures { result ≡ (view pass.now).allowance }

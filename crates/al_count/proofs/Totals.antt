@@ -233,3 +233,8 @@ not_holding x (Some y) h = one_other x y (λ e. h (ap (λ (z : ℕ). Some z) (sy
 pub is_present : {A : Type 0} (o : Option A) → 1 ≤ present o → (a : A) × (o ≡ Some a)
 is_present None h = absurd (omega arith)
 is_present (Some a) h = (a, refl)
+
+-- a number stands in a list at most as often as there are items
+pub times_length : (x : ℕ) (ys : List ℕ) → times x ys ≤ length ys
+times_length x [] = omega arith
+times_length x (y ∷ ys) = let ih = times_length x ys in let o = one_le x y in omega arith

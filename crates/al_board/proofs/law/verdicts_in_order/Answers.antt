@@ -1,4 +1,3 @@
-use Rattle.std.proofs.Common.{◌≡◌}
 use Rattle.al_board.proofs.Verdicts.{verdicts_are, any_order}
 use Rattle.al_board.proofs.law.verdicts_in_order.Goals as goal
 

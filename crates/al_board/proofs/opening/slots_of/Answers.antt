@@ -1,4 +1,4 @@
-use Rattle.std.proofs.Common.{rules, arith, ap, replicate, ◌≡◌, ◌∙◌, ◌++◌, ◌∷◌, []}
+use Rattle.std.proofs.Common.{rules, ap, replicate, ◌≡◌, ◌∙◌, ◌++◌, ◌∷◌, []}
 use Rattle.al_board.specs.declared.view.Slot.TheVariants.{Empty}
 use Rattle.al_board.proofs.opening.slots_of.Goals as goal
 

@@ -1,4 +1,4 @@
-use Rattle.std.proofs.Common.{rules, Some, ◌≡◌}
+use Rattle.std.proofs.Common.{rules}
 use Rattle.al_board.specs.Seen.{view}
 use Rattle.al_board.proofs.Works.{has_drawn_some}
 use Rattle.al_board.proofs.tests.lays_in_lane_order.Goals as goal

@@ -1,5 +1,5 @@
 use Rattle.std.proofs.Common.{◌≡◌, false, ◌-◌, length, List, ℕ}
-use Rattle.al_board.specs.Seen.{view, IsSame, IsPassOf}
+use Rattle.al_board.specs.Seen.{view, IsSame}
 use Rattle.al_board.specs.Views.{ran}
 use Rattle.al_board.proofs.working.work.Given as goal
 

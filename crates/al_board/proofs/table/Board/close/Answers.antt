@@ -1,8 +1,7 @@
-use Rattle.std.proofs.Common.{sym, ap, ◌∙◌, ◌≡◌}
+use Rattle.std.proofs.Common.{ap, ◌∙◌, ◌≡◌}
 use Rattle.std.specs.Slots.{slots_items}
 use lib.ListN.{get_elem?}
-use Rattle.al_board.proofs.Ends.{close_pieces, close_room, close_is_room, close_round}
-use Rattle.al_board.proofs.Lays.{empty_room, piece_room, shelf_room}
+use Rattle.al_board.proofs.Ends.{close_pieces, close_room, close_round}
 use Rattle.al_board.proofs.table.Board.close.Goals as goal
 
 pub gather-requires-clause-room : goal.gather-requires-clause-room

@@ -1,4 +1,4 @@
-use Rattle.std.proofs.Common.{sym, ap, ◌∙◌, ◌≡◌}
+use Rattle.std.proofs.Common.{sym, ◌∙◌, ◌≡◌}
 use Rattle.std.specs.Slots.{slots_items}
 use Rattle.al_board.proofs.Ends.{close_is_shelf, close_whole}
 use Rattle.al_board.proofs.Lays.{empty_shelf, piece_shelf, room_shelf}

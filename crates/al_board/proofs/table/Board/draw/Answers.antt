@@ -1,4 +1,4 @@
-use Rattle.std.proofs.Common.{rules, arith, ◌≡◌, ◌<◌}
+use Rattle.std.proofs.Common.{arith}
 use Rattle.al_board.proofs.Passes.{new_lane}
 use Rattle.al_board.proofs.Draws.{draws_one}
 use Rattle.al_board.proofs.table.Board.draw.Goals as goal

@@ -1,4 +1,4 @@
-use Rattle.std.proofs.Common.{rules, arith, ap, ◌≡◌, ◌<◌, ◌+◌, ◌∙◌}
+use Rattle.std.proofs.Common.{rules, arith}
 use Rattle.al_board.proofs.Draws.{joins_pass, looks}
 use Rattle.al_board.proofs.table.Board.join.Goals as goal
 

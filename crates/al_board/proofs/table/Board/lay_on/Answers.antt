@@ -1,4 +1,4 @@
-use Rattle.std.proofs.Common.{arith, refl, sym, subst, ap, ◌∙◌, ◌≡◌, ℕ, ◌+◌, ◌<◌, ◌≤◌, inl, inr, ◌∷◌, ◌++◌, [], List, Some, length, length-append}
+use Rattle.std.proofs.Common.{arith, sym, subst, ap, ◌∙◌, ◌≡◌, ℕ, ◌+◌, inl, inr, ◌∷◌, ◌++◌, [], length, length-append}
 use Rattle.atomic_table.specs.Table.{rest}
 use Rattle.al_board.specs.declared.view.Slot.TheVariants.{Empty, Piece}
 use Rattle.al_board.specs.declared.view.Miss.TheVariants.{Lane}

@@ -1,4 +1,4 @@
-use Rattle.std.proofs.Common.{refl, sym, arith, ◌≡◌, ◌∙◌}
+use Rattle.std.proofs.Common.{refl}
 use Rattle.al_board.proofs.table.Board.new.Goals as goal
 
 pub open-requires-clause-last : goal.open-requires-clause-last

@@ -1,4 +1,4 @@
-use Rattle.std.proofs.Common.{rules, arith, ◌≡◌, ◌≤◌}
+use Rattle.std.proofs.Common.{arith}
 use Rattle.al_board.proofs.Draws.{splits_pass}
 use Rattle.al_board.proofs.table.Board.split.Goals as goal
 

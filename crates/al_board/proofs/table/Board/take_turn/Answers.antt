@@ -1,9 +1,8 @@
-use Rattle.std.proofs.Common.{rules, arith, refl, sym, subst, ap, ◌∙◌, ◌≡◌, ℕ, ◌<◌, ◌≤◌, length, [], ◌∷◌}
+use Rattle.std.proofs.Common.{arith, refl, sym, subst, ap, ◌∙◌, ◌≡◌, ℕ, ◌∷◌}
 use Rattle.atomic_table.specs.Table.{rest}
 use Rattle.al_board.specs.declared.view.Slot.TheVariants.{Empty, Shelf}
-use Rattle.al_board.specs.declared.view.Miss.TheVariants.{Baton}
 use Rattle.al_board.proofs.Batons.{seizes, passes_on}
-use Rattle.al_board.proofs.Lays.{slot_is, same_shelf, empty_shelf, piece_shelf, room_shelf, bounded_like, missed_work, laid_turn, laid_work, turned_is, turned_front, turned_other, turned_none, helped, helped_work}
+use Rattle.al_board.proofs.Lays.{laid_turn, laid_work, turned_is, turned_other}
 use Rattle.al_board.proofs.table.Board.take_turn.Goals as goal
 
 pub swap-found-requires : goal.swap-found-requires

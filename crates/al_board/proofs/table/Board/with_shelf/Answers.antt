@@ -1,5 +1,4 @@
-use Rattle.std.proofs.Common.{refl, sym, ap, arith, inr, length, ◌≡◌, ◌∙◌}
-use mathlib.Core.Option.{some, some-ne-none}
+use Rattle.std.proofs.Common.{refl, inr}
 use Rattle.al_board.proofs.Opens.{none_first}
 use Rattle.al_board.proofs.table.Board.with_shelf.Goals as goal
 
