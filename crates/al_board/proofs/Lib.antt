@@ -1,0 +1,14 @@
+pub mod Histories
+pub mod Verdicts
+pub mod Parts
+pub mod Draws
+pub mod Puts
+pub mod Batons
+pub mod Rules
+pub mod Opens
+pub mod Passes
+pub mod Works
+pub mod Lays
+pub mod Heaps
+pub mod Gathers
+pub mod Ends

@@ -1,0 +1,11 @@
+pub mod Core
+pub mod Fits
+pub mod Piles
+pub mod Views
+pub mod Rule
+pub mod Ruled
+pub mod Steps
+pub mod Helps
+pub mod Verdicts
+pub mod Rounds
+pub mod Seen

@@ -1,0 +1,75 @@
+//! The rule of a board, and what each of its steps tells. These types are for the proofs alone.
+ghost use Rattle.std.specs.Prelude.{◌≡◌};
+ghost use Rattle.al_board.specs.Rule.{IsKept};
+ghost use Rattle.al_board.specs.Views.{opener, spent_view, keeping, parted, joined};
+ghost use Rattle.al_board.specs.Steps.{drew, looked, took, filled, seized, tried, passed_on};
+
+use crate::piece::Piece;
+use crate::view::{Setting, Slot, View};
+use atomic_table::{Join, Play, Split, TableRule};
+
+pub struct Lanes;
+
+impl<T: Piece> TableRule<Slot<T, T::Shelf>, View<T, T::Task>, Setting<T::Task>> for Lanes {
+    ghost holds = { λ key. IsKept key (T.fits key.task) T.laid (λ h. T.stands key.task h × (T.lanes key.task ≡ key.lanes)) };
+
+    ghost first = { opener };
+}
+
+pub struct Draw;
+
+impl<T, H, K> Play<Slot<T, H>, View<T, K>> for Draw {
+    ghost then = { drew };
+}
+
+pub struct Look;
+
+impl<T, H, K> Play<Slot<T, H>, View<T, K>> for Look {
+    ghost then = { looked };
+}
+
+pub struct Take;
+
+impl<T, H, K> Play<Slot<T, H>, View<T, K>> for Take {
+    ghost then = { took };
+}
+
+pub struct Fill;
+
+impl<T, H, K> Play<Slot<T, H>, View<T, K>> for Fill {
+    ghost then = { filled };
+}
+
+pub struct Seize;
+
+impl<T: Piece> Play<Slot<T, T::Shelf>, View<T, T::Task>> for Seize {
+    ghost then = { seized T.laid (λ k n h. T.stands k h × (T.lanes k ≡ n)) };
+}
+
+pub struct Try;
+
+impl<T: Piece> Play<Slot<T, T::Shelf>, View<T, T::Task>> for Try {
+    ghost then = { tried T.fits };
+}
+
+pub struct PassOn;
+
+impl<T, H, K> Play<Slot<T, H>, View<T, K>> for PassOn {
+    ghost then = { passed_on };
+}
+
+pub struct Halve;
+
+impl<T, K> Split<View<T, K>> for Halve {
+    ghost left = { keeping };
+
+    ghost right = { parted };
+}
+
+pub struct Unite;
+
+impl<T, K> Join<View<T, K>> for Unite {
+    ghost both = { joined };
+
+    ghost spent = { spent_view };
+}
