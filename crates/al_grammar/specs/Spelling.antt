@@ -9,14 +9,9 @@ use Rattle.al_source.specs.declared.faults.LexFault.TheVariants.{BadByte, OpenCo
 use Rattle.al_grammar.specs.declared.place.Place.{Place}
 use Rattle.al_grammar.specs.declared.place.Place.TheVariants.{Fresh, Inside, Hash, Pragma, Skipped, Note}
 use Rattle.al_grammar.specs.declared.place.Spot.{Spot}
+use Rattle.al_grammar.specs.declared.place.Next.{Next}
 use Rattle.al_grammar.specs.Characters.{Bytes, is_blank, is_letter, line_feeds}
 use Rattle.al_grammar.specs.Lexemes.{begins_line_comment, begins_block_comment, line_comment_len, block_comment_len, name_len, Lexeme, lexeme}
-
--- what stands next: its length in bytes, the token that it is, if it is one, and the kind of place after it
-pub record Next : Type 0 where
-  pub len : ℕ
-  pub token : Option Token
-  pub place : Place
 
 -- something that is no token
 abbrev pub gap : ℕ → Place → Result Next LexFault

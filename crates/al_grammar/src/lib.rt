@@ -4,4 +4,4 @@
 pub mod place;
 pub mod token_laws;
 
-pub use place::{Place, Spot};
+pub use place::{Next, Place, Spot};

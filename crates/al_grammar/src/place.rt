@@ -1,3 +1,5 @@
+use al_source::Token;
+
 /// Where on its line a place of a source is. A hash stands as its start and its line.
 #[derive(Clone, Copy, Debug)]
 pub enum Place {
@@ -20,5 +22,13 @@ pub enum Place {
 pub struct Spot {
     pub at: u32,
     pub line: u32,
+    pub place: Place,
+}
+
+/// What stands next at a spot: its length in bytes, the token that it is, if it is one, and the place after it.
+#[derive(Drop)]
+pub struct Next {
+    pub len: u32,
+    pub token: Option<Token>,
     pub place: Place,
 }

@@ -10,17 +10,14 @@ ghost use Rattle.al_grammar.specs.Spelling.{Spells, first_lexical_fault};
 pub fn spells_or_faults()
     ensures { (source : Bytes)
         → ((tokens : List Token) × Spells source tokens) ⊎ ((fault : LexFault) × (first_lexical_fault source ≡ Some fault)) }
-{
-}
+{}
 
 /// A source that spells tokens has no fault.
 pub fn no_fault_where_spelled()
     ensures { (source : Bytes) (tokens : List Token) → Spells source tokens → first_lexical_fault source ≡ None }
-{
-}
+{}
 
 /// A source spells one list of tokens at most.
 pub fn one_spelling()
     ensures { (source : Bytes) (tokens others : List Token) → Spells source tokens → Spells source others → tokens ≡ others }
-{
-}
+{}
