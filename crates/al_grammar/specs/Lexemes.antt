@@ -1,5 +1,5 @@
 -- What may stand at the front of a text: comments, names, numbers, texts and marks, each with its length in bytes.
-use Rattle.std.specs.Prelude.{ℕ, zero, suc, ◌+◌, ◌-◌, Bool, not, ◌&&◌, ◌||◌, if◌then◌else◌, ◌==◌, nat_lt, nat_le, List, [], ◌∷◌, take, drop, length, slice_index, slice_range, Option, Some, None, option_map, option_and_then, Result, Ok, Err, pos}
+use Rattle.std.specs.Prelude.{ℕ, zero, suc, ◌+◌, ◌-◌, Bool, not, ◌&&◌, ◌||◌, if◌then◌else◌, ◌==◌, nat_lt, nat_le, List, [], ◌∷◌, take, drop, length, slice_index, slice_range, Option, Some, None, option_map, option_and_then, Result, Ok, Err, ℤ, pos}
 use Rattle.std.specs.List.{prefix_len}
 use Rattle.std.specs.Char.{is_ascii_digit, is_ascii_hexdigit}
 use Rattle.al_source.specs.declared.texts.Piece.{Piece}
@@ -79,6 +79,10 @@ spoils_number b = is_word b || b == 46
 abbrev pub is_number : Bytes → Bool
 is_number z = has_digits z && not (spoils_number (slice_index z (number_len z))) && nat_le (number_value (take (number_len z) z)) 9223372036854775807
 
+-- the number at the front, if it is one of the language, and its length
+unfoldable pub number_at : Bytes → Option (ℤ × ℕ)
+number_at z = if is_number z then Some (pos (number_value (take (number_len z) z)), number_len z) else None
+
 -- ---- texts
 
 abbrev pub escaped : ℕ → Option ℕ
@@ -133,10 +137,6 @@ format_from zero (b ∷ z) = elim (unit_at (b ∷ z)) [ None ↦ format_from 0 z
 unfoldable pub format_of : Bytes → List Piece
 format_of = format_from 0
 
--- a text's bytes without its quotes
-abbrev pub inside : Bytes → Bytes
-inside z = slice_range z 1 (length z - 1)
-
 -- ---- the token at the front
 
 -- a kind, and a length in bytes
@@ -146,13 +146,16 @@ Lexeme = TokenKind × ℕ
 abbrev pub name : Bytes → Lexeme
 name z = (name_kind (take (name_len z) z), name_len z)
 
+abbrev pub number_token : ℕ → Option (ℤ × ℕ) → Result Lexeme LexFault
+number_token line None = Err (BadNumber line)
+number_token line (Some n) = Ok (kind.Number n.0, n.1)
+
 abbrev pub number : ℕ → Bytes → Result Lexeme LexFault
-number line z =
-    if is_number z then Ok (kind.Number (pos (number_value (take (number_len z) z))), number_len z) else Err (BadNumber line)
+number line z = number_token line (number_at z)
 
 abbrev pub quoted : ℕ → Bytes → Option ℕ → Result Lexeme LexFault
 quoted line z None = Err (BadText line)
-quoted line z (Some len) = Ok (kind.Text (format_of (inside (take (len + 2) z))), len + 2)
+quoted line z (Some len) = Ok (kind.Text (format_of (slice_range z 1 (len + 1))), len + 2)
 
 abbrev pub text : ℕ → Bytes → Result Lexeme LexFault
 text line z = quoted line z (inside_len (drop 1 z))
