@@ -94,3 +94,11 @@ one source ts us h k = let same : ◌≡◌ {A = Result (List Token) LexFault} (
 -- a fault that is read is the first fault
 pub reading_fault : (source : Bytes) (fault : LexFault) → reading source ≡ Err fault → first_lexical_fault source ≡ Some fault
 reading_fault source fault e = fault_reading source ∙ ap fault_of e
+
+by_fault : (fault : LexFault) (r : Result (List Token) LexFault) → fault_of r ≡ Some fault → r ≡ Err fault
+by_fault fault (Ok ts) e = absurd cc
+by_fault fault (Err f) e = let same : f ≡ fault = cc in ap (λ g. Err g) same
+
+-- the first fault is what is read
+pub fault_read : (source : Bytes) (fault : LexFault) → first_lexical_fault source ≡ Some fault → reading source ≡ Err fault
+fault_read source fault e = by_fault fault (reading source) (sym (fault_reading source) ∙ e)
