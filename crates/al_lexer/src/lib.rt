@@ -1,13 +1,52 @@
-// A library with one function.
+//! Cuts a source into its tokens.
 #![tactic(auto)]
 
-ghost use Rattle.std.specs.Prelude.{◌≡◌};
-ghost use Rattle.al_lexer.specs.Echo.{echo_of};
+ghost use Rattle.std.specs.Prelude.{◌≡◌, ◌<◌, ◌≤◌, List, length, IfOk, IfErr, Ok, Err};
+ghost use Rattle.al_source.specs.declared.faults.LexFault.{LexFault};
+ghost use Rattle.al_source.specs.declared.tokens.Token.{Token};
+ghost use Rattle.al_grammar.specs.Spelling.{Spells, first_lexical_fault};
+ghost use Rattle.al_grammar.specs.Reading.{reading};
+ghost use Rattle.al_lexer.specs.Answers.{Gives, Explains};
 
-// The `ensures` clause is the contract: what `echo` returns is `echo_of` of its argument, a definition
-// in `specs/Echo.antt`, which a caller's clause can cite too.
-pub fn echo(x: usize) -> usize
-    ensures { result ≡ echo_of x }
+mod lexemes;
+mod lexer;
+mod numbers;
+mod scan;
+mod texts;
+mod words;
+
+use al_source::{LexFault, Token};
+use lexer::Lexer;
+use sqlite_items::Items;
+use std::alloc::Global;
+
+/// The most bytes that a source may have.
+const MOST_BYTES: usize = 1_048_576;
+
+#[tactic(auto, unfolding(al_grammar::specs::Reading::reading))]
+fn read(alloc: Global, source: &[u8]) -> Result<Items<Token>, LexFault>
+    requires { length source.now ≤ 1048576 }
+    ensures { Gives result (reading source.now) }
 {
-    x
+    Lexer::new(source).read(alloc)
+}
+
+/// The tokens of a source, in order, or why it has none. A fault that has a line is the first of the source.
+pub fn lex(alloc: Global, source: &[u8]) -> Result<Items<Token>, LexFault>
+    // The tokens are those that the source spells.
+    ensures spelled { IfOk result (λ tokens. Spells source.now tokens) }
+    // What a source of lawful length spells is the answer, unless memory runs out.
+    ensures found { (tokens : List Token) → length source.now ≤ 1048576 → Spells source.now tokens → Gives result (Ok tokens) }
+    // Each fault has its cause in the source.
+    ensures cause { IfErr result (Explains source.now) }
+    // The first fault of a source of lawful length is the answer, unless memory runs out.
+    ensures first { (fault : LexFault) → length source.now ≤ 1048576 → first_lexical_fault source.now ≡ Some fault → Gives result (Err fault) }
+    // A source that is too long is refused before it is read.
+    ensures too_long { 1048576 < length source.now → result ≡ Err LexFault.TooLong }
+{
+    if MOST_BYTES < source.len() {
+        Err(LexFault::TooLong)
+    } else {
+        read(alloc, source)
+    }
 }
