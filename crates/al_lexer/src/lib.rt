@@ -12,6 +12,8 @@ mod lexemes;
 mod lexer;
 mod numbers;
 mod scan;
+#[cfg(test)]
+mod tests;
 mod texts;
 mod words;
 
