@@ -1,2 +1,5 @@
 pub mod TokenLaws
 pub mod FaultLemmas
+pub mod LexemeLemmas
+pub mod MoveLemmas
+pub mod SliceLemmas

@@ -3,3 +3,4 @@ pub mod Words
 pub mod Lexemes
 pub mod Spelling
 pub mod Reading
+pub mod Slices

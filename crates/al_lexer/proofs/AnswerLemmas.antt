@@ -5,8 +5,10 @@ use Rattle.al_source.specs.declared.faults.LexFault.{LexFault}
 use Rattle.al_source.specs.declared.faults.LexFault.TheVariants.{TooLong, BadByte, BadNumber, BadText, OpenComment, Memory}
 use Rattle.al_grammar.specs.Characters.{Bytes}
 use Rattle.al_grammar.specs.Spelling.{Spells, first_lexical_fault}
+use Rattle.al_grammar.specs.Slices.{EachIsItsSlice, InOrder}
 use Rattle.al_grammar.specs.Reading.{reading}
 use Rattle.al_grammar.proofs.TokenLaws.{reading_spells, spelled_reading, reading_fault, fault_read}
+use Rattle.al_grammar.proofs.SliceLemmas.{spelled_slices}
 use Rattle.al_grammar.proofs.FaultLemmas.{never_too_long}
 use Rattle.al_lexer.specs.Answers.{Gives, Fails, Explains}
 
@@ -16,6 +18,14 @@ Answer = Result (List Token) LexFault
 pub spelled_by : (source : Bytes) (r : Answer) → Gives r (reading source) → IfOk r (λ tokens. Spells source tokens)
 spelled_by source (Ok tokens) h = reading_spells source tokens h
 spelled_by source (Err fault) h = tt
+
+pub slices_by : (source : Bytes) (r : Answer) → Gives r (reading source) → IfOk r (EachIsItsSlice source)
+slices_by source (Ok tokens) h = (spelled_slices source tokens (reading_spells source tokens h)).0
+slices_by source (Err fault) h = tt
+
+pub order_by : (source : Bytes) (r : Answer) → Gives r (reading source) → IfOk r (InOrder 0)
+order_by source (Ok tokens) h = (spelled_slices source tokens (reading_spells source tokens h)).1
+order_by source (Err fault) h = tt
 
 pub found_by : (source : Bytes) (r : Answer) (tokens : List Token) → Gives r (reading source) → Spells source tokens → Gives r (Ok tokens)
 found_by source r tokens h s = subst (λ d. Gives r d) (spelled_reading source tokens s) h

@@ -4,6 +4,7 @@
 ghost use Rattle.std.specs.Prelude.{◌≡◌, ◌<◌, ◌≤◌, List, length, IfOk, IfErr, Ok, Err};
 ghost use Rattle.al_source.specs.declared.faults.LexFault.{LexFault};
 ghost use Rattle.al_source.specs.declared.tokens.Token.{Token};
+ghost use Rattle.al_grammar.specs.Slices.{EachIsItsSlice, InOrder};
 ghost use Rattle.al_grammar.specs.Spelling.{Spells, first_lexical_fault};
 ghost use Rattle.al_grammar.specs.Reading.{reading};
 ghost use Rattle.al_lexer.specs.Answers.{Gives, Explains};
@@ -37,6 +38,10 @@ fn read(alloc: Global, source: &[u8]) -> Result<Items<Token>, LexFault>
 pub fn lex(alloc: Global, source: &[u8]) -> Result<Items<Token>, LexFault>
     // The tokens are those that the source spells.
     ensures spelled { IfOk result (λ tokens. Spells source.now tokens) }
+    // Each token is its slice of the source.
+    ensures slices { IfOk result (EachIsItsSlice source.now) }
+    // No span begins before the one before it ends.
+    ensures order { IfOk result (InOrder 0) }
     // What a source of lawful length spells is the answer, unless memory runs out.
     ensures found { (tokens : List Token) → length source.now ≤ 1048576 → Spells source.now tokens → Gives result (Ok tokens) }
     // Each fault has its cause in the source.

@@ -1,5 +1,5 @@
 use Rattle.std.proofs.Common.{◌≤◌, length, arith}
-use Rattle.al_lexer.proofs.AnswerLemmas.{spelled_by, found_by, first_by, cause_by}
+use Rattle.al_lexer.proofs.AnswerLemmas.{spelled_by, slices_by, order_by, found_by, first_by, cause_by}
 use Rattle.al_lexer.proofs.lex.Goals as goal
 
 pub returns-else-source-gt-MOST_BYTES-clause-spelled :
@@ -19,3 +19,11 @@ returns-else-source-gt-MOST_BYTES-clause-cause c =
 pub returns-else-source-gt-MOST_BYTES-clause-first :
     goal.returns-else-source-gt-MOST_BYTES-clause-first
 returns-else-source-gt-MOST_BYTES-clause-first c = λ fault _ first. first_by c.args.source.now c.read.result fault c.read.ensures first
+
+pub returns-else-source-gt-MOST_BYTES-clause-slices :
+    goal.returns-else-source-gt-MOST_BYTES-clause-slices
+returns-else-source-gt-MOST_BYTES-clause-slices c = slices_by c.args.source.now c.read.result c.read.ensures
+
+pub returns-else-source-gt-MOST_BYTES-clause-order :
+    goal.returns-else-source-gt-MOST_BYTES-clause-order
+returns-else-source-gt-MOST_BYTES-clause-order c = order_by c.args.source.now c.read.result c.read.ensures
