@@ -23,7 +23,7 @@ found_next p y xs x rest true is e = let same : y ≡ x = cc in ap p (sym same) 
 found_next p y xs x rest false is e = rest e
 
 -- what is found passes the test
-found_passes : {X : Type 0} (p : X → Bool) (xs : List X) (x : X) → find p xs ≡ Some x → p x ≡ true
+pub found_passes : {X : Type 0} (p : X → Bool) (xs : List X) (x : X) → find p xs ≡ Some x → p x ≡ true
 found_passes p [] x e = absurd cc
 found_passes p (y ∷ xs) x e = found_next p y xs x (λ h. found_passes p xs x h) (p y) refl e
 
@@ -68,7 +68,7 @@ inside_within left [] n e = absurd cc
 inside_within (suc left) (b ∷ z) n e = within_suc z n (inside_from left z) (λ k h. inside_within left z k h) e
 inside_within zero (b ∷ z) n e = within_unit z n (b == 34) (unit_at (b ∷ z)) (λ left k h. inside_within left z k h) e
 
-inside_len_within : (z : Bytes) (n : ℕ) → inside_len z ≡ Some n → n < length z
+pub inside_len_within : (z : Bytes) (n : ℕ) → inside_len z ≡ Some n → n < length z
 unfolding inside_len
 inside_len_within z n e = inside_within 0 z n e
 
