@@ -1,5 +1,5 @@
 -- A fault of a source is at a line of it: never that it is too long, and never that memory ran out.
-use Rattle.std.proofs.Common.{◌≡◌, ℕ, zero, suc, ◌+◌, ◌-◌, Bool, true, false, cond, List, [], ◌∷◌, ◌++◌, drop, take, length, slice_index, Option, Some, None, Result, Ok, Err, refl, subst, ℤ}
+use Rattle.std.proofs.Common.{◌≡◌, ℕ, zero, suc, ◌-◌, Bool, true, false, cond, List, [], ◌∷◌, drop, take, length, slice_index, Option, Some, None, Result, Ok, Err, subst, ℤ}
 use Rattle.std.specs.Prelude.{option_to_list, ◌==◌, codes}
 use Rattle.std.specs.Str.{bytes_eq}
 use Rattle.std.specs.Char.{is_ascii_digit}
@@ -13,8 +13,8 @@ use Rattle.al_grammar.specs.declared.place.Spot.{Spot}
 use Rattle.al_grammar.specs.declared.place.Next.{Next}
 use Rattle.al_grammar.specs.Characters.{Bytes, is_blank, is_letter}
 use Rattle.al_grammar.specs.Words.{mark_at}
-use Rattle.al_grammar.specs.Lexemes.{begins_line_comment, begins_block_comment, line_comment_len, block_comment_len, name_len, Lexeme, lexeme, name, number, number_at, number_token, text, quoted, inside_len, marked}
-use Rattle.al_grammar.specs.Spelling.{end_at, line_end_at, gap, closed, directive, pragma, token_at, matter_at, next, spot_after, first_spot}
+use Rattle.al_grammar.specs.Lexemes.{begins_line_comment, begins_block_comment, block_comment_len, name_len, Lexeme, lexeme, number_at, number_token, quoted, inside_len, marked}
+use Rattle.al_grammar.specs.Spelling.{end_at, line_end_at, gap, closed, token_at, matter_at, next, spot_after, first_spot}
 use Rattle.al_grammar.specs.Reading.{with_front, reading_from, reading}
 
 -- an answer that is no fault without a line

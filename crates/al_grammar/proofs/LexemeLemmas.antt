@@ -1,5 +1,5 @@
 -- A token at the front has the bytes of its kind.
-use Rattle.std.proofs.Common.{◌≡◌, ℕ, zero, suc, ◌+◌, ◌-◌, ◌≤◌, ◌<◌, Bool, true, false, cond, List, [], ◌∷◌, ◌++◌, drop, take, length, slice_index, slice_range, Option, Some, None, Result, Ok, Err, refl, sym, ap, ◌∙◌, subst, ◌⊎◌, inl, inr, ℤ, pos, nat_eq, arith}
+use Rattle.std.proofs.Common.{◌≡◌, ℕ, zero, suc, ◌+◌, ◌-◌, ◌≤◌, ◌<◌, Bool, true, false, cond, List, [], ◌∷◌, drop, take, length, slice_index, slice_range, Option, Some, None, Result, Ok, Err, refl, sym, ap, ◌∙◌, subst, ℤ, pos, nat_eq, arith}
 use Rattle.std.proofs.lemmas.List.{length-take, drop-take}
 use Rattle.std.proofs.lemmas.Slice.Eq.{bytes_eq-Decides}
 use Rattle.std.proofs.lemmas.Option.{cond_some}
@@ -7,15 +7,13 @@ use Rattle.std.specs.Prelude.{find, ◌==◌, option_map, option_and_then}
 use Rattle.std.specs.List.{starts_with}
 use Rattle.std.specs.Str.{bytes_eq}
 use Rattle.std.specs.Char.{is_ascii_digit}
-use Rattle.al_source.specs.declared.tokens.TokenKind.{TokenKind}
 use Rattle.al_source.specs.declared.tokens.TokenKind.TheVariants as kind
 use Rattle.al_source.specs.declared.tokens.Key.{Key}
 use Rattle.al_source.specs.declared.tokens.Mark.{Mark}
 use Rattle.al_source.specs.declared.faults.LexFault.{LexFault}
-use Rattle.al_source.specs.declared.faults.LexFault.TheVariants.{BadByte, BadNumber, BadText}
 use Rattle.al_grammar.specs.Characters.{Bytes, is_letter}
 use Rattle.al_grammar.specs.Words.{key_text, mark_text, all_keys, all_marks, key_of, mark_at}
-use Rattle.al_grammar.specs.Lexemes.{TextUnit, name_len, name_kind, named, name, number_len, number_value, is_number, number_at, number_token, number, unit_at, inside_from, inside_len, format_of, quoted, text, marked, Lexeme, lexeme}
+use Rattle.al_grammar.specs.Lexemes.{TextUnit, name_len, named, number_len, number_value, is_number, number_at, number_token, unit_at, inside_from, inside_len, format_of, quoted, marked, Lexeme, lexeme}
 use Rattle.al_grammar.specs.Slices.{IsSpelledBy}
 
 found_next : {X : Type 0} (p : X → Bool) (y : X) (xs : List X) (x : X) → (find p xs ≡ Some x → p x ≡ true) → (b : Bool) → p y ≡ b → cond b (Some y) (find p xs) ≡ Some x → p x ≡ true

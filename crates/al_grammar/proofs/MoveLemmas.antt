@@ -1,5 +1,5 @@
 -- What stands next is a byte at least.
-use Rattle.std.proofs.Common.{◌≡◌, ℕ, zero, suc, ◌+◌, ◌-◌, ◌≤◌, ◌<◌, Bool, true, false, cond, List, [], ◌∷◌, ◌++◌, drop, take, length, slice_index, Option, Some, None, Result, Ok, Err, refl, sym, ap, ◌∙◌, subst, ℤ, pos, ◌||◌, arith}
+use Rattle.std.proofs.Common.{◌≡◌, ℕ, ◌+◌, ◌≤◌, Bool, true, false, cond, [], ◌∷◌, drop, take, length, slice_index, Option, Some, None, Result, Ok, Err, refl, ap, subst, ℤ, pos, ◌||◌, arith}
 use Rattle.std.proofs.lemmas.Slice.Eq.{bytes_eq-Decides}
 use Rattle.std.proofs.lemmas.Option.{cond_some}
 use Rattle.std.specs.Prelude.{◌==◌, codes, option_map}
@@ -9,15 +9,14 @@ use Rattle.std.specs.Char.{is_ascii_digit, is_ascii_hexdigit}
 use Rattle.al_source.specs.declared.tokens.Mark.{Mark}
 use Rattle.al_source.specs.declared.tokens.Mark.TheVariants as mark
 use Rattle.al_source.specs.declared.faults.LexFault.{LexFault}
-use Rattle.al_source.specs.declared.faults.LexFault.TheVariants.{BadByte}
 use Rattle.al_grammar.specs.declared.place.Place.{Place}
 use Rattle.al_grammar.specs.declared.place.Place.TheVariants.{Fresh, Inside, Hash, Pragma, Skipped, Note}
 use Rattle.al_grammar.specs.declared.place.Spot.{Spot}
 use Rattle.al_grammar.specs.declared.place.Next.{Next}
 use Rattle.al_grammar.specs.Characters.{Bytes, is_blank, is_letter, is_word}
 use Rattle.al_grammar.specs.Words.{mark_text, mark_at}
-use Rattle.al_grammar.specs.Lexemes.{begins_line_comment, begins_block_comment, line_comment_len, block_len, block_comment_len, name_len, is_hexadecimal, digits_end, suffix_len, number_len, number_value, is_number, number_at, number_token, inside_len, quoted, marked, Lexeme, lexeme}
-use Rattle.al_grammar.specs.Spelling.{gap, end_at, line_end_at, closed, directive, pragma, token_at, matter_at, next}
+use Rattle.al_grammar.specs.Lexemes.{begins_line_comment, begins_block_comment, block_len, name_len, is_hexadecimal, digits_end, number_len, number_value, is_number, number_at, number_token, inside_len, quoted, marked, Lexeme, lexeme}
+use Rattle.al_grammar.specs.Spelling.{line_end_at, closed, directive, pragma, token_at, matter_at, next}
 
 -- a run has a byte where the first one belongs to it
 run_moves : (p : ℕ → Bool) (z : Bytes) → p 0 ≡ false → p (slice_index z 0) ≡ true → 1 ≤ prefix_len p z

@@ -1,22 +1,22 @@
 -- The tokens that a source spells are slices of it, in order.
-use Rattle.std.proofs.Common.{◌≡◌, ℕ, zero, suc, ◌+◌, ◌-◌, ◌≤◌, ◌<◌, Bool, true, false, cond, List, [], ◌∷◌, ◌++◌, drop, take, length, slice_index, slice_range, Option, Some, None, Result, Ok, Err, refl, sym, ap, ◌∙◌, subst, arith}
+use Rattle.std.proofs.Common.{◌≡◌, ℕ, zero, suc, ◌+◌, ◌-◌, ◌≤◌, ◌<◌, Bool, true, false, cond, List, [], ◌∷◌, ◌++◌, drop, take, length, slice_index, slice_range, Option, Some, None, Result, Ok, Err, refl, sym, ap, ◌∙◌, subst, length-drop, arith}
 use Rattle.std.proofs.lemmas.Bool.{eqb-true}
 use Rattle.std.proofs.lemmas.Slice.Eq.{bytes_eq-Decides}
 use Rattle.std.specs.Prelude.{option_to_list, ◌==◌, codes}
 use Rattle.std.specs.Str.{bytes_eq}
 use Rattle.al_source.specs.declared.tokens.Token.{Token}
 use Rattle.al_source.specs.declared.faults.LexFault.{LexFault}
-use Rattle.al_source.specs.declared.faults.LexFault.TheVariants.{BadByte}
 use Rattle.al_grammar.specs.declared.place.Place.{Place}
 use Rattle.al_grammar.specs.declared.place.Place.TheVariants.{Fresh, Inside, Hash, Pragma, Skipped, Note}
 use Rattle.al_grammar.specs.declared.place.Spot.{Spot}
 use Rattle.al_grammar.specs.declared.place.Next.{Next}
 use Rattle.al_grammar.specs.Characters.{Bytes, is_blank}
 use Rattle.al_grammar.specs.Lexemes.{begins_line_comment, begins_block_comment, line_comment_len, block_comment_len, name_len, Lexeme, lexeme}
-use Rattle.al_grammar.specs.Spelling.{gap, note_end, end_at, line_end_at, closed, directive, pragma, token_at, matter_at, next, spot_after, first_spot, SpellsFrom, ends, goes, Spells}
+use Rattle.al_grammar.specs.Spelling.{gap, note_end, end_at, line_end_at, closed, directive, pragma, token_at, matter_at, next, SpellsFrom, ends, goes, Spells}
 use Rattle.al_grammar.specs.Slices.{slice, IsSpelledBy, EachIsItsSlice, InOrder}
 use Rattle.al_grammar.proofs.LexemeLemmas.{lexeme_spelled}
 use Rattle.al_grammar.proofs.MoveLemmas.{next_moves}
+use Rattle.al_grammar.proofs.WithinLemmas.{next_within}
 
 -- what a place keeps of the hash before it
 abbrev HashAt : Bytes → ℕ → Place → Type 0
@@ -173,17 +173,28 @@ laid_next source at line place h =
 
 -- the claim of the tokens from a spot on
 abbrev AreSlices : Bytes → ℕ → Place → List Token → Type 0
-AreSlices source at place ts = (from : ℕ) → from ≤ floor place at → EachIsItsSlice source ts × InOrder from ts
+AreSlices source at place ts = (from : ℕ) → from ≤ floor place at → EachIsItsSlice source ts × InOrder from (length source) ts
 
-end_slices : (source : Bytes) (at line : ℕ) (place : Place) (ts : List Token) → end_at place (spot at line place) ≡ Ok ts → AreSlices source at place ts
-end_slices source at line (Hash start l) ts e = absurd cc
-end_slices source at line (Pragma start l) ts e = λ from low. let is : [] ≡ ts = cc in subst (λ us. EachIsItsSlice source us × InOrder from us) is (tt, tt)
-end_slices source at line Fresh ts e = λ from low. let is : [] ≡ ts = cc in subst (λ us. EachIsItsSlice source us × InOrder from us) is (tt, tt)
-end_slices source at line Inside ts e = λ from low. let is : [] ≡ ts = cc in subst (λ us. EachIsItsSlice source us × InOrder from us) is (tt, tt)
-end_slices source at line Skipped ts e = λ from low. let is : [] ≡ ts = cc in subst (λ us. EachIsItsSlice source us × InOrder from us) is (tt, tt)
-end_slices source at line Note ts e = λ from low.
+floor_before : (source : Bytes) (at : ℕ) (place : Place) → HashAt source at place → floor place at ≤ at
+floor_before source at (Hash start l) h = omega (arith, h.0)
+floor_before source at (Pragma start l) h = omega (arith, h.0)
+floor_before source at Fresh h = omega arith
+floor_before source at Inside h = omega arith
+floor_before source at Skipped h = omega arith
+floor_before source at Note h = omega arith
+
+no_more : (source : Bytes) (place : Place) (at : ℕ) (ts : List Token) → at ≤ length source → floor place at ≤ at → [] ≡ ts → AreSlices source at place ts
+no_more source place at ts within low is = λ from below. subst (λ us. EachIsItsSlice source us × InOrder from (length source) us) is (tt, omega arith)
+
+end_slices : (source : Bytes) (at line : ℕ) (place : Place) (ts : List Token) → at ≤ length source → HashAt source at place → end_at place (spot at line place) ≡ Ok ts → AreSlices source at place ts
+end_slices source at line (Hash start l) ts within hash e = absurd cc
+end_slices source at line (Pragma start l) ts within hash e = no_more source (Pragma start l) at ts within (floor_before source at (Pragma start l) hash) cc
+end_slices source at line Fresh ts within hash e = no_more source Fresh at ts within (omega arith) cc
+end_slices source at line Inside ts within hash e = no_more source Inside at ts within (omega arith) cc
+end_slices source at line Skipped ts within hash e = no_more source Skipped at ts within (omega arith) cc
+end_slices source at line Note ts within hash e = λ from low.
     let is : note_end (spot at line Note) ∷ [] ≡ ts = cc in
-    subst (λ us. EachIsItsSlice source us × InOrder from us) is ((no_bytes source at, tt), (low, omega arith, tt))
+    subst (λ us. EachIsItsSlice source us × InOrder from (length source) us) is ((no_bytes source at, tt), (low, omega arith, within))
 
 next_slices : (source : Bytes) (at : ℕ) (place : Place) (n : Next) (o : Option Token) (ts : List Token) → Follows source at place n o → AreSlices source (at + n.len) n.place ts → AreSlices source at place (option_to_list o ++ ts)
 next_slices source at place n None ts h rest = λ from low. rest from (omega arith)
@@ -195,12 +206,20 @@ drop-pred : (n b : ℕ) (z : Bytes) → 1 ≤ n → drop (n - 1) z ≡ drop n (b
 drop-pred zero b z h = absurd (omega arith)
 drop-pred (suc n) b z h = let e : suc n - 1 ≡ n = omega arith in ap (λ k. drop k z) e
 
-slices : {s : Spot} {z : Bytes} {ts : List Token} → SpellsFrom s z ts → (source : Bytes) → z ≡ drop s.at source → HashAt source s.at s.place → AreSlices source s.at s.place ts
-slices (ends {s = s} {ts = ts} e) source is hash = end_slices source s.at s.line s.place ts e
-slices (goes {s = s} {b = b} {z = z} {n = n} {ts = ts} e more) source is hash =
+-- what stands next ends within the source
+next_inside : (source : Bytes) (s : Spot) (b : ℕ) (z : Bytes) (n : Next) → (b ∷ z) ≡ drop s.at source → s.at ≤ length source → next s (b ∷ z) ≡ Ok n → s.at + n.len ≤ length source
+next_inside source s b z n is within e =
+    let len : suc (length z) ≡ length source - s.at = ap length is ∙ length-drop s.at source in
+    let some : 1 ≤ length (b ∷ z) = omega arith in
+    let less : n.len ≤ suc (length z) = next_within s (b ∷ z) n some e in
+    omega arith
+
+slices : {s : Spot} {z : Bytes} {ts : List Token} → SpellsFrom s z ts → (source : Bytes) → z ≡ drop s.at source → s.at ≤ length source → HashAt source s.at s.place → AreSlices source s.at s.place ts
+slices (ends {s = s} {ts = ts} e) source is within hash = end_slices source s.at s.line s.place ts within hash e
+slices (goes {s = s} {b = b} {z = z} {n = n} {ts = ts} e more) source is within hash =
     let laid = subst (λ r. Laid source s.at s.place r) (ap (next s) (sym is) ∙ e) (laid_next source s.at s.line s.place hash) in
     let rest : drop (n.len - 1) z ≡ drop (s.at + n.len) source = drop-pred n.len b z (next_moves s (b ∷ z) n e) ∙ ap (drop n.len) is ∙ drop_drop n.len s.at source in
-    next_slices source s.at s.place n n.token ts laid.1 (slices more source rest laid.0)
+    next_slices source s.at s.place n n.token ts laid.1 (slices more source rest (next_inside source s b z n is within e) laid.0)
 
-pub spelled_slices : (source : Bytes) (ts : List Token) → Spells source ts → EachIsItsSlice source ts × InOrder 0 ts
-spelled_slices source ts h = slices h source refl tt 0 (omega arith)
+pub spelled_slices : (source : Bytes) (ts : List Token) → Spells source ts → EachIsItsSlice source ts × InOrder 0 (length source) ts
+spelled_slices source ts h = slices h source refl (omega arith) tt 0 (omega arith)

@@ -6,7 +6,7 @@ use Rattle.al_source.specs.declared.faults.LexFault.{LexFault}
 use Rattle.al_grammar.specs.declared.place.Spot.{Spot}
 use Rattle.al_grammar.specs.declared.place.Next.{Next}
 use Rattle.al_grammar.specs.Characters.{Bytes}
-use Rattle.al_grammar.specs.Spelling.{end_at, next, spot_after, first_spot, SpellsFrom, ends, goes, Spells, fault_of, fault_from, first_lexical_fault}
+use Rattle.al_grammar.specs.Spelling.{next, spot_after, first_spot, SpellsFrom, ends, goes, Spells, fault_of, fault_from, first_lexical_fault}
 use Rattle.al_grammar.specs.Reading.{with_front, reading_from, reading}
 
 pub reading_from-drop : (left : ℕ) (s : Spot) (z : Bytes) → reading_from left s z ≡ reading_from 0 s (drop left z)

@@ -1,5 +1,5 @@
 -- What stands next lies within the bytes that are left.
-use Rattle.std.proofs.Common.{◌≡◌, ℕ, zero, suc, ◌+◌, ◌-◌, ◌≤◌, ◌<◌, Bool, true, false, cond, List, [], ◌∷◌, drop, take, length, slice_index, Option, Some, None, Result, Ok, Err, refl, sym, ap, ◌∙◌, subst, ℤ, pos, ◌&&◌, ◌||◌, length-drop, arith}
+use Rattle.std.proofs.Common.{◌≡◌, ℕ, zero, suc, ◌+◌, ◌≤◌, ◌<◌, Bool, true, false, cond, [], ◌∷◌, drop, take, length, slice_index, Option, Some, None, Result, Ok, Err, refl, sym, ap, ◌∙◌, subst, ℤ, pos, ◌&&◌, ◌||◌, length-drop, arith}
 use Rattle.std.proofs.lemmas.List.{length-take}
 use Rattle.std.proofs.lemmas.List.Sums.{prefix_len-le-length}
 use Rattle.std.proofs.lemmas.Bool.{eqb-true}
@@ -10,15 +10,14 @@ use Rattle.std.specs.Str.{bytes_eq}
 use Rattle.std.specs.Char.{is_ascii_digit, is_ascii_hexdigit}
 use Rattle.al_source.specs.declared.tokens.Mark.{Mark}
 use Rattle.al_source.specs.declared.faults.LexFault.{LexFault}
-use Rattle.al_source.specs.declared.faults.LexFault.TheVariants.{BadByte}
 use Rattle.al_grammar.specs.declared.place.Place.{Place}
 use Rattle.al_grammar.specs.declared.place.Place.TheVariants.{Fresh, Inside, Hash, Pragma, Skipped, Note}
 use Rattle.al_grammar.specs.declared.place.Spot.{Spot}
 use Rattle.al_grammar.specs.declared.place.Next.{Next}
 use Rattle.al_grammar.specs.Characters.{Bytes, is_blank, is_letter, is_word, is_on_line}
 use Rattle.al_grammar.specs.Words.{mark_text, mark_at}
-use Rattle.al_grammar.specs.Lexemes.{begins_line_comment, begins_block_comment, line_comment_len, block_len, block_comment_len, name_len, is_hexadecimal, digits_end, suffix_len, number_len, number_value, is_number, number_at, number_token, inside_len, quoted, marked, Lexeme, lexeme}
-use Rattle.al_grammar.specs.Spelling.{gap, line_end_at, closed, directive, pragma, token_at, matter_at, next}
+use Rattle.al_grammar.specs.Lexemes.{begins_line_comment, begins_block_comment, block_len, name_len, is_hexadecimal, digits_end, suffix_len, number_len, number_value, is_number, number_at, number_token, inside_len, quoted, marked, Lexeme, lexeme}
+use Rattle.al_grammar.specs.Spelling.{line_end_at, closed, directive, pragma, token_at, matter_at, next}
 use Rattle.al_grammar.proofs.LexemeLemmas.{mark_found, inside_len_within}
 
 -- a byte that is not 0 is there

@@ -7,7 +7,7 @@ use Rattle.al_source.specs.declared.tokens.Key.TheVariants as key
 use Rattle.al_source.specs.declared.tokens.Mark.{Mark}
 use Rattle.al_source.specs.declared.tokens.Mark.TheVariants as mark
 use Rattle.al_grammar.specs.Characters.{Bytes}
-use Rattle.al_grammar.specs.Words.{key_text, mark_text, all_keys, all_marks, key_of, mark_at}
+use Rattle.al_grammar.specs.Words.{key_text, mark_text, all_marks, key_of, mark_at}
 use Rattle.al_grammar.proofs.LexemeLemmas.{found_passes}
 
 pub key_known : (k : Key) → key_of (key_text k) ≡ Some k

@@ -25,7 +25,7 @@ abbrev pub EachIsItsSlice : Bytes → List Token → Type 0
 EachIsItsSlice source [] = Unit {0}
 EachIsItsSlice source (t ∷ ts) = IsSpelledBy t.kind (slice source t) × EachIsItsSlice source ts
 
--- each span begins where the one before it ends, or later
-abbrev pub InOrder : ℕ → List Token → Type 0
-InOrder from [] = Unit {0}
-InOrder from (t ∷ ts) = (from ≤ t.start) × (t.start ≤ t.end) × InOrder t.end ts
+-- from a place on each span begins where the one before it ends, or later, and the last ends by another place
+abbrev pub InOrder : ℕ → ℕ → List Token → Type 0
+InOrder from to [] = from ≤ to
+InOrder from to (t ∷ ts) = (from ≤ t.start) × (t.start ≤ t.end) × InOrder t.end to ts

@@ -1,5 +1,5 @@
 -- Which tokens a source spells, and its first fault.
-use Rattle.std.specs.Prelude.{◌≡◌, ℕ, zero, suc, ◌+◌, ◌-◌, Bool, ◌&&◌, ◌||◌, if◌then◌else◌, ◌==◌, List, [], ◌∷◌, ◌++◌, take, drop, length, slice_index, slice_range, Option, Some, None, option_to_list, Result, Ok, Err, codes}
+use Rattle.std.specs.Prelude.{◌≡◌, ℕ, zero, suc, ◌+◌, ◌-◌, if◌then◌else◌, ◌==◌, List, [], ◌∷◌, ◌++◌, take, drop, length, slice_index, Option, Some, None, option_to_list, Result, Ok, Err, codes}
 use Rattle.std.specs.Str.{bytes_eq}
 use Rattle.al_source.specs.declared.tokens.Token.{Token}
 use Rattle.al_source.specs.declared.tokens.TokenKind.{TokenKind}
@@ -10,7 +10,7 @@ use Rattle.al_grammar.specs.declared.place.Place.{Place}
 use Rattle.al_grammar.specs.declared.place.Place.TheVariants.{Fresh, Inside, Hash, Pragma, Skipped, Note}
 use Rattle.al_grammar.specs.declared.place.Spot.{Spot}
 use Rattle.al_grammar.specs.declared.place.Next.{Next}
-use Rattle.al_grammar.specs.Characters.{Bytes, is_blank, is_letter, line_feeds}
+use Rattle.al_grammar.specs.Characters.{Bytes, is_blank, line_feeds}
 use Rattle.al_grammar.specs.Lexemes.{begins_line_comment, begins_block_comment, line_comment_len, block_comment_len, name_len, Lexeme, lexeme}
 
 -- something that is no token

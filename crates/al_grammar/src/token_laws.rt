@@ -27,18 +27,17 @@ pub fn one_spelling()
     ensures { (source : Bytes) (tokens others : List Token) → Spells source tokens → Spells source others → tokens ≡ others }
 {}
 
-/// The tokens that a source spells are slices of it, in order.
+/// The tokens that a source spells are slices of it, in order and within it.
 pub fn tokens_are_slices()
     ensures slices { (source : Bytes) (tokens : List Token) → Spells source tokens → EachIsItsSlice source tokens }
-    ensures order { (source : Bytes) (tokens : List Token) → Spells source tokens → InOrder 0 tokens }
+    ensures order { (source : Bytes) (tokens : List Token) → Spells source tokens → InOrder 0 (length source) tokens }
 {}
 
 /// A reserved word is known by its bytes, and by no others.
 pub fn reserved_words()
     ensures known { (key : Key) → key_of (key_text key) ≡ Some key }
     ensures only { (word : Bytes) (key : Key) → key_of word ≡ Some key → word ≡ key_text key }
-{
-}
+{}
 
 /// The mark at the front of a text is the longest with which the text begins.
 pub fn longest_mark()
@@ -46,5 +45,4 @@ pub fn longest_mark()
     ensures longest { (z : Bytes) (mark other : Mark) → mark_at z ≡ Some mark
         → starts_with nat_eq z (mark_text other) ≡ true → length (mark_text other) ≤ length (mark_text mark) }
     ensures none { (z : Bytes) (other : Mark) → mark_at z ≡ None → starts_with nat_eq z (mark_text other) ≡ true → ⊥ }
-{
-}
+{}

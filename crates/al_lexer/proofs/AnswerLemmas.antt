@@ -1,5 +1,5 @@
 -- From what is read to what is promised of it.
-use Rattle.std.proofs.Common.{◌≡◌, ℕ, ◌<◌, ◌≤◌, List, length, Result, Ok, Err, Some, subst, sym, IfOk, IfErr}
+use Rattle.std.proofs.Common.{◌≡◌, ◌≤◌, List, length, Result, Ok, Err, Some, subst, IfOk, IfErr}
 use Rattle.al_source.specs.declared.tokens.Token.{Token}
 use Rattle.al_source.specs.declared.faults.LexFault.{LexFault}
 use Rattle.al_source.specs.declared.faults.LexFault.TheVariants.{TooLong, BadByte, BadNumber, BadText, OpenComment, Memory}
@@ -10,7 +10,7 @@ use Rattle.al_grammar.specs.Reading.{reading}
 use Rattle.al_grammar.proofs.TokenLaws.{reading_spells, spelled_reading, reading_fault, fault_read}
 use Rattle.al_grammar.proofs.SliceLemmas.{spelled_slices}
 use Rattle.al_grammar.proofs.FaultLemmas.{never_too_long}
-use Rattle.al_lexer.specs.Answers.{Gives, Fails, Explains}
+use Rattle.al_lexer.specs.Answers.{Gives, Explains}
 
 abbrev Answer : Type 0
 Answer = Result (List Token) LexFault
@@ -23,7 +23,7 @@ pub slices_by : (source : Bytes) (r : Answer) → Gives r (reading source) → I
 slices_by source (Ok tokens) h = (spelled_slices source tokens (reading_spells source tokens h)).0
 slices_by source (Err fault) h = tt
 
-pub order_by : (source : Bytes) (r : Answer) → Gives r (reading source) → IfOk r (InOrder 0)
+pub order_by : (source : Bytes) (r : Answer) → Gives r (reading source) → IfOk r (InOrder 0 (length source))
 order_by source (Ok tokens) h = (spelled_slices source tokens (reading_spells source tokens h)).1
 order_by source (Err fault) h = tt
 

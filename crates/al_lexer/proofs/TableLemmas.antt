@@ -1,6 +1,6 @@
 -- The tables of the code are the tables of the definitions.
-use Rattle.std.proofs.Common.{◌≡◌, ℕ, ◌≤◌, Bool, true, false, cond, List, [], ◌∷◌, length, map, Option, Some, None, nat_eq, nat_le, refl, ap, sym, ◌∙◌, IfSome, subst, arith}
-use Rattle.std.specs.Prelude.{find, ◌&&◌}
+use Rattle.std.proofs.Common.{◌≡◌, ℕ, ◌≤◌, Bool, true, false, cond, List, [], ◌∷◌, length, map, Option, Some, None, nat_eq, refl, ap, sym, ◌∙◌, IfSome, subst, arith}
+use Rattle.std.specs.Prelude.{find}
 use Rattle.std.specs.List.{starts_with}
 use Rattle.std.specs.Str.{bytes_eq}
 use Rattle.al_source.specs.declared.tokens.Key.{Key}

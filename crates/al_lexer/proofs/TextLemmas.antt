@@ -1,5 +1,5 @@
 -- The inside of a text, unit by unit.
-use Rattle.std.proofs.Common.{◌≡◌, ℕ, zero, suc, ◌+◌, ◌-◌, ◌≤◌, ◌<◌, Bool, true, false, cond, eqb, List, [], ◌∷◌, ◌++◌, drop, length, get_or, slice_index, Option, Some, None, refl, ap, sym, ◌∙◌, length-drop, append_assoc, arith}
+use Rattle.std.proofs.Common.{◌≡◌, ℕ, zero, suc, ◌+◌, ◌-◌, ◌≤◌, true, false, cond, eqb, List, [], ◌∷◌, ◌++◌, drop, length, slice_index, Option, Some, None, refl, ap, sym, ◌∙◌, length-drop, append_assoc, arith}
 use Rattle.std.proofs.lemmas.Bool.Decides.{nat_tests}
 use Rattle.std.specs.Prelude.{option_map, option_and_then}
 use Rattle.al_source.specs.declared.texts.Piece.{Piece}

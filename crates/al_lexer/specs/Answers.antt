@@ -1,12 +1,12 @@
 -- How an answer of the lexer meets a definition: it is the defined one, unless memory runs out.
-use Rattle.std.specs.Prelude.{◌≡◌, ◌<◌, ◌≤◌, ◌+◌, ℕ, List, Option, Some, Result, Ok, Err, length}
+use Rattle.std.specs.Prelude.{◌≡◌, ◌<◌, ◌≤◌, ◌+◌, List, Some, Result, Ok, Err, length}
 use Rattle.al_source.specs.declared.tokens.Token.{Token}
 use Rattle.al_source.specs.declared.faults.LexFault.{LexFault}
-use Rattle.al_source.specs.declared.faults.LexFault.TheVariants.{TooLong, BadByte, BadNumber, BadText, OpenComment, Memory}
+use Rattle.al_source.specs.declared.faults.LexFault.TheVariants.{TooLong, Memory}
 use Rattle.al_grammar.specs.Characters.{Bytes}
 use Rattle.al_grammar.specs.declared.place.Spot.{Spot}
 use Rattle.al_grammar.specs.Reading.{with_front, reading_from}
-use Rattle.al_grammar.specs.Spelling.{Spells, first_lexical_fault}
+use Rattle.al_grammar.specs.Spelling.{first_lexical_fault}
 
 abbrev pub Fails : {A : Type 0} → LexFault → Result A LexFault → Type 0
 Fails Memory defined = Unit {0}

@@ -1,5 +1,5 @@
 -- Bytes that are gathered before a format.
-use Rattle.std.specs.Prelude.{ℕ, List, [], ◌∷◌}
+use Rattle.std.specs.Prelude.{List, [], ◌∷◌}
 use Rattle.al_source.specs.declared.texts.Piece.{Piece}
 use Rattle.al_source.specs.declared.texts.Piece.TheVariants as piece
 use Rattle.al_grammar.specs.Characters.{Bytes}

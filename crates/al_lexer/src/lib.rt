@@ -40,8 +40,8 @@ pub fn lex(alloc: Global, source: &[u8]) -> Result<Items<Token>, LexFault>
     ensures spelled { IfOk result (λ tokens. Spells source.now tokens) }
     // Each token is its slice of the source.
     ensures slices { IfOk result (EachIsItsSlice source.now) }
-    // No span begins before the one before it ends.
-    ensures order { IfOk result (InOrder 0) }
+    // Spans are in order, and none passes the end.
+    ensures order { IfOk result (InOrder 0 (length source.now)) }
     // What a source of lawful length spells is the answer, unless memory runs out.
     ensures found { (tokens : List Token) → length source.now ≤ 1048576 → Spells source.now tokens → Gives result (Ok tokens) }
     // Each fault has its cause in the source.

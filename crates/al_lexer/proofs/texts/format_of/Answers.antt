@@ -1,7 +1,7 @@
-use Rattle.std.proofs.Common.{◌≡◌, ◌≤◌, length, [], ◌∷◌, ◌++◌, slice_index, Some, None, sym, ap, ◌∙◌, subst, arith}
+use Rattle.std.proofs.Common.{◌≡◌, Some, None, sym, ap, ◌∙◌}
 use Rattle.std.proofs.lemmas.List.{take_rest}
 use Rattle.al_grammar.specs.Lexemes.{unit_at}
-use Rattle.al_lexer.proofs.TextLemmas.{Gathered, gathered_byte, gathered_number, gathered_skip, gathered_end, nil_by_test}
+use Rattle.al_lexer.proofs.TextLemmas.{gathered_byte, gathered_number, gathered_skip, gathered_end, nil_by_test}
 use Rattle.al_lexer.proofs.texts.format_of.Goals as goal
 
 pub loop-rest-preserved-in-Some-default-Some : goal.loop-rest-preserved-in-Some-default-Some

@@ -1,4 +1,4 @@
-use Rattle.std.proofs.Common.{◌≡◌, ◌≤◌, length, slice_index, Some, None, sym, ◌∙◌, arith}
+use Rattle.std.proofs.Common.{◌≡◌, slice_index, Some, None, sym, ◌∙◌, arith}
 use Rattle.std.proofs.lemmas.List.{take_rest}
 use Rattle.al_grammar.specs.Lexemes.{unit_at}
 use Rattle.al_lexer.proofs.TextLemmas.{passed_goes, passed_ends, passed_stops}

@@ -1,5 +1,5 @@
-use Rattle.std.proofs.Common.{◌≤◌, Option, Some, None, IfSome, ◌∙◌}
-use Rattle.al_lexer.proofs.TableLemmas.{mark_is, mark_moves, both}
+use Rattle.std.proofs.Common.{◌∙◌}
+use Rattle.al_lexer.proofs.TableLemmas.{mark_is, both}
 use Rattle.al_lexer.proofs.words.mark_at.Goals as goal
 
 pub returns-clause-value : goal.returns-clause-value
