@@ -5,3 +5,4 @@ pub mod WordLemmas
 pub mod MoveLemmas
 pub mod WithinLemmas
 pub mod SliceLemmas
+pub mod LineLemmas

@@ -101,12 +101,12 @@ drop_nil : (n : ℕ) → drop {A = ℕ} n [] ≡ []
 drop_nil zero = refl
 drop_nil (suc n) = refl
 
-take_sum : (m n : ℕ) (xs : Bytes) → take (m + n) xs ≡ take m xs ++ take n (drop m xs)
+pub take_sum : (m n : ℕ) (xs : Bytes) → take (m + n) xs ≡ take m xs ++ take n (drop m xs)
 take_sum zero n xs = let e : 0 + n ≡ n = omega arith in ap (λ k. take k xs) e
 take_sum (suc m) n [] = take_nil (suc m + n) ∙ sym (take_nil n)
 take_sum (suc m) n (x ∷ xs) = let e : suc m + n ≡ suc (m + n) = omega arith in ap (λ k. take k (x ∷ xs)) e ∙ ap (λ ys. x ∷ ys) (take_sum m n xs)
 
-drop_drop : (m n : ℕ) (xs : Bytes) → drop m (drop n xs) ≡ drop (n + m) xs
+pub drop_drop : (m n : ℕ) (xs : Bytes) → drop m (drop n xs) ≡ drop (n + m) xs
 drop_drop m zero xs = let e : m ≡ 0 + m = omega arith in ap (λ k. drop k xs) e
 drop_drop m (suc n) [] = drop_nil m ∙ sym (drop_nil (suc n + m))
 drop_drop m (suc n) (x ∷ xs) = let e : suc (n + m) ≡ suc n + m = omega arith in drop_drop m n xs ∙ ap (λ k. drop k (x ∷ xs)) e
@@ -202,7 +202,7 @@ next_slices source at place n (Some t) ts h rest = λ from low.
     let more = rest t.end h.2 in
     ((h.3, more.0), (omega arith, h.1, more.1))
 
-drop-pred : (n b : ℕ) (z : Bytes) → 1 ≤ n → drop (n - 1) z ≡ drop n (b ∷ z)
+pub drop-pred : (n b : ℕ) (z : Bytes) → 1 ≤ n → drop (n - 1) z ≡ drop n (b ∷ z)
 drop-pred zero b z h = absurd (omega arith)
 drop-pred (suc n) b z h = let e : suc n - 1 ≡ n = omega arith in ap (λ k. drop k z) e
 

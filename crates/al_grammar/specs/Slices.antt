@@ -1,9 +1,9 @@
 -- Where the tokens of a source lie in it, and what their bytes are.
-use Rattle.std.specs.Prelude.{◌≡◌, ◌≤◌, ℕ, ◌-◌, List, [], ◌∷◌, ◌++◌, length, slice_range, pos, codes}
+use Rattle.std.specs.Prelude.{◌≡◌, ◌≤◌, ℕ, ◌+◌, ◌-◌, List, [], ◌∷◌, ◌++◌, length, take, slice_range, pos, codes}
 use Rattle.al_source.specs.declared.tokens.Token.{Token}
 use Rattle.al_source.specs.declared.tokens.TokenKind.{TokenKind}
 use Rattle.al_source.specs.declared.tokens.TokenKind.TheVariants as kind
-use Rattle.al_grammar.specs.Characters.{Bytes}
+use Rattle.al_grammar.specs.Characters.{Bytes, line_feeds}
 use Rattle.al_grammar.specs.Words.{key_text, mark_text}
 use Rattle.al_grammar.specs.Lexemes.{number_value, format_of}
 
@@ -29,3 +29,12 @@ EachIsItsSlice source (t ∷ ts) = IsSpelledBy t.kind (slice source t) × EachIs
 abbrev pub InOrder : ℕ → ℕ → List Token → Type 0
 InOrder from to [] = from ≤ to
 InOrder from to (t ∷ ts) = (from ≤ t.start) × (t.start ≤ t.end) × InOrder t.end to ts
+
+-- the line of a place, from 1
+abbrev pub line_at : Bytes → ℕ → ℕ
+line_at source at = 1 + line_feeds (take at source)
+
+-- each token has the line of its first byte
+abbrev pub EachOnItsLine : Bytes → List Token → Type 0
+EachOnItsLine source [] = Unit {0}
+EachOnItsLine source (t ∷ ts) = (t.line ≡ line_at source t.start) × EachOnItsLine source ts

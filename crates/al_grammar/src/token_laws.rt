@@ -8,7 +8,7 @@ ghost use Rattle.al_source.specs.declared.tokens.Mark.{Mark};
 ghost use Rattle.std.specs.List.{starts_with};
 ghost use Rattle.al_grammar.specs.Words.{key_of, key_text, mark_at, mark_text};
 ghost use Rattle.al_grammar.specs.Characters.{Bytes};
-ghost use Rattle.al_grammar.specs.Slices.{EachIsItsSlice, InOrder};
+ghost use Rattle.al_grammar.specs.Slices.{EachIsItsSlice, EachOnItsLine, InOrder};
 ghost use Rattle.al_grammar.specs.Spelling.{Spells, first_lexical_fault};
 
 /// A source spells tokens, or it has a first fault.
@@ -27,9 +27,10 @@ pub fn one_spelling()
     ensures { (source : Bytes) (tokens others : List Token) → Spells source tokens → Spells source others → tokens ≡ others }
 {}
 
-/// The tokens that a source spells are slices of it, in order and within it.
+/// The tokens that a source spells are slices of it, each with its line, in order and within it.
 pub fn tokens_are_slices()
     ensures slices { (source : Bytes) (tokens : List Token) → Spells source tokens → EachIsItsSlice source tokens }
+    ensures lines { (source : Bytes) (tokens : List Token) → Spells source tokens → EachOnItsLine source tokens }
     ensures order { (source : Bytes) (tokens : List Token) → Spells source tokens → InOrder 0 (length source) tokens }
 {}
 

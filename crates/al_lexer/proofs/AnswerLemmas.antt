@@ -5,9 +5,10 @@ use Rattle.al_source.specs.declared.faults.LexFault.{LexFault}
 use Rattle.al_source.specs.declared.faults.LexFault.TheVariants.{TooLong, BadByte, BadNumber, BadText, OpenComment, Memory}
 use Rattle.al_grammar.specs.Characters.{Bytes}
 use Rattle.al_grammar.specs.Spelling.{Spells, first_lexical_fault}
-use Rattle.al_grammar.specs.Slices.{EachIsItsSlice, InOrder}
+use Rattle.al_grammar.specs.Slices.{EachIsItsSlice, EachOnItsLine, InOrder}
 use Rattle.al_grammar.specs.Reading.{reading}
 use Rattle.al_grammar.proofs.TokenLaws.{reading_spells, spelled_reading, reading_fault, fault_read}
+use Rattle.al_grammar.proofs.LineLemmas.{spelled_lines}
 use Rattle.al_grammar.proofs.SliceLemmas.{spelled_slices}
 use Rattle.al_grammar.proofs.FaultLemmas.{never_too_long}
 use Rattle.al_lexer.specs.Answers.{Gives, Explains}
@@ -22,6 +23,10 @@ spelled_by source (Err fault) h = tt
 pub slices_by : (source : Bytes) (r : Answer) → Gives r (reading source) → IfOk r (EachIsItsSlice source)
 slices_by source (Ok tokens) h = (spelled_slices source tokens (reading_spells source tokens h)).0
 slices_by source (Err fault) h = tt
+
+pub lines_by : (source : Bytes) (r : Answer) → Gives r (reading source) → IfOk r (EachOnItsLine source)
+lines_by source (Ok tokens) h = spelled_lines source tokens (reading_spells source tokens h)
+lines_by source (Err fault) h = tt
 
 pub order_by : (source : Bytes) (r : Answer) → Gives r (reading source) → IfOk r (InOrder 0 (length source))
 order_by source (Ok tokens) h = (spelled_slices source tokens (reading_spells source tokens h)).1

@@ -4,7 +4,7 @@
 ghost use Rattle.std.specs.Prelude.{◌≡◌, ◌<◌, ◌≤◌, List, length, IfOk, IfErr, Ok, Err};
 ghost use Rattle.al_source.specs.declared.faults.LexFault.{LexFault};
 ghost use Rattle.al_source.specs.declared.tokens.Token.{Token};
-ghost use Rattle.al_grammar.specs.Slices.{EachIsItsSlice, InOrder};
+ghost use Rattle.al_grammar.specs.Slices.{EachIsItsSlice, EachOnItsLine, InOrder};
 ghost use Rattle.al_grammar.specs.Spelling.{Spells, first_lexical_fault};
 ghost use Rattle.al_grammar.specs.Reading.{reading};
 ghost use Rattle.al_lexer.specs.Answers.{Gives, Explains};
@@ -40,6 +40,8 @@ pub fn lex(alloc: Global, source: &[u8]) -> Result<Items<Token>, LexFault>
     ensures spelled { IfOk result (λ tokens. Spells source.now tokens) }
     // Each token is its slice of the source.
     ensures slices { IfOk result (EachIsItsSlice source.now) }
+    // Each token has the line of its first byte, lines being counted from 1.
+    ensures lines { IfOk result (EachOnItsLine source.now) }
     // Spans are in order, and none passes the end.
     ensures order { IfOk result (InOrder 0 (length source.now)) }
     // What a source of lawful length spells is the answer, unless memory runs out.

@@ -1,5 +1,5 @@
 use Rattle.std.proofs.Common.{◌≤◌, length, arith}
-use Rattle.al_lexer.proofs.AnswerLemmas.{spelled_by, slices_by, order_by, found_by, first_by, cause_by}
+use Rattle.al_lexer.proofs.AnswerLemmas.{spelled_by, slices_by, lines_by, order_by, found_by, first_by, cause_by}
 use Rattle.al_lexer.proofs.lex.Goals as goal
 
 pub returns-else-source-gt-MOST_BYTES-clause-spelled :
@@ -27,3 +27,7 @@ returns-else-source-gt-MOST_BYTES-clause-slices c = slices_by c.args.source.now 
 pub returns-else-source-gt-MOST_BYTES-clause-order :
     goal.returns-else-source-gt-MOST_BYTES-clause-order
 returns-else-source-gt-MOST_BYTES-clause-order c = order_by c.args.source.now c.read.result c.read.ensures
+
+pub returns-else-source-gt-MOST_BYTES-clause-lines :
+    goal.returns-else-source-gt-MOST_BYTES-clause-lines
+returns-else-source-gt-MOST_BYTES-clause-lines c = lines_by c.args.source.now c.read.result c.read.ensures

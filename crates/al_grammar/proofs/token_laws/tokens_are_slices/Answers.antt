@@ -1,3 +1,4 @@
+use Rattle.al_grammar.proofs.LineLemmas.{spelled_lines}
 use Rattle.al_grammar.proofs.SliceLemmas.{spelled_slices}
 use Rattle.al_grammar.proofs.token_laws.tokens_are_slices.Goals as goal
 
@@ -6,3 +7,6 @@ returns-clause-slices c = λ source tokens spelled. (spelled_slices source token
 
 pub returns-clause-order : goal.returns-clause-order
 returns-clause-order c = λ source tokens spelled. (spelled_slices source tokens spelled).1
+
+pub returns-clause-lines : goal.returns-clause-lines
+returns-clause-lines c = spelled_lines
