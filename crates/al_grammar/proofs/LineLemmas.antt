@@ -1,5 +1,5 @@
 -- Each token has the line of its first byte.
-use Rattle.std.proofs.Common.{◌≡◌, ℕ, zero, suc, ◌+◌, ◌-◌, ◌≤◌, Bool, true, false, cond, List, [], ◌∷◌, ◌++◌, drop, take, slice_index, Option, Some, None, Result, Ok, Err, refl, sym, ap, ◌∙◌, subst, length, arith}
+use Rattle.std.proofs.Common.{◌≡◌, ℕ, ◌+◌, ◌-◌, Bool, true, false, cond, List, [], ◌∷◌, ◌++◌, drop, take, slice_index, Option, Some, None, Result, Ok, Err, refl, ap, ◌∙◌, subst, length, arith}
 use Rattle.std.proofs.lemmas.List.Sums.{sum_by-append}
 use Rattle.std.specs.Prelude.{option_to_list, ◌==◌, codes}
 use Rattle.std.specs.Str.{bytes_eq}
@@ -11,8 +11,8 @@ use Rattle.al_grammar.specs.declared.place.Place.TheVariants.{Fresh, Inside, Has
 use Rattle.al_grammar.specs.declared.place.Spot.{Spot}
 use Rattle.al_grammar.specs.declared.place.Next.{Next}
 use Rattle.al_grammar.specs.Characters.{Bytes, is_blank, line_feeds}
-use Rattle.al_grammar.specs.Lexemes.{begins_line_comment, begins_block_comment, line_comment_len, block_comment_len, name_len, Lexeme, lexeme}
-use Rattle.al_grammar.specs.Spelling.{gap, note_end, end_at, line_end_at, closed, directive, pragma, token_at, matter_at, next, spot_after, first_spot, SpellsFrom, ends, goes, Spells}
+use Rattle.al_grammar.specs.Lexemes.{begins_line_comment, begins_block_comment, block_comment_len, name_len, Lexeme, lexeme}
+use Rattle.al_grammar.specs.Spelling.{gap, note_end, end_at, line_end_at, closed, token_at, matter_at, next, SpellsFrom, ends, goes, Spells}
 use Rattle.al_grammar.specs.Slices.{line_at, EachOnItsLine}
 use Rattle.al_grammar.proofs.MoveLemmas.{next_moves}
 use Rattle.al_grammar.proofs.SliceLemmas.{take_sum, drop_drop, drop-pred}
