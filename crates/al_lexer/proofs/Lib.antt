@@ -1,0 +1,4 @@
+pub mod TableLemmas
+pub mod TextLemmas
+pub mod StepLemmas
+pub mod AnswerLemmas
