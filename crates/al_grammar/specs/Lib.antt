@@ -1,0 +1,6 @@
+pub mod Operators
+pub mod Phrases
+pub mod Types
+pub mod Expressions
+pub mod Statements
+pub mod Programs
