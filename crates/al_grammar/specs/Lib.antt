@@ -1,6 +1,9 @@
 pub mod Operators
 pub mod Phrases
+pub mod Steps
 pub mod Types
 pub mod Expressions
 pub mod Statements
 pub mod Programs
+pub mod TypeParser
+pub mod ExpressionParser

@@ -1,0 +1,5 @@
+pub mod StepFacts
+pub mod TypeFacts
+pub mod FixedPoint
+pub mod SoundExpressions
+pub mod ParserEquation
