@@ -3,3 +3,5 @@ pub mod TypeFacts
 pub mod FixedPoint
 pub mod SoundExpressions
 pub mod ParserEquation
+pub mod CompleteExpressions
+pub mod Wider
