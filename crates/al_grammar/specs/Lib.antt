@@ -7,3 +7,5 @@ pub mod Statements
 pub mod Programs
 pub mod TypeParser
 pub mod ExpressionParser
+pub mod StatementParser
+pub mod ProgramParser

@@ -3,4 +3,6 @@
 
 pub mod operators;
 
-pub use operators::{Joint, NoteWord, Prefix};
+pub use operators::{
+    Joint, LEVELS, NoteWord, Prefix, apply, infix_of, join, note_word_of, prefix_of, step_of, update_of,
+};
