@@ -5,3 +5,4 @@ pub mod SoundExpressions
 pub mod ParserEquation
 pub mod CompleteExpressions
 pub mod Wider
+pub mod SoundStatements
