@@ -6,3 +6,5 @@ pub mod ParserEquation
 pub mod CompleteExpressions
 pub mod Wider
 pub mod SoundStatements
+pub mod Shorter
+pub mod CompleteStatements
