@@ -8,3 +8,4 @@ pub mod Wider
 pub mod SoundStatements
 pub mod Shorter
 pub mod CompleteStatements
+pub mod ProgramFacts
