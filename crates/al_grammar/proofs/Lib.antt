@@ -9,3 +9,5 @@ pub mod SoundStatements
 pub mod Shorter
 pub mod CompleteStatements
 pub mod ProgramFacts
+pub mod Counted
+pub mod Loops

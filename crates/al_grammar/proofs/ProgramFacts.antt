@@ -382,6 +382,9 @@ items_shorter (g.globals b r) = let x = base_shorter b in let y = globals_shorte
 items_shorter (g.function r s t o q b i c) =
     let x = result_shorter r in let y = stars_shorter s in let z = takes_shorter t in let u = takes_shorter o in let v = params_shorter q in let w = takes_shorter b in let j = inners_shorter i in let k = takes_shorter c in omega arith
 
+pub step_shorter : (is : List Item) (ts : Tokens) (q : List Item × Tokens) → p.items_step is ts ≡ Ok q → length q.1 < length ts
+step_shorter is ts q e = let (js, r, all) = sound_item is ts q e in items_shorter r
+
 turn_takes : (a b : List Item) (ts us : Tokens) → ItemTurn a ts ((b, false), us) → length us < length ts
 turn_takes a b ts us (again r all) = items_shorter r
 
