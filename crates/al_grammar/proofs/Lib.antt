@@ -6,3 +6,16 @@ pub mod MoveLemmas
 pub mod WithinLemmas
 pub mod SliceLemmas
 pub mod LineLemmas
+pub mod StepFacts
+pub mod TypeFacts
+pub mod FixedPoint
+pub mod SoundExpressions
+pub mod ParserEquation
+pub mod CompleteExpressions
+pub mod Wider
+pub mod SoundStatements
+pub mod Shorter
+pub mod CompleteStatements
+pub mod ProgramFacts
+pub mod Counted
+pub mod Loops

@@ -4,3 +4,14 @@ pub mod Lexemes
 pub mod Spelling
 pub mod Reading
 pub mod Slices
+pub mod Operators
+pub mod Phrases
+pub mod Steps
+pub mod Types
+pub mod Expressions
+pub mod Statements
+pub mod Programs
+pub mod TypeParser
+pub mod ExpressionParser
+pub mod StatementParser
+pub mod ProgramParser

@@ -1,0 +1,146 @@
+-- The parser of items and of programs, as a function on lists.
+use Rattle.std.specs.Prelude.{ℕ, pos, neg_ℤ, ℤ, Bool, true, false, ◌&&◌, List, [], ◌∷◌, ◌++◌, Option, Some, None, Ok}
+use Rattle.al_source.specs.declared.tokens.Token.{Token}
+use Rattle.al_source.specs.declared.tokens.TokenKind.{TokenKind}
+use Rattle.al_source.specs.declared.tokens.TokenKind.TheVariants.{Number, Key, Mark}
+use Rattle.al_source.specs.declared.tokens.Mark as the_mark
+use Rattle.al_source.specs.declared.tokens.Mark.TheVariants as m
+use Rattle.al_source.specs.declared.tokens.Key as the_key
+use Rattle.al_source.specs.declared.tokens.Key.TheVariants as key
+use Rattle.al_source.specs.declared.source_tree.CType.{CType}
+use Rattle.al_source.specs.declared.source_tree.CType.TheVariants as type
+use Rattle.al_source.specs.declared.source_tree.Field.{Field}
+use Rattle.al_source.specs.declared.source_tree.Start.{Start}
+use Rattle.al_source.specs.declared.source_tree.Start.TheVariants as start
+use Rattle.al_source.specs.declared.source_tree.Stmt.{Stmt}
+use Rattle.al_source.specs.declared.source_tree.Item.{Item}
+use Rattle.al_source.specs.declared.source_tree.Item.TheVariants as item
+use Rattle.al_grammar.specs.Phrases.{Tokens, Name, line_at}
+use Rattle.al_grammar.specs.Types.{max_stars}
+use Rattle.al_grammar.specs.Programs.{max_nesting, global}
+use Rattle.al_grammar.specs.Steps.{Read, Step, bind, ◌>>=◌, ◌>>◌, pure, refuse, skip, kind_at, mark_at, key_at, is_mark, is_key, tail, expect, expect_key, word, repeat}
+use Rattle.al_grammar.specs.TypeParser.{base, stars, declarator}
+use Rattle.al_grammar.specs.StatementParser.{braced, statement}
+
+-- ---- structs
+
+abbrev pub field_by : List Field → Option the_mark.Mark → Step (List Field × Bool)
+field_by fs (Some m.Comma) = skip >> pure (fs, false)
+field_by fs (Some m.Semicolon) = skip >> pure (fs, true)
+field_by fs _ = refuse
+
+-- one name of a field line, with the mark behind it
+abbrev pub field_name : CType → List Field → Step (List Field × Bool)
+field_name a fs = declarator a >>= λ f. λ ts. field_by (fs ++ f ∷ []) (mark_at ts) ts
+
+abbrev pub field_line : List Field → Step (List Field)
+field_line fs = base >>= λ a. repeat (field_name a) fs
+
+-- one field line, and whether a `}` comes next
+abbrev pub field_turn : List Field → Step (List Field × Bool)
+field_turn fs = field_line fs >>= λ all. λ ts. pure (all, is_mark m.RightBrace ts) ts
+
+abbrev pub struct_body : Step (Name × List Field)
+struct_body = expect_key key.Struct >> word >>= λ w. expect m.LeftBrace >> repeat field_turn [] >>= λ fs. expect m.RightBrace >> expect m.Semicolon >> pure (w, fs)
+
+abbrev pub structure : Step Item
+structure = λ ts. bind (struct_body ts) (λ p. pure (item.Struct (record { name = p.0; fields = p.1; line = line_at ts })))
+
+-- ---- globals
+
+abbrev pub negative_by : Option TokenKind → Step Start
+negative_by (Some (Number (pos n))) = skip >> pure (start.Number (neg_ℤ (pos n)))
+negative_by _ = refuse
+
+abbrev pub start_value_by : Option TokenKind → Step Start
+start_value_by (Some (Number v)) = skip >> pure (start.Number v)
+start_value_by (Some (Mark m.Minus)) = skip >> (λ ts. negative_by (kind_at ts) ts)
+start_value_by (Some (Key key.Null)) = skip >> pure start.Null
+start_value_by _ = refuse
+
+abbrev pub start_by : Bool → Step Start
+start_by true = skip >> (λ ts. start_value_by (kind_at ts) ts)
+start_by false = pure start.Zero
+
+abbrev pub starts : Step Start
+starts = λ ts. start_by (is_mark m.Assign ts) ts
+
+abbrev pub global_by : List Item → Option the_mark.Mark → Step (List Item × Bool)
+global_by is (Some m.Comma) = skip >> pure (is, false)
+global_by is (Some m.Semicolon) = skip >> pure (is, true)
+global_by is _ = refuse
+
+-- one declared name, with the mark behind it
+abbrev pub global_name : ℕ → CType → List Item → Step (List Item × Bool)
+global_name line a is = declarator a >>= λ f. starts >>= λ s. λ ts. global_by (is ++ global line f s ∷ []) (mark_at ts) ts
+
+-- ---- functions
+
+abbrev pub param : Step Field
+param = base >>= λ a. stars max_stars a >>= λ b. word >>= λ w. pure (record { name = w; ty = b })
+
+abbrev pub param_by : List Field → Option the_mark.Mark → Step (List Field × Bool)
+param_by fs (Some m.Comma) = skip >> pure (fs, false)
+param_by fs (Some m.RightParen) = skip >> pure (fs, true)
+param_by fs _ = refuse
+
+abbrev pub param_turn : List Field → Step (List Field × Bool)
+param_turn fs = param >>= λ f. λ ts. param_by (fs ++ f ∷ []) (mark_at ts) ts
+
+abbrev pub params_by : Option TokenKind → Step (List Field)
+params_by (Some (Mark m.RightParen)) = skip >> pure []
+params_by (Some (Key key.Void)) = skip >> expect m.RightParen >> pure []
+params_by _ = repeat param_turn []
+
+abbrev pub params : Step (List Field)
+params = λ ts. params_by (kind_at ts) ts
+
+abbrev pub body : Step (List Stmt)
+body = expect m.LeftBrace >> braced max_nesting (statement max_nesting)
+
+-- after the result's type without stars
+abbrev pub function : ℕ → CType → Step Item
+function line a = stars max_stars a >>= λ b. word >>= λ w. expect m.LeftParen >> params >>= λ fs. body >>= λ ss. pure (item.Func (record { name = w; result = b; params = fs; body = ss; line = line }))
+
+abbrev pub past_by : Bool → Tokens → Tokens → Tokens
+past_by true past here = past
+past_by false past here = here
+
+-- the tokens after the stars
+abbrev pub past_stars : Tokens → Tokens
+past_stars [] = []
+past_stars (t ∷ ts) = past_by (is_mark m.Star (t ∷ ts)) (past_stars ts) (t ∷ ts)
+
+-- whether a name with a `(` comes after the stars
+abbrev pub function_next : Tokens → Bool
+function_next ts = is_mark m.LeftParen (tail (past_stars ts))
+
+-- ---- programs
+
+-- after the base, of this line
+abbrev pub declared_by : ℕ → CType → List Item → Bool → Step (List Item)
+declared_by line a is true = function line a >>= λ i. pure (is ++ i ∷ [])
+declared_by line a is false = repeat (global_name line a) is
+
+abbrev pub declared : ℕ → CType → List Item → Step (List Item)
+declared line a is = λ ts. declared_by line a is (function_next ts) ts
+
+-- whether a struct is defined: its `{` is the third token
+abbrev pub structure_next : Tokens → Bool
+structure_next ts = is_key key.Struct ts && is_mark m.LeftBrace (tail (tail ts))
+
+abbrev pub item_by : List Item → Bool → Bool → Step (List Item)
+item_by is true _ = structure >>= λ i. pure (is ++ i ∷ [])
+item_by is false true = λ ts. bind (bind (skip ts) (λ _. function (line_at ts) type.Void)) (λ i. pure (is ++ i ∷ []))
+item_by is false false = λ ts. bind (base ts) (λ a. declared (line_at ts) a is)
+
+-- an item, behind those that were read before
+abbrev pub items_step : List Item → Step (List Item)
+items_step is = λ ts. item_by is (structure_next ts) (is_key key.Void ts) ts
+
+abbrev pub item_turn : List Item → Step (List Item × Bool)
+item_turn is [] = Ok ((is, true), [])
+item_turn is (t ∷ ts) = bind (items_step is (t ∷ ts)) (λ all. pure (all, false))
+
+abbrev pub all_items : Step (List Item)
+all_items = repeat item_turn []
