@@ -15,3 +15,4 @@ pub mod DirectRuns
 pub mod Executions
 pub mod Counts
 pub mod Fits
+pub mod Footprint

@@ -88,6 +88,25 @@ word_put t u o i v (Some vs) None w c s = s
 word_put t u o i v (Some vs) (Some ws) w c s =
     (length-set ws i v ∙ s.0, λ k n. get_set_other ws k i v (λ e. true≢false (sym c ∙ ap (λ k. set.contains u (Word o k)) (sym e) ∙ n)) ∙ s.1 k (w (Word o k) n))
 
+-- ---- reads
+
+-- a record of which only the reads may have changed
+abbrev pub ReadsOf : Log → Log → Type 0
+ReadsOf log l = (reads : FinSet addr_cmp) × (l ≡ record log { reads = reads })
+
+maybe_read : (log l : Log) (a : Addr) (b : Bool) → ReadsOf log l → ReadsOf log (if b then l else record l { reads = set.insert l.reads a })
+maybe_read log l a true r = r
+maybe_read log l a false r = (set.insert l.reads a, ap {A = Log} {B = Log} (λ z. record z { reads = set.insert l.reads a }) r.1)
+
+pub head_reads : (log : Log) (a : Addr) → ReadsOf log (with_head log a)
+head_reads log (Word o w) = (_, refl)
+head_reads log (Head o) = (log.reads, refl)
+head_reads log (Local k) = (log.reads, refl)
+
+pub load_reads : (log : Log) (a : Addr) (v : Option Val) → ReadsOf log (log_load log a v)
+load_reads log a (Some v) = maybe_read log (with_head log a) a (set.contains (with_head log a).touched a) (head_reads log a)
+load_reads log a None = head_reads log a
+
 -- ---- sets with an element more
 
 pub inserted_here : (s : FinSet addr_cmp) (a : Addr) → set.contains (set.insert s a) a ≡ true
@@ -126,23 +145,6 @@ module _ (m : Memory) (e j last : ℕ) where
     next = h.next;
     later = h.later;
   }
-
-  -- a record of which only the reads may have changed
-  abbrev ReadsOf : Log → Log → Type 0
-  ReadsOf log l = (reads : FinSet addr_cmp) × (l ≡ record log { reads = reads })
-
-  maybe_read : (log l : Log) (a : Addr) (b : Bool) → ReadsOf log l → ReadsOf log (if b then l else record l { reads = set.insert l.reads a })
-  maybe_read log l a true r = r
-  maybe_read log l a false r = (set.insert l.reads a, ap {A = Log} {B = Log} (λ z. record z { reads = set.insert l.reads a }) r.1)
-
-  head_reads : (log : Log) (a : Addr) → ReadsOf log (with_head log a)
-  head_reads log (Word o w) = (_, refl)
-  head_reads log (Head o) = (log.reads, refl)
-  head_reads log (Local k) = (log.reads, refl)
-
-  load_reads : (log : Log) (a : Addr) (v : Option Val) → ReadsOf log (log_load log a v)
-  load_reads log a (Some v) = maybe_read log (with_head log a) a (set.contains (with_head log a).touched a) (head_reads log a)
-  load_reads log a None = head_reads log a
 
   by_reads : (c : Content) (h : Holds c) (l : Log) → ReadsOf h.log l → Holds (with_log c l)
   by_reads c h l r = subst (λ l. Holds (with_log c l)) (sym r.1) (with_reads c h r.0)
