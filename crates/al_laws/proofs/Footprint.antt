@@ -1,5 +1,5 @@
 -- A chunk depends on what it read and on nothing else: an instance of the abstraction theorem.
-use Rattle.std.proofs.Common.{◌≡◌, ◌≢◌, ℕ, zero, suc, ◌+◌, ◌-◌, List, [], ◌∷◌, length, Option, Some, None, Result, Ok, Err, Bool, true, false, cond, ◌||◌, refl, sym, ap, subst, ◌∙◌, arith, length-set}
+use Rattle.std.proofs.Common.{◌≡◌, ◌≢◌, ℕ, zero, suc, ◌+◌, ◌-◌, List, [], ◌∷◌, ◌++◌, length, Option, Some, None, Result, Ok, Err, Bool, true, false, cond, ◌||◌, refl, sym, ap, subst, ◌∙◌, arith, length-set}
 use Rattle.std.specs.Prelude.{ℤ, pos, if◌then◌else◌, nat_lt, is_some, option_map, slice_get, slice_set, replicate}
 use Rattle.std.specs.FinMap as map
 use Rattle.std.specs.FinSet as set
@@ -15,8 +15,8 @@ use Rattle.al_core.specs.declared.values.Trap.{Trap}
 use Rattle.al_core.specs.declared.values.Trap.TheVariants as trap
 use Rattle.al_core.specs.declared.values.Obj.{Obj}
 use Rattle.al_core.specs.Orders.{obj_cmp, obj_eq, addr_cmp, addr_eq}
-use Rattle.al_core.specs.Memory.{Memory, AgreeAt, length_at, has_object, word_in, value_at, put}
-use Rattle.al_core.specs.Access.{Log, Content, Names, with_memory, with_log, with_touched, with_head, with_object, log_load, log_store, log_make, load_in, loaded, missing_or_outside, is_own, red_index, load_logged, store_logged, load_by, store_by, store_in, word_limit, name_of, load, store, make, print, in_iteration}
+use Rattle.al_core.specs.Memory.{Memory, AgreeAt, length_at, has_object, word_in, value_at, put, add}
+use Rattle.al_core.specs.Access.{Log, Content, Names, with_memory, with_log, with_touched, with_head, with_object, one_more, log_load, log_store, log_make, load_in, loaded, missing_or_outside, is_own, red_index, load_logged, store_logged, load_by, store_by, store_in, word_limit, name_of, load, store, make, print, in_iteration}
 use Rattle.al_laws.proofs.Orders.{obj_total, addr_total, obj_equal, obj_itself, addr_equal, addr_itself}
 use Rattle.al_laws.proofs.Words.{get_set_other}
 use Rattle.al_laws.proofs.Laid.{same_shape}
@@ -47,13 +47,13 @@ touched_before u b a f c = ap (λ z. z || set.contains u a) (sym f) ∙ sym (set
 
 module _ (m n : Memory) (same_count : length m.locals ≡ length n.locals) where
   -- what a memory still has of the one that it was copied from
-  record Half (from now : Memory) (log : Log) : Type 0 where
+  pub record Half (from now : Memory) (log : Log) : Type 0 where
     pub kept : (o : Obj) → set.contains log.made o ≡ false → SameBut log.touched o (map.get from.objects o) (map.get now.objects o)
     pub locals_length : length now.locals ≡ length from.locals
     pub locals : (k : ℕ) → set.contains log.touched (Local k) ≡ false → slice_get now.locals k ≡ slice_get from.locals k
 
   -- two runs so far: the same record, names and printed bytes, and the same values where something was touched or made
-  record Near (s t : Content) : Type 0 where
+  pub record Near (s t : Content) : Type 0 where
     pub log : Log
     pub is_s : s.log ≡ Some log
     pub is_t : t.log ≡ Some log
@@ -64,15 +64,15 @@ module _ (m n : Memory) (same_count : length m.locals ≡ length n.locals) where
     pub half_s : Half m s.memory log
     pub half_t : Half n t.memory log
 
-  abbrev AgreeOn : FinSet addr_cmp → Type 0
+  abbrev pub AgreeOn : FinSet addr_cmp → Type 0
   AgreeOn reads = (a : Addr) → set.contains reads a ≡ true → AgreeAt m n a
 
-  abbrev GoodLog : Option Log → Type 0
+  abbrev pub GoodLog : Option Log → Type 0
   GoodLog None = Unit {0}
   GoodLog (Some log) = AgreeOn log.reads
 
   -- the two memories agree at each read
-  abbrev Good : Content → Type 0
+  abbrev pub Good : Content → Type 0
   Good c = GoodLog c.log
 
   -- ---- what agreement at a head gives
@@ -408,3 +408,133 @@ module _ (m n : Memory) (same_count : length m.locals ≡ length n.locals) where
     store_same a x =
         subst (λ l. Good (store_by l s a x).1 → Same s t h (store_by l s a x) (store_by t.log t a x)) (sym h.is_s)
         (subst (λ l. Good (store_by (Some h.log) s a x).1 → Same s t h (store_by (Some h.log) s a x) (store_by l t a x)) (sym h.is_t) (store_by_index a x (red_index h.log.reds a)))
+
+  more_of_store : (log : Log) (a : Addr) (v : Option Val) (q : Addr) → set.contains log.reads q ≡ true → set.contains (log_store log a v).reads q ≡ true
+  more_of_store log a (Some v) q e = more_of_head log a q e
+  more_of_store log a None q e = more_of_head log a q e
+
+  kept_log : (d : Content) (a : Addr) (x : Val) (v : Option Val) → (store_in d a x v).1.log ≡ d.log
+  kept_log d a x (Some v) = refl
+  kept_log d a x None = refl
+
+  store_back_own : (s : Content) (log : Log) (a : Addr) (b : Bool) → s.log ≡ Some log → Good (if b then s else with_log s (log_store log a (value_at s.memory a))) → Good s
+  store_back_own s log a true e g = g
+  store_back_own s log a false e g = subst GoodLog (sym e) (λ q c. g q (more_of_store log a (value_at s.memory a) q c))
+
+  store_back_index : (s : Content) (log : Log) (a : Addr) (x : Val) (i : Option ℕ) → s.log ≡ Some log → Good (store_logged s log a x i).1 → Good s
+  store_back_index s log a x (Some i) e g = subst GoodLog (sym e) g
+  store_back_index s log a x None e g =
+      store_back_own s log a (is_own log a) e (subst GoodLog (kept_log (if is_own log a then s else with_log s (log_store log a (value_at s.memory a))) a x (value_at s.memory a)) g)
+
+  store_back : (s : Content) (a : Addr) (x : Val) (l : Option Log) → s.log ≡ l → Good (store_by l s a x).1 → Good s
+  store_back s a x None e g = subst GoodLog (kept_log s a x (value_at s.memory a)) g
+  store_back s a x (Some log) e g = store_back_index s log a x (red_index log.reds a) e g
+
+  store_matches : (a : Addr) (x : Val) → Matches Near Good (store a x) (store a x)
+  unfolding store
+  store_matches a x = record { by = λ s t h g. store_same s t h a x g; back = λ s g. store_back s a x s.log refl g }
+
+  -- ---- allocations and printing
+
+  get_inserted : (s : Memory) (o : Obj) (ws : List Val) (q : Obj) → obj_eq q o ≡ false → map.get (map.insert s.objects o ws) q ≡ map.get s.objects q
+  get_inserted s o ws q f = map.get-insert obj_total s.objects o ws q ∙ ap (λ b. cond b (Some ws) (map.get s.objects q)) f
+
+  inserted_alike : (s t : Memory) (o : Obj) (ws : List Val) (q : Obj) (b : Bool) → (b ≡ false → map.get s.objects q ≡ map.get t.objects q) → cond b (Some ws) (map.get s.objects q) ≡ cond b (Some ws) (map.get t.objects q)
+  inserted_alike s t o ws q true e = refl
+  inserted_alike s t o ws q false e = e refl
+
+  word_inserted : (s t : Memory) (ws : List Val) (q : Obj) (i : ℕ) (b : Bool) → word_in (map.get s.objects q) i ≡ word_in (map.get t.objects q) i → word_in (cond b (Some ws) (map.get s.objects q)) i ≡ word_in (cond b (Some ws) (map.get t.objects q)) i
+  word_inserted s t ws q i true e = refl
+  word_inserted s t ws q i false e = e
+
+  value_inserted : (s t : Memory) (o : Obj) (ws : List Val) (a : Addr) → value_at s a ≡ value_at t a → value_at (add s o ws) a ≡ value_at (add t o ws) a
+  value_inserted s t o ws (Word q i) e =
+      ap (λ x. word_in x i) (map.get-insert obj_total s.objects o ws q) ∙ word_inserted s t ws q i (obj_eq q o) e ∙ sym (ap (λ x. word_in x i) (map.get-insert obj_total t.objects o ws q))
+  value_inserted s t o ws (Head q) e = refl
+  value_inserted s t o ws (Local k) e = e
+
+  abbrev with_made : Log → Obj → Log
+  with_made log o = with_touched (record log { made = set.insert log.made o }) (Head o)
+
+  half_made : (from now : Memory) (log : Log) (o : Obj) (ws : List Val) → Half from now log → Half from (add now o ws) (with_made log o)
+  half_made from now log o ws h = record {
+    kept = λ q f.
+        let both = sym (set.contains-insert obj_total log.made o q) ∙ f in
+        subst (λ x. SameBut (set.insert log.touched (Head o)) q (map.get from.objects q) x) (sym (get_inserted now o ws q (or_left (obj_eq q o) (set.contains log.made q) both)))
+        (weaker log.touched (set.insert log.touched (Head o)) q (map.get from.objects q) (map.get now.objects q) (inserted_weaker log.touched (Head o)) (h.kept q (or_right (obj_eq q o) (set.contains log.made q) both)));
+    locals_length = h.locals_length;
+    locals = λ k f. h.locals k (inserted_weaker log.touched (Head o) (Local k) f);
+  }
+
+  or_false_left : (b c : Bool) → b ≡ false → (b || c) ≡ true → c ≡ true
+  or_false_left true c f e = absurd (true≢false f)
+  or_false_left false c f e = e
+
+  object_near : (s t : Content) (h : Near s t) (o : Obj) (words : ℕ) → Near (with_object s o words) (with_object t o words)
+  object_near s t h o words =
+      let ws = replicate words (Int (pos 0)) in
+      record {
+        log = with_made h.log o;
+        is_s = ap (λ l. log_make l o) h.is_s;
+        is_t = ap (λ l. log_make l o) h.is_t;
+        names = ap (λ z. one_more z words) h.names;
+        printed = h.printed;
+        made = λ q c.
+            map.get-insert obj_total s.memory.objects o ws q
+            ∙ inserted_alike s.memory t.memory o ws q (obj_eq q o) (λ f. h.made q (or_false_left (obj_eq q o) (set.contains h.log.made q) f (sym (set.contains-insert obj_total h.log.made o q) ∙ c)))
+            ∙ sym (map.get-insert obj_total t.memory.objects o ws q);
+        touched = λ a c.
+            elim (addr_eq a (Head o)) as (λ b. addr_eq a (Head o) ≡ b → value_at (add s.memory o ws) a ≡ value_at (add t.memory o ws) a) [
+              | true ↦ λ e. subst (λ a. value_at (add s.memory o ws) a ≡ value_at (add t.memory o ws) a) (sym (addr_equal a (Head o) e)) refl
+              | false ↦ λ e. value_inserted s.memory t.memory o ws a (h.touched a (touched_before h.log.touched (Head o) a e c))
+            ] refl;
+        half_s = half_made m s.memory h.log o ws h.half_s;
+        half_t = half_made n t.memory h.log o ws h.half_t;
+      }
+
+  abbrev limited : Content → Bool → ℕ → Result Obj Trap × Content
+  limited c b words = if b then (Err trap.Alloc, c) else (Ok (name_of c.names.maker c.names.next), with_object c (name_of c.names.maker c.names.next) words)
+
+  abbrev over_limit : ℕ → Names → Bool
+  over_limit words names = nat_lt (word_limit names.maker) (names.words + words + 1)
+
+  limited_same : (s t : Content) (h : Near s t) (words : ℕ) (b : Bool) → Same s t h (limited s b words) (limited t b words)
+  limited_same s t h words true = (refl, h)
+  limited_same s t h words false =
+      let o = name_of s.names.maker s.names.next in
+      (ap {A = Names} {B = Result Obj Trap} (λ z. Ok (name_of z.maker z.next)) h.names, subst (λ z. Near (with_object s o words) (with_object t z words)) (ap (λ z. name_of z.maker z.next) h.names) (object_near s t h o words))
+
+  make_back : (s : Content) (o : Obj) (l : Option Log) → GoodLog (log_make l o) → GoodLog l
+  make_back s o None g = tt
+  make_back s o (Some log) g = g
+
+  limited_back : (s : Content) (words : ℕ) (b : Bool) → Good (limited s b words).1 → Good s
+  limited_back s words true g = g
+  limited_back s words false g = make_back s (name_of s.names.maker s.names.next) s.log g
+
+  make_matches : (words : ℕ) → Matches Near Good (make words) (make words)
+  unfolding make
+  make_matches words = record {
+    by = λ s t h g. subst (λ b. Same s t h (limited s (over_limit words s.names) words) (limited t b words)) (ap (over_limit words) h.names) (limited_same s t h words (over_limit words s.names));
+    back = λ s g. limited_back s words (over_limit words s.names) g;
+  }
+
+  print_matches : (bytes : List ℕ) → Matches Near Good {A = Result (Unit {0}) Trap} (λ s. (Ok tt, print bytes s)) (λ t. (Ok tt, print bytes t))
+  unfolding print
+  print_matches bytes = record {
+    by = λ s t h g. (refl, record {
+      log = h.log;
+      is_s = h.is_s;
+      is_t = h.is_t;
+      names = h.names;
+      printed = ap (λ z. z ++ bytes) h.printed;
+      made = h.made;
+      touched = h.touched;
+      half_s = h.half_s;
+      half_t = h.half_t;
+    });
+    back = λ s g. g;
+  }
+
+  pub near_kept : Kept Near Good in_iteration in_iteration
+  near_kept = record { load = load_matches; store = store_matches; make = make_matches; print = print_matches; visit = λ loop lo hi locals. record { by = λ s t h g. (refl, h); back = λ s g. g } }

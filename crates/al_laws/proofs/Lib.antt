@@ -16,3 +16,4 @@ pub mod Executions
 pub mod Counts
 pub mod Fits
 pub mod Footprint
+pub mod Depends
