@@ -26,7 +26,7 @@ some_of : {A : Type 0} (x : Option A) → is_some x ≡ true → (a : A) × (x �
 some_of None e = absurd (true≢false (sym e))
 some_of (Some a) e = (a, refl)
 
-same_shape : (l k : List Val) → length l ≡ length k → (i : ℕ) → is_some (slice_get l i) ≡ is_some (slice_get k i)
+pub same_shape : (l k : List Val) → length l ≡ length k → (i : ℕ) → is_some (slice_get l i) ≡ is_some (slice_get k i)
 same_shape [] [] e i = refl
 same_shape [] (y ∷ k) e i = absurd (omega arith)
 same_shape (x ∷ l) [] e i = absurd (omega arith)

@@ -15,3 +15,5 @@ pub mod DirectRuns
 pub mod Executions
 pub mod Counts
 pub mod Fits
+pub mod Footprint
+pub mod Depends

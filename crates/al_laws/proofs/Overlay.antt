@@ -76,7 +76,7 @@ put_here m q i v =
     ap (λ x. word_in x i) (get_put m q i v q ∙ ap (λ b. if b then option_map (λ l. slice_set l i v) (fin.get m.objects q) else fin.get m.objects q) (obj_itself q))
     ∙ word_set (fin.get m.objects q) i v
 
-put_elsewhere : (m : Memory) (o : Obj) (w : ℕ) (v : Val) (q : Obj) (i : ℕ) → Word q i ≢ Word o w → word_in (fin.get (put m (Word o w) v).objects q) i ≡ word_in (fin.get m.objects q) i
+pub put_elsewhere : (m : Memory) (o : Obj) (w : ℕ) (v : Val) (q : Obj) (i : ℕ) → Word q i ≢ Word o w → word_in (fin.get (put m (Word o w) v).objects q) i ≡ word_in (fin.get m.objects q) i
 put_elsewhere m o w v q i n =
     ap (λ x. word_in x i) (get_put m o w v q)
     ∙ elim (obj_eq q o) as (λ b. obj_eq q o ≡ b → word_in (if b then option_map (λ l. slice_set l w v) (fin.get m.objects q) else fin.get m.objects q) i ≡ word_in (fin.get m.objects q) i) [

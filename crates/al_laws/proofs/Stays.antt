@@ -73,20 +73,59 @@ none_set true f x h = ap (option_map f) h
 none_set false f x h = h
 
 -- more is touched now
-weaker : (t u : FinSet addr_cmp) (o : Obj) (x y : Option (List Val)) → ((a : Addr) → set.contains u a ≡ false → set.contains t a ≡ false) → SameBut t o x y → SameBut u o x y
+pub weaker : (t u : FinSet addr_cmp) (o : Obj) (x y : Option (List Val)) → ((a : Addr) → set.contains u a ≡ false → set.contains t a ≡ false) → SameBut t o x y → SameBut u o x y
 weaker t u o None None w s = tt
 weaker t u o None (Some ws) w s = s
 weaker t u o (Some vs) None w s = s
 weaker t u o (Some vs) (Some ws) w s = (s.0, λ i n. s.1 i (w (Word o i) n))
 
 -- a word that is touched was put
-word_put : (t u : FinSet addr_cmp) (o : Obj) (i : ℕ) (v : Val) (x y : Option (List Val)) → ((a : Addr) → set.contains u a ≡ false → set.contains t a ≡ false) → set.contains u (Word o i) ≡ true → SameBut t o x y
+pub word_put : (t u : FinSet addr_cmp) (o : Obj) (i : ℕ) (v : Val) (x y : Option (List Val)) → ((a : Addr) → set.contains u a ≡ false → set.contains t a ≡ false) → set.contains u (Word o i) ≡ true → SameBut t o x y
     → SameBut u o x (option_map (λ l. slice_set l i v) y)
 word_put t u o i v None None w c s = tt
 word_put t u o i v None (Some ws) w c s = s
 word_put t u o i v (Some vs) None w c s = s
 word_put t u o i v (Some vs) (Some ws) w c s =
     (length-set ws i v ∙ s.0, λ k n. get_set_other ws k i v (λ e. true≢false (sym c ∙ ap (λ k. set.contains u (Word o k)) (sym e) ∙ n)) ∙ s.1 k (w (Word o k) n))
+
+-- ---- reads
+
+-- a record of which only the reads may have changed
+abbrev pub ReadsOf : Log → Log → Type 0
+ReadsOf log l = (reads : FinSet addr_cmp) × (l ≡ record log { reads = reads })
+
+maybe_read : (log l : Log) (a : Addr) (b : Bool) → ReadsOf log l → ReadsOf log (if b then l else record l { reads = set.insert l.reads a })
+maybe_read log l a true r = r
+maybe_read log l a false r = (set.insert l.reads a, ap {A = Log} {B = Log} (λ z. record z { reads = set.insert l.reads a }) r.1)
+
+pub head_reads : (log : Log) (a : Addr) → ReadsOf log (with_head log a)
+head_reads log (Word o w) = (_, refl)
+head_reads log (Head o) = (log.reads, refl)
+head_reads log (Local k) = (log.reads, refl)
+
+pub load_reads : (log : Log) (a : Addr) (v : Option Val) → ReadsOf log (log_load log a v)
+load_reads log a (Some v) = maybe_read log (with_head log a) a (set.contains (with_head log a).touched a) (head_reads log a)
+load_reads log a None = head_reads log a
+
+-- ---- sets with an element more
+
+pub inserted_here : (s : FinSet addr_cmp) (a : Addr) → set.contains (set.insert s a) a ≡ true
+inserted_here s a = set.contains-insert addr_total s a a ∙ ap (λ b. b || set.contains s a) (addr_itself a)
+
+pub or_right : (b c : Bool) → (b || c) ≡ false → c ≡ false
+or_right true c h = absurd (true≢false h)
+or_right false c h = h
+
+pub inserted_weaker : (s : FinSet addr_cmp) (a q : Addr) → set.contains (set.insert s a) q ≡ false → set.contains s q ≡ false
+inserted_weaker s a q h = or_right (addr_eq q a) (set.contains s q) (sym (set.contains-insert addr_total s a q) ∙ h)
+
+pub obj_differs : (x y : Obj) → x ≢ y → obj_eq x y ≡ false
+obj_differs x y n = elim (obj_eq x y) as (λ b. obj_eq x y ≡ b → b ≡ false) [ true ↦ λ t. absurd (n (obj_equal x y t)) | false ↦ λ t. refl ] refl
+
+pub or_left : (b c : Bool) → (b || c) ≡ false → b ≡ false
+or_left true c h = h
+or_left false c h = refl
+
 
 module _ (m : Memory) (e j last : ℕ) where
   abbrev Holds : Content → Type 0
@@ -106,23 +145,6 @@ module _ (m : Memory) (e j last : ℕ) where
     next = h.next;
     later = h.later;
   }
-
-  -- a record of which only the reads may have changed
-  abbrev ReadsOf : Log → Log → Type 0
-  ReadsOf log l = (reads : FinSet addr_cmp) × (l ≡ record log { reads = reads })
-
-  maybe_read : (log l : Log) (a : Addr) (b : Bool) → ReadsOf log l → ReadsOf log (if b then l else record l { reads = set.insert l.reads a })
-  maybe_read log l a true r = r
-  maybe_read log l a false r = (set.insert l.reads a, ap {A = Log} {B = Log} (λ z. record z { reads = set.insert l.reads a }) r.1)
-
-  head_reads : (log : Log) (a : Addr) → ReadsOf log (with_head log a)
-  head_reads log (Word o w) = (_, refl)
-  head_reads log (Head o) = (log.reads, refl)
-  head_reads log (Local k) = (log.reads, refl)
-
-  load_reads : (log : Log) (a : Addr) (v : Option Val) → ReadsOf log (log_load log a v)
-  load_reads log a (Some v) = maybe_read log (with_head log a) a (set.contains (with_head log a).touched a) (head_reads log a)
-  load_reads log a None = head_reads log a
 
   by_reads : (c : Content) (h : Holds c) (l : Log) → ReadsOf h.log l → Holds (with_log c l)
   by_reads c h l r = subst (λ l. Holds (with_log c l)) (sym r.1) (with_reads c h r.0)
@@ -186,16 +208,6 @@ module _ (m : Memory) (e j last : ℕ) where
     later = h.later;
   }
 
-  inserted_here : (s : FinSet addr_cmp) (a : Addr) → set.contains (set.insert s a) a ≡ true
-  inserted_here s a = set.contains-insert addr_total s a a ∙ ap (λ b. b || set.contains s a) (addr_itself a)
-
-  or_right : (b c : Bool) → (b || c) ≡ false → c ≡ false
-  or_right true c h = absurd (true≢false h)
-  or_right false c h = h
-
-  inserted_weaker : (s : FinSet addr_cmp) (a q : Addr) → set.contains (set.insert s a) q ≡ false → set.contains s q ≡ false
-  inserted_weaker s a q h = or_right (addr_eq q a) (set.contains s q) (sym (set.contains-insert addr_total s a q) ∙ h)
-
   stored_word : (c : Content) (h : Holds c) (o : Obj) (w : ℕ) (v : Val) (b : Bool) (old : Option Val) → set.contains h.log.made o ≡ b
       → Holds (store_in (if b then c else with_log c (log_store h.log (Word o w) old)) (Word o w) v old).1
   stored_word c h o w v true (Some x) own = word_stays c h o w v h.log.reads h.log.touched c.log h.is (λ a n. n) (λ n. absurd (true≢false (sym own ∙ n)))
@@ -232,9 +244,6 @@ module _ (m : Memory) (e j last : ℕ) where
   iter_apart : (i k n : ℕ) → j < i → Iter e i k ≢ Iter e j n
   iter_apart i k n l s = absurd (omega (arith, number_of 2 (Iter e i k) (Iter e j n) s))
 
-  obj_differs : (x y : Obj) → x ≢ y → obj_eq x y ≡ false
-  obj_differs x y n = elim (obj_eq x y) as (λ b. obj_eq x y ≡ b → b ≡ false) [ true ↦ λ t. absurd (n (obj_equal x y t)) | false ↦ λ t. refl ] refl
-
   same_none : (t : FinSet addr_cmp) (o : Obj) (x : Option (List Val)) → SameBut t o x None → x ≡ None
   same_none t o None s = refl
   same_none t o (Some vs) s = absurd s
@@ -259,10 +268,6 @@ module _ (m : Memory) (e j last : ℕ) where
       let same = obj_equal q o t in
       (ap (map.get m.objects) same ∙ not_there c h o none, ap is_some (ap (map.get (map.insert c.memory.objects o ws)) same ∙ get_made c o ws))
   made_of c h o ws none q false t k = ((h.made q k).0, ap is_some (get_added c o ws q t) ∙ (h.made q k).1)
-
-  or_left : (b c : Bool) → (b || c) ≡ false → b ≡ false
-  or_left true c h = h
-  or_left false c h = refl
 
   made_stays : (c : Content) (h : Holds c) (o : Obj) (words : ℕ) → o ≡ Iter e j c.names.next → Holds (with_object c o words)
   made_stays c h o words name =

@@ -4,3 +4,4 @@ pub mod Recording
 pub mod Rounds
 pub mod DirectRuns
 pub mod Bounds
+pub mod Footprints
