@@ -1,6 +1,6 @@
 -- A chunk's outcome depends on what it read and on nothing else.
-use Rattle.std.proofs.Common.{◌≡◌, ℕ, zero, suc, ◌+◌, ◌-◌, List, [], ◌∷◌, length, Option, Some, None, Bool, true, false, refl, sym, ap, subst, ◌∙◌}
-use Rattle.std.specs.Prelude.{map, if◌then◌else◌, slice_get}
+use Rattle.std.proofs.Common.{◌≡◌, ℕ, zero, suc, ◌+◌, ◌-◌, List, length, Option, Some, None, true, false, refl, sym, ap, subst, ◌∙◌}
+use Rattle.std.specs.Prelude.{map, if◌then◌else◌}
 use Rattle.std.specs.FinMap as fin
 use Rattle.std.specs.FinSet as set
 use Rattle.std.specs.FinSet.{FinSet, contains-empty}
@@ -8,40 +8,39 @@ use Rattle.std.proofs.Math.Bool.{true≢false}
 use Rattle.al_core.specs.declared.choices.Red.{Red}
 use Rattle.al_core.specs.declared.reports.Ending.{Ending}
 use Rattle.al_core.specs.declared.reports.Ending.TheVariants as ending
-use Rattle.al_core.specs.declared.values.Val.{Val}
 use Rattle.al_core.specs.declared.values.Addr.{Addr}
 use Rattle.al_core.specs.declared.values.Obj.{Obj}
 use Rattle.al_core.specs.Orders.{obj_cmp, addr_cmp}
 use Rattle.al_core.specs.Memory.{Memory, AgreeAt, words_or_none, value_at}
 use Rattle.al_core.specs.Access.{Log, Content, in_iteration}
 use Rattle.al_core.specs.Iteration.{Execution, Ran, ending_of, iteration, iteration_from, then_runs, add_steps, iterations}
-use Rattle.al_core.specs.Chunk.{Outcome, gathered, written, made_objects, chunk_start, chunk_trips, chunk_runs, chunk_from, fresh_log, outcome_of, outcome}
+use Rattle.al_core.specs.Chunk.{gathered, written, made_objects, chunk_start, chunk_trips, chunk_runs, chunk_from, fresh_log, outcome_of, outcome}
 use Rattle.al_laws.specs.Footprints.{DependsOnReads}
 use Rattle.al_laws.proofs.Orders.{obj_total, addr_total, obj_apart, addr_apart}
 use Rattle.al_laws.proofs.Agree.{Agree, agree_closed}
 use Rattle.al_laws.proofs.Keeps.{of_iteration}
-use Rattle.al_laws.proofs.Stays.{SameBut}
+use Rattle.al_laws.proofs.Stays.{same_itself}
 use Rattle.al_laws.proofs.Overlay.{get_written, get_made_objects}
-use Rattle.al_laws.proofs.Footprint.{Half, Near, Good, GoodLog, near_kept}
+use Rattle.al_laws.proofs.Footprint.{Near, Good, GoodLog, near_kept}
 
 -- ---- outcomes of contents that are near
 
 written_alike : (s t : Memory) (touched : FinSet addr_cmp) → ((a : Addr) → set.contains touched a ≡ true → value_at s a ≡ value_at t a) → written s touched ≡ written t touched
 written_alike s t touched e =
     fin.same_map addr_total addr_apart (written s touched) (written t touched) (λ a.
-        fin.get-entries (written s touched) a ∙ get_written s touched a
-        ∙ elim (set.contains touched a) as (λ b. set.contains touched a ≡ b → (if b then value_at s a else None) ≡ (if b then value_at t a else None)) [ true ↦ λ c. e a c | false ↦ λ c. refl ] refl
-        ∙ sym (fin.get-entries (written t touched) a ∙ get_written t touched a))
+    fin.get-entries (written s touched) a ∙ get_written s touched a
+    ∙ elim (set.contains touched a) as (λ b. set.contains touched a ≡ b → (if b then value_at s a else None) ≡ (if b then value_at t a else None)) [ true ↦ λ c. e a c | false ↦ λ c. refl ] refl
+    ∙ sym (fin.get-entries (written t touched) a ∙ get_written t touched a))
 
 made_alike : (s t : Memory) (made : FinSet obj_cmp) → ((o : Obj) → set.contains made o ≡ true → fin.get s.objects o ≡ fin.get t.objects o) → made_objects s made ≡ made_objects t made
 made_alike s t made e =
     fin.same_map obj_total obj_apart (made_objects s made) (made_objects t made) (λ o.
-        fin.get-entries (made_objects s made) o ∙ get_made_objects s made o
-        ∙ elim (set.contains made o) as (λ b. set.contains made o ≡ b → (if b then Some (words_or_none (fin.get s.objects o)) else None) ≡ (if b then Some (words_or_none (fin.get t.objects o)) else None)) [
-          | true ↦ λ c. ap (λ x. Some (words_or_none x)) (e o c)
-          | false ↦ λ c. refl
-        ] refl
-        ∙ sym (fin.get-entries (made_objects t made) o ∙ get_made_objects t made o))
+    fin.get-entries (made_objects s made) o ∙ get_made_objects s made o
+    ∙ elim (set.contains made o) as (λ b. set.contains made o ≡ b → (if b then Some (words_or_none (fin.get s.objects o)) else None) ≡ (if b then Some (words_or_none (fin.get t.objects o)) else None)) [
+      | true ↦ λ c. ap (λ x. Some (words_or_none x)) (e o c)
+      | false ↦ λ c. refl
+    ] refl
+    ∙ sym (fin.get-entries (made_objects t made) o ∙ get_made_objects t made o))
 
 module _ (m n : Memory) (same_count : length m.locals ≡ length n.locals) where
   abbrev NearHere : Content → Content → Type 0
@@ -106,10 +105,6 @@ module _ (m n : Memory) (same_count : length m.locals ≡ length n.locals) where
             then_agrees (iteration x j s).ending (iteration x j s) (iteration x j t) (iterations x k (suc j)) refl (first.by s t h (then_agrees_back (iteration x j s).ending (iteration x j s) (iterations x k (suc j)) refl more g)) more g;
         back = λ s g. first.back s (then_agrees_back (iteration x j s).ending (iteration x j s) (iterations x k (suc j)) refl more g);
       }
-
-  same_itself : (o : Obj) (y : Option (List Val)) → SameBut set.empty o y y
-  same_itself o None = tt
-  same_itself o (Some ws) = (refl, λ w f. refl)
 
   at_start : (x : Execution) (reds : List Red) (c : ℕ) → NearHere (chunk_from x reds m c) (chunk_from x reds n c)
   at_start x reds c = record {

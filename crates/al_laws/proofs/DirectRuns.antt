@@ -1,5 +1,5 @@
 -- A chunk without reductions is the direct run of its iterations.
-use Rattle.std.proofs.Common.{◌≡◌, ℕ, zero, suc, ◌+◌, ◌-◌, ◌<◌, ◌≤◌, List, [], length, Option, Some, None, true, false, refl, sym, ap, subst, ◌∙◌, arith}
+use Rattle.std.proofs.Common.{◌≡◌, ℕ, zero, suc, ◌+◌, ◌-◌, ◌<◌, ◌≤◌, [], length, Some, None, true, false, refl, sym, ap, subst, ◌∙◌, arith}
 use Rattle.std.specs.Prelude.{is_some, slice_get}
 use Rattle.std.specs.FinMap as fin
 use Rattle.std.specs.FinSet as set
@@ -8,7 +8,6 @@ use Rattle.std.proofs.Math.Bool.{true≢false}
 use Rattle.al_core.specs.declared.reports.Ending.{Ending}
 use Rattle.al_core.specs.declared.reports.Ending.TheVariants as ending
 use Rattle.al_core.specs.declared.values.Addr.TheVariants.{Local}
-use Rattle.al_core.specs.declared.values.Val.{Val}
 use Rattle.al_core.specs.declared.values.Obj.{Obj}
 use Rattle.al_core.specs.declared.values.Obj.TheVariants.{Iter}
 use Rattle.al_core.specs.Orders.{obj_cmp}
@@ -23,7 +22,7 @@ use Rattle.al_laws.specs.DirectRuns.{IsDirectRun, ChunkIsDirectRun}
 use Rattle.al_laws.proofs.Agree.{Agree, agree_closed}
 use Rattle.al_laws.proofs.Recording.{Recorded, Good, recorded_kept}
 use Rattle.al_laws.proofs.Keeps.{Keeps, keeps_closed, of_iteration}
-use Rattle.al_laws.proofs.Stays.{SameBut, Stays, stays}
+use Rattle.al_laws.proofs.Stays.{SameBut, same_itself, Stays, stays}
 use Rattle.al_laws.proofs.Laid.{none_of, whole_memory}
 
 -- ---- with a record and without it
@@ -109,10 +108,6 @@ module _ (m : Memory) (x : Execution) (last : ℕ) where
       then_keeps (iteration x j c).ending (iteration x j c) (suc j) (iterations x n (suc j)) refl (iteration_keeps j c (omega arith) b) (λ d k. iterations_keep n (suc j) d (omega arith) k)
 
 -- ---- the start
-
-same_itself : (o : Obj) (y : Option (List Val)) → SameBut set.empty o y y
-same_itself o None = tt
-same_itself o (Some ws) = (refl, λ w n. refl)
 
 at_start : (x : Execution) (m : Memory) (c : ℕ) → IsReady x [] m c → Between m x.number (chunk_start x c) (chunk_end x c) (chunk_from x [] m c)
 at_start x m c ready = record {

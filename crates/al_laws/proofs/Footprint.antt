@@ -1,11 +1,10 @@
 -- A chunk depends on what it read and on nothing else: an instance of the abstraction theorem.
-use Rattle.std.proofs.Common.{◌≡◌, ◌≢◌, ℕ, zero, suc, ◌+◌, ◌-◌, List, [], ◌∷◌, ◌++◌, length, Option, Some, None, Result, Ok, Err, Bool, true, false, cond, ◌||◌, refl, sym, ap, subst, ◌∙◌, arith, length-set}
-use Rattle.std.specs.Prelude.{ℤ, pos, if◌then◌else◌, nat_lt, is_some, option_map, slice_get, slice_set, replicate}
+use Rattle.std.proofs.Common.{◌≡◌, ℕ, zero, suc, ◌+◌, List, [], ◌∷◌, ◌++◌, length, Option, Some, None, Result, Ok, Err, Bool, true, false, cond, ◌||◌, refl, sym, ap, subst, ◌∙◌, arith, length-set}
+use Rattle.std.specs.Prelude.{pos, if◌then◌else◌, nat_lt, is_some, option_map, slice_get, slice_set, replicate}
 use Rattle.std.specs.FinMap as map
 use Rattle.std.specs.FinSet as set
-use Rattle.std.specs.FinSet.{FinSet, contains-empty}
+use Rattle.std.specs.FinSet.{FinSet}
 use Rattle.std.proofs.Math.Bool.{true≢false}
-use Rattle.al_core.specs.declared.choices.Red.{Red}
 use Rattle.al_core.specs.declared.values.Val.{Val}
 use Rattle.al_core.specs.declared.values.Val.TheVariants.{Int}
 use Rattle.al_core.specs.declared.values.Addr.{Addr}
@@ -14,9 +13,9 @@ use Rattle.al_core.specs.declared.values.Kind.{Kind}
 use Rattle.al_core.specs.declared.values.Trap.{Trap}
 use Rattle.al_core.specs.declared.values.Trap.TheVariants as trap
 use Rattle.al_core.specs.declared.values.Obj.{Obj}
-use Rattle.al_core.specs.Orders.{obj_cmp, obj_eq, addr_cmp, addr_eq}
-use Rattle.al_core.specs.Memory.{Memory, AgreeAt, length_at, has_object, word_in, value_at, put, add}
-use Rattle.al_core.specs.Access.{Log, Content, Names, with_memory, with_log, with_touched, with_head, with_object, one_more, log_load, log_store, log_make, load_in, loaded, missing_or_outside, is_own, red_index, load_logged, store_logged, load_by, store_by, store_in, word_limit, name_of, load, store, make, print, in_iteration}
+use Rattle.al_core.specs.Orders.{obj_eq, addr_cmp, addr_eq}
+use Rattle.al_core.specs.Memory.{Memory, AgreeAt, word_in, value_at, put, add}
+use Rattle.al_core.specs.Access.{Log, Content, Names, with_log, with_touched, with_head, with_object, one_more, log_load, log_store, log_make, load_in, loaded, missing_or_outside, is_own, red_index, load_logged, store_logged, load_by, store_by, store_in, word_limit, name_of, load, store, make, print, in_iteration}
 use Rattle.al_laws.proofs.Orders.{obj_total, addr_total, obj_equal, obj_itself, addr_equal, addr_itself}
 use Rattle.al_laws.proofs.Words.{get_set_other}
 use Rattle.al_laws.proofs.Laid.{same_shape}
@@ -522,17 +521,20 @@ module _ (m n : Memory) (same_count : length m.locals ≡ length n.locals) where
   print_matches : (bytes : List ℕ) → Matches Near Good {A = Result (Unit {0}) Trap} (λ s. (Ok tt, print bytes s)) (λ t. (Ok tt, print bytes t))
   unfolding print
   print_matches bytes = record {
-    by = λ s t h g. (refl, record {
-      log = h.log;
-      is_s = h.is_s;
-      is_t = h.is_t;
-      names = h.names;
-      printed = ap (λ z. z ++ bytes) h.printed;
-      made = h.made;
-      touched = h.touched;
-      half_s = h.half_s;
-      half_t = h.half_t;
-    });
+    by = λ s t h g. (
+      refl,
+      record {
+        log = h.log;
+        is_s = h.is_s;
+        is_t = h.is_t;
+        names = h.names;
+        printed = ap (λ z. z ++ bytes) h.printed;
+        made = h.made;
+        touched = h.touched;
+        half_s = h.half_s;
+        half_t = h.half_t;
+      },
+    );
     back = λ s g. g;
   }
 

@@ -50,6 +50,10 @@ SameBut touched o None (Some ws) = ⊥
 SameBut touched o (Some vs) None = ⊥
 SameBut touched o (Some vs) (Some ws) = (length ws ≡ length vs) × ((w : ℕ) → set.contains touched (Word o w) ≡ false → slice_get ws w ≡ slice_get vs w)
 
+pub same_itself : (o : Obj) (y : Option (List Val)) → SameBut set.empty o y y
+same_itself o None = tt
+same_itself o (Some ws) = (refl, λ w n. refl)
+
 -- iteration j of execution e runs on a copy of the memory m, and no later one than below last
 pub record Stays (m : Memory) (e j last : ℕ) (c : Content) : Type 0 where
   pub log : Log
@@ -125,7 +129,6 @@ obj_differs x y n = elim (obj_eq x y) as (λ b. obj_eq x y ≡ b → b ≡ false
 pub or_left : (b c : Bool) → (b || c) ≡ false → b ≡ false
 or_left true c h = h
 or_left false c h = refl
-
 
 module _ (m : Memory) (e j last : ℕ) where
   abbrev Holds : Content → Type 0

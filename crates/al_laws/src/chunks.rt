@@ -10,5 +10,4 @@ pub fn chunk_is_direct_run()
 /// A chunk's outcome depends on what it read, and on nothing else of the memory that it ran on.
 pub fn chunk_depends_on_reads()
     ensures { DependsOnReads }
-{
-}
+{}
