@@ -143,6 +143,7 @@ module _ {T H K : Type 0} (key : Setting K) (fits : ℕ → T → Type 0) (laid 
       held = λ lane id v at h. (held_word lane id v at h).2;
       filled = λ lane id v at h ahead. (put_word lane id v at h).2 ahead;
       gone = λ lane low. (is_three key fits laid stands s k lane low, some_member (λ (u : V). times lane u.put) s.views (k.behind lane low));
+      only_gone = λ lane lt e. let m = at_most_one key fits laid stands s k lane in let w = k.word lane lt in below_true lane k.taken (omega arith);
       only_lanes = k.reached.1;
     };
     slots_fit = record { empty = λ lane lt. (k.slot lane lt).empty; full = λ lane lt. (k.slot lane lt).full };

@@ -60,6 +60,7 @@ module _ {T H K : Type 0} (key : Setting K) (fits : ℕ → T → Type 0) (laid 
     pub held : (lane id : ℕ) (v : View T K) → IsView id v → v.holds ≡ Some lane → lane_word lane ≡ 1
     pub filled : (lane id : ℕ) (v : View T K) → IsView id v → 1 ≤ times lane v.put → taken ≤ lane → lane_word lane ≡ 2
     pub gone : (lane : ℕ) → lane < taken → (lane_word lane ≡ 3) × ((id : ℕ) × (v : View T K) × IsView id v × (1 ≤ times lane v.put))
+    pub only_gone : (lane : ℕ) → lane < key.lanes → lane_word lane ≡ 3 → lane < taken
     pub only_lanes : taken ≤ key.lanes
 
   -- the slot of a lane with word 0 is empty, and that of a lane with word 2 holds a piece that fits, the one that was put
