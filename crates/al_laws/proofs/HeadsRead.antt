@@ -1,5 +1,5 @@
 -- What a chunk's record always has: an instance of the abstraction theorem.
-use Rattle.std.proofs.Common.{◌≡◌, ℕ, zero, suc, ◌+◌, List, [], ◌∷◌, Option, Some, None, Result, Ok, Err, Bool, true, false, ◌||◌, refl, sym, ap, subst, ◌∙◌}
+use Rattle.std.proofs.Common.{◌≡◌, ℕ, zero, suc, ◌+◌, List, Option, Some, None, Result, Ok, Bool, true, false, ◌||◌, refl, sym, ap, subst, ◌∙◌}
 use Rattle.std.specs.Prelude.{if◌then◌else◌, is_some, nat_lt}
 use Rattle.std.specs.FinMap as map
 use Rattle.std.specs.FinSet as set
@@ -13,25 +13,17 @@ use Rattle.al_core.specs.declared.values.Addr.{Addr}
 use Rattle.al_core.specs.declared.values.Addr.TheVariants.{Word, Head, Local}
 use Rattle.al_core.specs.declared.values.Kind.{Kind}
 use Rattle.al_core.specs.declared.values.Trap.{Trap}
-use Rattle.al_core.specs.declared.values.Trap.TheVariants as trap
 use Rattle.al_core.specs.declared.values.Obj.{Obj}
 use Rattle.al_core.specs.Orders.{obj_cmp, obj_eq, addr_cmp, addr_eq}
 use Rattle.al_core.specs.Memory.{Memory, words_or_none, value_at}
-use Rattle.al_core.specs.Access.{Log, Content, with_log, with_touched, with_head, with_object, log_load, log_store, log_make, is_own, red_index, load_logged, store_logged, load_by, store_by, store_in, word_limit, name_of, load, store, make, print, in_iteration}
+use Rattle.al_core.specs.Access.{Log, Content, with_log, with_touched, with_head, log_load, log_store, log_make, is_own, red_index, load_logged, store_logged, load_by, store_by, store_in, word_limit, name_of, load, store, make, print, in_iteration}
 use Rattle.al_core.specs.Iteration.{Execution, Ran, iteration, iteration_from, then_runs, iterations}
-use Rattle.al_core.specs.Chunk.{made_objects, chunk_start, chunk_trips, chunk_runs, chunk_from, fresh_log, outcome_of, outcome}
+use Rattle.al_core.specs.Chunk.{made_objects, chunk_start, chunk_trips, chunk_runs, chunk_from, outcome_of, outcome}
 use Rattle.al_laws.specs.Heads.{HeadsAreRead, MadeAreTouched}
 use Rattle.al_laws.proofs.Orders.{obj_total, addr_total, obj_equal, addr_equal}
 use Rattle.al_laws.proofs.Keeps.{Keeps, KeepsOp, KeepsWorld, keeps_closed, of_iteration}
-use Rattle.al_laws.proofs.Stays.{inserted_here}
+use Rattle.al_laws.proofs.Stays.{inserted_here, inserted_more, limited}
 use Rattle.al_laws.proofs.Overlay.{get_made_objects}
-
-or_true : (b : Bool) → (b || true) ≡ true
-or_true true = refl
-or_true false = refl
-
-inserted_more : (s : FinSet addr_cmp) (a q : Addr) → set.contains s q ≡ true → set.contains (set.insert s a) q ≡ true
-inserted_more s a q e = set.contains-insert addr_total s a q ∙ ap (λ b. addr_eq q a || b) e ∙ or_true (addr_eq q a)
 
 record Sound (log : Log) : Type 0 where
   pub heads : (o : Obj) (w : ℕ) → set.contains log.reads (Word o w) ≡ true → set.contains log.reads (Head o) ≡ true
@@ -133,9 +125,6 @@ make_sound o (Some log) s = record {
         | false ↦ λ t c. inserted_more log.touched (Head o) (Head q) (s.made q c)
       ] refl (sym (set.contains-insert obj_total log.made o q) ∙ e);
 }
-
-abbrev limited : Content → Bool → ℕ → Result Obj Trap × Content
-limited c b words = if b then (Err trap.Alloc, c) else (Ok (name_of c.names.maker c.names.next), with_object c (name_of c.names.maker c.names.next) words)
 
 make_holds : (c : Content) (words : ℕ) (b : Bool) → Holds c → Holds (limited c b words).1
 make_holds c words true h = h
