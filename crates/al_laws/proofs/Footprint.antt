@@ -20,7 +20,7 @@ use Rattle.al_laws.proofs.Orders.{obj_total, addr_total, obj_equal, obj_itself, 
 use Rattle.al_laws.proofs.Words.{get_set_other}
 use Rattle.al_laws.proofs.Laid.{same_shape}
 use Rattle.al_laws.proofs.Overlay.{put_elsewhere}
-use Rattle.al_laws.proofs.Stays.{SameBut, load_reads, get_put, weaker, word_put, inserted_here, inserted_weaker, or_left, or_right}
+use Rattle.al_laws.proofs.Stays.{SameBut, load_reads, get_put, weaker, word_put, inserted_here, inserted_more, inserted_weaker, limited, or_left, or_right}
 use Rattle.al_laws.proofs.Agree.{Matches, Kept}
 
 set_both : (x y : List Val) (w : ℕ) (v : Val) → is_some (slice_get x w) ≡ true → is_some (slice_get y w) ≡ true → slice_get (slice_set x w v) w ≡ slice_get (slice_set y w v) w
@@ -168,13 +168,6 @@ module _ (m n : Memory) (same_count : length m.locals ≡ length n.locals) where
     }
 
   -- ---- loads
-
-  or_true : (b : Bool) → (b || true) ≡ true
-  or_true true = refl
-  or_true false = refl
-
-  inserted_more : (s : FinSet addr_cmp) (a q : Addr) → set.contains s q ≡ true → set.contains (set.insert s a) q ≡ true
-  inserted_more s a q e = set.contains-insert addr_total s a q ∙ ap (λ b. addr_eq q a || b) e ∙ or_true (addr_eq q a)
 
   more_of_load : (log : Log) (a : Addr) (v : Option Val) (q : Addr) → set.contains (with_head log a).reads q ≡ true → set.contains (log_load log a v).reads q ≡ true
   more_of_load log a (Some v) q e =
@@ -490,9 +483,6 @@ module _ (m n : Memory) (same_count : length m.locals ≡ length n.locals) where
         half_s = half_made m s.memory h.log o ws h.half_s;
         half_t = half_made n t.memory h.log o ws h.half_t;
       }
-
-  abbrev limited : Content → Bool → ℕ → Result Obj Trap × Content
-  limited c b words = if b then (Err trap.Alloc, c) else (Ok (name_of c.names.maker c.names.next), with_object c (name_of c.names.maker c.names.next) words)
 
   abbrev over_limit : ℕ → Names → Bool
   over_limit words names = nat_lt (word_limit names.maker) (names.words + words + 1)

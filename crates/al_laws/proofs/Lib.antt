@@ -17,3 +17,4 @@ pub mod Counts
 pub mod Fits
 pub mod Footprint
 pub mod Depends
+pub mod HeadsRead

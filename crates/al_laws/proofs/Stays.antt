@@ -113,6 +113,13 @@ load_reads log a None = head_reads log a
 
 -- ---- sets with an element more
 
+or_true : (b : Bool) → (b || true) ≡ true
+or_true true = refl
+or_true false = refl
+
+pub inserted_more : (s : FinSet addr_cmp) (a q : Addr) → set.contains s q ≡ true → set.contains (set.insert s a) q ≡ true
+inserted_more s a q e = set.contains-insert addr_total s a q ∙ ap (λ b. addr_eq q a || b) e ∙ or_true (addr_eq q a)
+
 pub inserted_here : (s : FinSet addr_cmp) (a : Addr) → set.contains (set.insert s a) a ≡ true
 inserted_here s a = set.contains-insert addr_total s a a ∙ ap (λ b. b || set.contains s a) (addr_itself a)
 
@@ -129,6 +136,10 @@ obj_differs x y n = elim (obj_eq x y) as (λ b. obj_eq x y ≡ b → b ≡ false
 pub or_left : (b c : Bool) → (b || c) ≡ false → b ≡ false
 or_left true c h = h
 or_left false c h = refl
+
+-- what an allocation does, where it passes the limit or does not
+abbrev pub limited : Content → Bool → ℕ → Result Obj Trap × Content
+limited c b words = if b then (Err trap.Alloc, c) else (Ok (name_of c.names.maker c.names.next), with_object c (name_of c.names.maker c.names.next) words)
 
 module _ (m : Memory) (e j last : ℕ) where
   abbrev Holds : Content → Type 0
@@ -291,9 +302,6 @@ module _ (m : Memory) (e j last : ℕ) where
         next = λ k l. get_added c o ws (Iter e j k) (obj_differs (Iter e j k) o (λ s. iter_apart_next k c.names.next (omega arith) (s ∙ name))) ∙ h.next k (omega arith);
         later = λ i k a b. get_added c o ws (Iter e i k) (obj_differs (Iter e i k) o (λ s. iter_apart i k c.names.next a (s ∙ name))) ∙ h.later i k a b;
       }
-
-  abbrev limited : Content → Bool → ℕ → Result Obj Trap × Content
-  limited c b words = if b then (Err trap.Alloc, c) else (Ok (name_of c.names.maker c.names.next), with_object c (name_of c.names.maker c.names.next) words)
 
   by_limit : (c : Content) (h : Holds c) (b : Bool) (words : ℕ)
       → Holds (limited c b words).1

@@ -5,3 +5,4 @@ pub mod Rounds
 pub mod DirectRuns
 pub mod Bounds
 pub mod Footprints
+pub mod Heads
