@@ -3,10 +3,9 @@
 
 use al_cli::alter;
 use al_io::{HostErr, HostFiles, HostOut};
-use std::env;
-use std::io;
 use std::process::ExitCode;
 use std::rt::Env;
+use std::{env, io};
 
 /// The words could not be had for want of memory.
 const NO_MEMORY: u8 = 6;
