@@ -1,0 +1,5 @@
+pub mod Nodes
+pub mod Lists
+pub mod Binds
+pub mod KindNodes
+pub mod Printed

@@ -1,0 +1,5 @@
+pub mod Does
+pub mod Frames
+pub mod Calls
+pub mod Kinds
+pub mod Turns
