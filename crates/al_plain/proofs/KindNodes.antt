@@ -1,6 +1,6 @@
 -- The meaning of each kind of statement.
 use Rattle.std.proofs.Common.{◌≡◌, ℕ, List, [], ◌∷◌, Option, Some, None, refl, sym, ap, ◌∙◌}
-use Rattle.std.specs.Prelude.{ℤ, if◌then◌else◌, map}
+use Rattle.std.specs.Prelude.{option_map, ℤ, if◌then◌else◌, map}
 use Rattle.al_source.specs.declared.operators.BinOp.{BinOp}
 use Rattle.al_source.specs.declared.texts.Piece.{Piece}
 use Rattle.al_core.specs.declared.values.Val.{Val}
@@ -8,15 +8,16 @@ use Rattle.al_core.specs.declared.values.Kind.TheVariants as kind
 use Rattle.al_core.specs.declared.typed_tree.TExpr.{TExpr}
 use Rattle.al_core.specs.declared.typed_tree.TPlace.{TPlace}
 use Rattle.al_core.specs.declared.typed_tree.TStmt.{TStmt, out-TStmt, fold_out-TStmt}
-use Rattle.al_core.specs.declared.typed_tree.TKind.{TKind, map-TKind, fold-TKind, fold-roll-TKind}
+use Rattle.al_core.specs.declared.typed_tree.TKind.{TKind, out-TKind, map-TKind, fold-TKind, fold-roll-TKind, fold_out-TKind}
 use Rattle.al_core.specs.declared.typed_tree.TKind.TheViews.{roll-TKind}
 use Rattle.al_core.specs.declared.typed_tree.TKind.TheVariants as k
 use Rattle.al_core.specs.declared.typed_tree.TKind.TheOpen.{TKind-F}
 use Rattle.al_core.specs.World.{World}
 use Rattle.al_core.specs.Values.{truth, numbers, operate, text}
 use Rattle.al_core.specs.Action.{Act, At, pure, lift, spend, get_local, set_local, load, store, print, ◌>>=◌, ◌>>◌}
-use Rattle.al_core.specs.Meaning.{Flow, Next, Broke, Continued, Returned, Where, Part, PartAt, then_flow, sequence, all_do, turns, value, place, values, test_value, result_value, kind_does, kind_case, stmt_case, part, execute, execute_all}
-use Rattle.al_plain.specs.Kinds.{kind_part, does_kind, any_does}
+use Rattle.al_core.specs.Loops.{bound_of}
+use Rattle.al_core.specs.Meaning.{Flow, Next, Broke, Continued, Returned, Where, Part, PartAt, then_flow, sequence, all_do, turns, value, place, values, test_value, result_value, kind_does, kind_case, stmt_case, part, execute, execute_all, kind_sets, annotated_loop}
+use Rattle.al_plain.specs.Kinds.{kind_part, does_kind, any_does, set_in, set_by, first_sets}
 
 module _ {S : Type 0} (world : World S) (here : Where) (input : List ℤ) (call : ℕ → List Val → At S Val) where
   of_kind : (x : TKind-F TKind TStmt) (d : TKind) (line : ℕ) → roll-TKind x ≡ d → does_kind world here input call d line ≡ kind_does world here input call (map-TKind TKind TStmt (PartAt S) (Part S) (kind_part world here input call) (part world here input call) x) line
@@ -79,4 +80,55 @@ module _ {S : Type 0} (world : World S) (here : Where) (input : List ℤ) (call 
   pub does-Continue : (line : ℕ) → does_kind world here input call k.Continue line ≡ pure Continued
   does-Continue line = of_kind TKind-F.Continue _ line k.rolls-Continue
 
+module _ {S : Type 0} (world : World S) (here : Where) (input : List ℤ) (call : ℕ → List Val → At S Val) where
+  of_sets : (x : TKind-F TKind TStmt) → kind_sets world here input call (map-TKind TKind TStmt (PartAt S) (Part S) (kind_part world here input call) (part world here input call) x) ≡ option_map (λ p. (p.0, value world here input call p.1)) (set_in x)
+  of_sets TKind-F.Empty = refl
+  of_sets (TKind-F.SetLocal n e) = refl
+  of_sets (TKind-F.Store p e) = refl
+  of_sets (TKind-F.UpdateLocal op n e) = refl
+  of_sets (TKind-F.UpdateAt op p e) = refl
+  of_sets (TKind-F.Call e) = refl
+  of_sets (TKind-F.Print format es) = refl
+  of_sets (TKind-F.If e a b) = refl
+  of_sets (TKind-F.While e a) = refl
+  of_sets (TKind-F.For first test third body loop) = refl
+  of_sets (TKind-F.Block ss) = refl
+  of_sets (TKind-F.Return e) = refl
+  of_sets TKind-F.Break = refl
+  of_sets TKind-F.Continue = refl
+
+  kind_sets_of : (d : TKind) → (kind_part world here input call d).sets ≡ option_map (λ p. (p.0, value world here input call p.1)) (set_in (out-TKind d))
+  unfolding kind_part part
+  kind_sets_of d = ap (λ (f : PartAt S). f.sets) (fold_out-TKind (PartAt S) (Part S) (kind_case world here input call) (stmt_case world here input call) d) ∙ of_sets (out-TKind d)
+
+  abbrev valued : ℕ × TExpr → ℕ × At S Val
+  valued p = (p.0, value world here input call p.1)
+
+  abbrev with_line : ℕ → ℕ × At S Val → ℕ × Act S Val
+  with_line line p = (p.0, p.1 line)
+
+  abbrev valued_at : ℕ → ℕ × TExpr → ℕ × Act S Val
+  valued_at line p = (p.0, value world here input call p.1 line)
+
+  line_of : (line : ℕ) (o : Option (ℕ × TExpr)) → option_map (with_line line) (option_map valued o) ≡ option_map (valued_at line) o
+  line_of line None = refl
+  line_of line (Some p) = refl
+
+  pub sets-stmt : (s : TStmt) → (part world here input call s).sets ≡ option_map (λ p. (p.0, value world here input call p.1 (out-TStmt s).line)) (set_by s)
+  unfolding kind_part part
+  sets-stmt s =
+      ap (λ (f : Part S). f.sets) (fold_out-TStmt (PartAt S) (Part S) (kind_case world here input call) (stmt_case world here input call) s)
+      ∙ ap (option_map (with_line (out-TStmt s).line)) (kind_sets_of (out-TStmt s).kind)
+      ∙ line_of (out-TStmt s).line (set_by s)
+
+  pub does-Annotated : (first : Option TStmt) (test : Option TExpr) (third : Option TStmt) (body : TStmt) (number line : ℕ) → does_kind world here input call (k.For first test third body (Some number)) line ≡ annotated_loop world here number line (first_sets world here input call first) (bound_of test) (execute world here input call body)
+  does-Annotated None test third body number line = of_kind world here input call (TKind-F.For None test third body (Some number)) _ line (k.rolls-For None test third body (Some number))
+  does-Annotated (Some first) test third body number line =
+      of_kind world here input call (TKind-F.For (Some first) test third body (Some number)) _ line (k.rolls-For (Some first) test third body (Some number))
+      ∙ ap (λ sets. annotated_loop world here number line sets (bound_of test) (execute world here input call body)) (sets-stmt first)
+
 pub ruleset does_nodes = (does-SetLocal, does-Store, does-UpdateLocal, does-UpdateAt, does-Call, does-Print, does-Return)
+
+pub ruleset other_nodes = (does-Empty, does-If, does-While, does-For, does-Block, does-Break, does-Continue, does-Annotated)
+
+pub ruleset does_stmts = (does-stmt)

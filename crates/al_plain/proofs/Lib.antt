@@ -3,3 +3,5 @@ pub mod Lists
 pub mod Binds
 pub mod KindNodes
 pub mod Printed
+pub mod Sequences
+pub mod Zeros

@@ -1,5 +1,5 @@
 -- What each kind of statement does, and how it ends.
-use Rattle.std.specs.Prelude.{ℕ, List, Option, Some, None, Result, Ok, Err, ℤ}
+use Rattle.std.specs.Prelude.{ℕ, List, Option, Some, None, option_map, Result, Ok, Err, ℤ}
 use Rattle.al_core.specs.declared.values.Val.{Val}
 use Rattle.al_core.specs.declared.typed_tree.TExpr.{TExpr}
 use Rattle.al_core.specs.declared.typed_tree.TStmt.{TStmt, out-TStmt}
@@ -7,7 +7,7 @@ use Rattle.al_core.specs.declared.typed_tree.TKind.{TKind, fold-TKind, out-TKind
 use Rattle.al_core.specs.declared.typed_tree.TKind.TheOpen.{TKind-F}
 use Rattle.al_core.specs.World.{World}
 use Rattle.al_core.specs.Action.{Act, At, pure}
-use Rattle.al_core.specs.Meaning.{Flow, Next, Broke, Continued, Returned, Where, Part, PartAt, kind_case, stmt_case, execute}
+use Rattle.al_core.specs.Meaning.{Flow, Next, Broke, Continued, Returned, Where, Part, PartAt, kind_case, stmt_case, value, execute}
 use Rattle.al_plain.specs.declared.fault.Fault.{Fault}
 use Rattle.al_plain.specs.declared.flow.Flow.{Flow as Kept}
 use Rattle.al_plain.specs.declared.flow.Flow.TheVariants as kept
@@ -40,3 +40,8 @@ module _ {S : Type 0} (world : World S) (here : Where) (input : List ℤ) (call 
   abbrev pub any_does : Option TStmt → Act S Flow
   any_does (Some s) = execute world here input call s
   any_does None = pure Next
+
+  -- what an annotated loop reads of its first part: the local that it sets, and to what
+  abbrev pub first_sets : Option TStmt → Option (ℕ × Act S Val)
+  first_sets (Some s) = option_map (λ p. (p.0, value world here input call p.1 (out-TStmt s).line)) (set_by s)
+  first_sets None = None

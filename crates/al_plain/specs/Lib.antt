@@ -3,3 +3,4 @@ pub mod Frames
 pub mod Calls
 pub mod Kinds
 pub mod Turns
+pub mod Stages

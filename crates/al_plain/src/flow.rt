@@ -8,3 +8,10 @@ pub enum Flow {
     Continued,
     Returned(Val),
 }
+
+/// What comes after a turn of a loop.
+#[derive(Clone, Copy, Debug, PartialEq, Eq)]
+pub enum Turn {
+    Again,
+    Over(Flow),
+}

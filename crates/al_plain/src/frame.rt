@@ -1,8 +1,9 @@
-ghost use Rattle.std.specs.Prelude.{◌≡◌, slice_get, slice_set};
+ghost use Rattle.std.specs.Prelude.{◌≡◌, slice_get, slice_set, IfOk};
 ghost use Rattle.al_core.specs.Action as spec;
 
 use al_core::Val;
 use sqlite_items::Items;
+use std::alloc::{AllocError, Global};
 use std::marker::Model;
 
 /// Which locals are private to a frame.
@@ -66,5 +67,18 @@ impl Frame {
         if (k as usize) < self.locals.len() {
             self.locals.set(k as usize, v);
         }
+    }
+
+    /// A copy of the locals.
+    pub fn locals(&self, alloc: Global) -> Result<Items<Val>, AllocError>
+        ensures { IfOk result (λ all. all ≡ self.now.locals) }
+    {
+        Items::from_slice(alloc, self.locals.as_slice())
+    }
+
+    pub fn replace(&mut self, locals: Items<Val>)
+        ensures { self.new ≡ spec.with_locals self.old locals }
+    {
+        self.locals = locals;
     }
 }

@@ -1,11 +1,13 @@
 ghost use Rattle.std.specs.Prelude.{◌≡◌, Ok};
 ghost use Rattle.al_core.specs.Action as spec;
+ghost use Rattle.al_plain.specs.Stages.{is_outside};
 ghost use Rattle.al_plain.specs.Does.{Does, lined, setting_of};
 
 use crate::fault::Fault;
 use crate::frame::Frame;
 use crate::ground::Ground;
 use crate::setting::Setting;
+use crate::stage::Stage;
 use al_core::{Addr, Budget, Kind, Obj, Trap, Val, ViewFault};
 use std::alloc::Global;
 use std::marker::Model;
@@ -152,5 +154,32 @@ impl<G: Ground> Machine<G> {
         ensures { result ≡ self.now.budget }
     {
         self.budget.left()
+    }
+
+    /// Hands an annotated loop on, with the frame's locals.
+    #[tactic(auto, unfolding(al_core::specs::Action::bind, al_core::specs::Action::get_frame, al_core::specs::Action::hands_on, al_core::specs::Action::set_frame))]
+    pub fn visit(
+        &mut self,
+        alloc: Global,
+        on: &Setting<'_>,
+        number: u32,
+        lo: i64,
+        hi: i64,
+    ) -> Result<(), Fault>
+        ensures { Does (spec.visit (G.world (setting_of on.now)) number lo hi self.old) result self.new }
+    {
+        let locals = self.frame.locals(alloc)?;
+        let new = self.ground.visit(alloc, on, number, lo, hi, locals)?;
+        self.frame.replace(new);
+        Ok(())
+    }
+}
+
+impl<G: Stage> Machine<G> {
+    /// Whether the code stands outside the iterations of annotated loops.
+    pub fn is_outside(&self) -> bool
+        ensures { result ≡ is_outside G.place }
+    {
+        self.ground.is_outside()
     }
 }

@@ -1,4 +1,4 @@
-ghost use Rattle.std.specs.Prelude.{◌≡◌, List, ◌∷◌, ◌++◌, IfOk, MatchResult, Ok, Err};
+ghost use Rattle.std.specs.Prelude.{◌≡◌, List, ◌∷◌, ◌++◌, IfOk};
 ghost use Rattle.al_source.specs.declared.texts.Piece.{Piece};
 ghost use Rattle.al_source.specs.declared.texts.Piece.TheVariants as piece;
 ghost use Rattle.al_core.specs.Values as spec;
@@ -6,14 +6,15 @@ ghost use Rattle.al_core.specs.Values as spec;
 use al_core::operations::number;
 use al_core::{Piece, Trap, Val};
 use itoa::Buffer;
+use sqlite_items::Items;
 use std::alloc::{AllocError, Global};
 
 #[tactic(auto, using(crate::proofs::Printed::number_next, crate::proofs::Printed::number_not, crate::proofs::Printed::numbers_all))]
 /// The numbers of values, up to the first pointer.
-pub fn numbers(alloc: Global, vs: &[Val]) -> Result<Result<Vec<i64>, Trap>, AllocError>
-    ensures { IfOk result (λ r. MatchResult r (λ ns. spec.numbers vs.now ≡ Ok ns.items) (λ t. spec.numbers vs.now ≡ Err t)) }
+pub fn numbers(alloc: Global, vs: &[Val]) -> Result<Result<Items<i64>, Trap>, AllocError>
+    ensures { IfOk result (λ r. r ≡ spec.numbers vs.now) }
 {
-    let mut ns = Vec::new(alloc);
+    let mut ns = Items::new(alloc);
     for v in vs {
         match number(*v) {
             Ok(n) => ns.push(n)?,
