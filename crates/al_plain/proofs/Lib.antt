@@ -1,0 +1,7 @@
+pub mod Nodes
+pub mod Lists
+pub mod Binds
+pub mod KindNodes
+pub mod Printed
+pub mod Sequences
+pub mod Zeros

@@ -1,0 +1,19 @@
+//! The plain interpreter: it computes what a program means by walking its tree, on one thread.
+#![tactic(auto)]
+
+pub mod calls;
+pub mod expressions;
+pub mod fault;
+pub mod flow;
+pub mod frame;
+pub mod ground;
+pub mod machine;
+pub mod parts;
+pub mod printing;
+pub mod setting;
+pub mod stage;
+pub mod statements;
+pub mod walker;
+
+pub use fault::Fault;
+pub use setting::Setting;
