@@ -206,12 +206,22 @@ record IsPlaced (ts : Tokens) (k : StmtKind) (us : Tokens) : Type 0 where
   is : p.assign x behind ≡ Ok (k, us)
 
 assigned : {ts us vs ws : Tokens} {x y : Expr} → Place ts x us → Takes (Mark m.Assign) us vs → Expression vs y ws → Follows ws → IsPlaced ts (kind.Assign x y) ws
-assigned {us = us} {x = x} q t r h = record { x = x; behind = us; place = q; assigns = by_assign t;
-    is = rw (no_meaning update_of t refl, no_meaning step_of t refl, takes_expect t, complete_expression r (stops_follows h)) refl }
+assigned {us = us} {x = x} q t r h = record {
+  x = x;
+  behind = us;
+  place = q;
+  assigns = by_assign t;
+  is = rw (no_meaning update_of t refl, no_meaning step_of t refl, takes_expect t, complete_expression r (stops_follows h)) refl;
+}
 
 updated : {ts us vs ws : Tokens} {x y : Expr} {op : BinOp} → Place ts x us → Means update_of op us vs → Expression vs y ws → Follows ws → IsPlaced ts (kind.Update op x y) ws
-updated {us = us} {x = x} q t r h = record { x = x; behind = us; place = q; assigns = by_update t;
-    is = rw (means_at t, means_tail t, complete_expression r (stops_follows h)) refl }
+updated {us = us} {x = x} q t r h = record {
+  x = x;
+  behind = us;
+  place = q;
+  assigns = by_update t;
+  is = rw (means_at t, means_tail t, complete_expression r (stops_follows h)) refl;
+}
 
 stepped : {ts us vs : Tokens} {x : Expr} {op : BinOp} → Place ts x us → Means step_of op us vs → IsPlaced ts (kind.Update op x one) vs
 stepped {us = us} {x = x} q t = record { x = x; behind = us; place = q; assigns = by_step t; is = rw (step_no_update t, means_at t, means_tail t) refl }
@@ -235,8 +245,10 @@ placed_simple {ts} {us} {k} q = from (begins_reads q.place.reads) (placed_is q) 
         no_call : (w : Name) (o : Read StmtKind) → p.call w (t ∷ ts) ≡ o → Takes (Word w) (t ∷ ts) ts → p.first o (p.placed (t ∷ ts)) ≡ Ok (k, us)
         no_call w (Ok a) c tw = absurd (never w a tw c)
         no_call w (Err b) c tw = ap (p.second b) is
+
         plain : (c : TokenKind) → t.kind ≡ c → begins_expr c ≡ true → p.before_by (step_of t.kind) (t ∷ ts) ≡ Ok (k, us)
         plain c dt f = ap (λ o. p.before_by o (t ∷ ts)) (ap step_of dt ∙ expr_no_step c f) ∙ is
+
         by : (c : TokenKind) → t.kind ≡ c → begins_expr t.kind ≡ true → p.simple_by (Some c) (t ∷ ts) ≡ Ok (k, us)
         by (Word w) dt f = no_call w (p.call w (t ∷ ts)) refl (takes dt)
         by (Key key.Printf) dt f = absurd (let no : false ≡ true = sym (ap begins_expr dt) ∙ f in cc)
@@ -325,6 +337,7 @@ says_order g.absent r t = wider (says_reductions r t)
     more : (a : NoteWord) → is_reduce a ≡ true → is_order_or_reduce a ≡ true
     more note.Reduce d = refl
     more _ d = absurd cc
+
     wider : {ts : Tokens} → Says is_reduce ts → Says is_order_or_reduce ts
     wider (nothing t) = nothing t
     wider (says {a = a} t d) = says t (more a d)
@@ -407,8 +420,10 @@ simple_open (begins {t = t} {ts = ts} d) = by t.kind refl d
     no_base (Key key.Long) d = absurd cc
     no_base (Key key.Struct) d = absurd cc
     no_base _ d = refl
+
     plain : (c : TokenKind) → t.kind ≡ c → begins_simple c ≡ true → bind (p.lined (p.first_kind (p.begins_base (key_at (t ∷ ts)))) (t ∷ ts)) (λ s. pure (Some s)) ≡ bind (p.lined p.simple (t ∷ ts)) (λ s. pure (Some s))
     plain c dt f = ap (λ b. bind (p.lined (p.first_kind b) (t ∷ ts)) (λ s. pure (Some s))) (ap (λ k. p.begins_base (key_in (Some k))) dt ∙ no_base c f)
+
     by : (c : TokenKind) → t.kind ≡ c → begins_simple t.kind ≡ true → p.first_by (mark_in (Some c)) (t ∷ ts) ≡ bind (p.lined p.simple (t ∷ ts)) (λ s. pure (Some s))
     by (Mark m.Semicolon) dt f = absurd (let no : false ≡ true = sym (ap begins_simple dt) ∙ f in cc)
     by c dt f = plain c dt (ap begins_simple (sym dt) ∙ f)
@@ -484,10 +499,10 @@ complete_locals : {line : ℕ} {a : CType} {ts us : Tokens} {ss : List Stmt} (fo
 unfolding same_mark
 complete_locals {line} {a} {ts} {us} found (g.last {f = f} {x = x} d i t) =
     repeat_last (p.local line a) (local_shorter line a) found (found ++ statement_of line (kind.Declare f.ty f.name x) ∷ []) ts us
-      (rw (complete_declarator d (no_bracket i t refl), complete_initializer i t refl refl, takes_mark t, takes_tail t) refl)
+    (rw (complete_declarator d (no_bracket i t refl), complete_initializer i t refl refl, takes_mark t, takes_tail t) refl)
 complete_locals {line} {a} {ts} {us} found (g.more {ws = ws} {f = f} {x = x} {ss = ss} d i t r) =
     repeat_next (p.local line a) (local_shorter line a) found (found ++ statement_of line (kind.Declare f.ty f.name x) ∷ []) ts ws
-      (rw (complete_declarator d (no_bracket i t refl), complete_initializer i t refl refl, takes_mark t, takes_tail t) refl)
+    (rw (complete_declarator d (no_bracket i t refl), complete_initializer i t refl refl, takes_mark t, takes_tail t) refl)
     ∙ complete_locals (found ++ statement_of line (kind.Declare f.ty f.name x) ∷ []) r
     ∙ ap (λ l. Ok (l, us)) (append_assoc found (statement_of line (kind.Declare f.ty f.name x) ∷ []) ss)
 
@@ -568,6 +583,7 @@ statement_no_brace (begins {t = t} d) = by t.kind d
     mark : (c : the_mark.Mark) → begins_statement (Mark c) ≡ true → is_mark_in m.RightBrace (Some c) ≡ false
     mark m.RightBrace d = absurd cc
     mark _ d = refl
+
     by : (c : TokenKind) → begins_statement c ≡ true → is_mark_in m.RightBrace (mark_in (Some c)) ≡ false
     by (Mark c) d = mark c d
     by _ d = refl
@@ -602,6 +618,7 @@ inner_shorter_turn d a b ts us e = turn_takes d a b ts us (inner_turn d (p.state
 
 mutual
   unfolding p.statement
+
   pub complete_statement : {d : ℕ} {ts us : Tokens} {x : Stmt} → Statement d ts x us → p.statement d ts ≡ Ok (x, us)
   complete_statement (g.empty t) = rw (takes_kind t, takes_tail t) refl
   complete_statement (g.block {d = d} t r u) = rw (takes_kind t, takes_tail t, complete_inners [] r u, takes_expect u) refl

@@ -44,6 +44,7 @@ module _ (b : ℕ) where
       with_op op m false lt = refl
       with_op op zero true lt = refl
       with_op op (suc m) true lt = then_same (G (whole (suc l)) (m, tail ts)) (parse (whole (suc l)) (m, tail ts)) (λ y. G (climb l (join op x y))) (λ y. parse (climb l (join op x y))) (pass parse b _ _ (omega arith)) (λ y s d. let less = took _ _ _ _ d in pass parse b (climb l (join op x y)) s (omega arith))
+
       by : (v : Option (ℕ × Joint)) → meaning_at infix_of ts ≡ v → climb_by G l x v (n, ts) ≡ climb_by parse l x v (n, ts)
       by None d = refl
       by (Some (q, op)) d = with_op op n (nat_eq q l) (means_shorter (at_means ts d))
@@ -66,19 +67,21 @@ module _ (b : ℕ) where
           at (Some m.LeftParen) zero = refl
           at (Some m.LeftParen) (suc n) = let le = tail_shorter us in pass parse b (arguments w) (n, tail us) (omega arith)
           at _ n = refl
+
       inside : (n : ℕ) → length (tail ts) < length ts → allocated G (n, ts) ≡ allocated parse (n, ts)
       inside zero lt = refl
       inside (suc zero) lt = refl
       inside (suc (suc n)) lt =
           ap (λ r. and_then r (λ x s. and_then (lift element_size s) (λ a s. Ok (e.Calloc x a, s))))
-            (then_same (lift (expect m.LeftParen) (n, tail ts)) (lift (expect m.LeftParen) (n, tail ts)) (λ _. G (whole 0)) (λ _. parse (whole 0)) refl
-              (λ x s d. let le = lifted (n, tail ts) s d in pass parse b (whole 0) s (omega arith)))
+          (then_same (lift (expect m.LeftParen) (n, tail ts)) (lift (expect m.LeftParen) (n, tail ts)) (λ _. G (whole 0)) (λ _. parse (whole 0)) refl
+          (λ x s d. let le = lifted (n, tail ts) s d in pass parse b (whole 0) s (omega arith)))
         where
           lifted : (s s' : State) → lift (expect m.LeftParen) s ≡ Ok (tt, s') → length s'.1 ≤ length s.1
           lifted s s' d = let (q, dq, is) = lift_ok (expect m.LeftParen) s (tt, s') d in let lt = takes_shorter (expect_is s.1 q dq) in let same : length q.1 ≡ length s'.1 = ap (λ (v : Unit {0} × State). length v.1.1) is in omega arith
             where
               expect_is : (ts : Tokens) (q : Unit {0} × Tokens) → expect m.LeftParen ts ≡ Ok q → Takes (Mark m.LeftParen) ts q.1
               expect_is ts q d = expect_takes m.LeftParen ts q d
+
       by : (k : Option TokenKind) → kind_at ts ≡ k → (n : ℕ) → primary_by G k (n, ts) ≡ primary_by parse k (n, ts)
       by (Some (Word w)) d n = after w n (tail ts) (takes_shorter (kind_takes ts d))
       by (Some (Mark m.LeftParen)) d zero = refl
@@ -95,6 +98,7 @@ module _ (b : ℕ) where
     where
       after : (o o' : Outcome Expr) → o ≡ o' → ((p : Expr × State) → o' ≡ Ok p → length p.1.1 < length ts) → and_then o (λ y. G (suffix y)) ≡ and_then o' (λ y. parse (suffix y))
       after o o' same f = then_same o o' (λ y. G (suffix y)) (λ y. parse (suffix y)) same (λ y s d. let lt = f (y, s) d in pass parse b (suffix y) s (omega arith))
+
       by : (k : Option the_mark.Mark) → mark_at ts ≡ k → suffix_by G x k (n, ts) ≡ suffix_by parse x k (n, ts)
       by (Some m.LeftBracket) d = after (indexed G x (n, ts)) (indexed parse x (n, ts)) (open_indexed x n ts (takes_shorter (mark_takes ts d)) h) (λ p c. (good_indexed parse good x n ts p (mark_takes ts d) c).took)
       by (Some m.Dot) d = after (field e.Dot x (n, ts)) (field e.Dot x (n, ts)) refl (λ p c. (good_field x e.Dot n ts p (takes_shorter (mark_takes ts d)) (λ s k w us r u. g.dot r (mark_takes ts d) u) c).took)

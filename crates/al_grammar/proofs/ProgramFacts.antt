@@ -71,9 +71,9 @@ sound_line : (fs : List Field) (ts : Tokens) (q : List Field × Tokens) → p.fi
 sound_line fs ts q e =
     let (a, da, dk) = bind_ok (base ts) (λ a. repeat (p.field_name a) fs) e in
     let (ns, r, is) = repeat_keeps (p.field_name a.0) (FoundFields a.0)
-        (λ b c ts us d. let (f, vs, r, s) = one_field a.0 b ts ((c, true), us) d in fields_last a.0 b ts f vs c us r s)
-        (λ b c h ts us vs d k. let (f, ws, r, s) = one_field a.0 b ts ((c, false), us) d in fields_more a.0 b ts f ws c us h vs r s k)
-        fs a.1 q dk in
+    (λ b c ts us d. let (f, vs, r, s) = one_field a.0 b ts ((c, true), us) d in fields_last a.0 b ts f vs c us r s)
+    (λ b c h ts us vs d k. let (f, ws, r, s) = one_field a.0 b ts ((c, false), us) d in fields_more a.0 b ts f ws c us h vs r s k)
+    fs a.1 q dk in
     (a.0, a.1, ns, sound_base ts a da, r, is)
 
 names_shorter : {a : CType} {ts us : Tokens} {fs : List Field} → FieldNames a ts fs us → length us < length ts
@@ -102,13 +102,13 @@ FoundAll xs ts ys us = (zs : List Field) × Fields ts zs us × (ys ≡ xs ++ zs)
 sound_fields : (ts : Tokens) (q : List Field × Tokens) → repeat p.field_turn [] ts ≡ Ok q → Fields ts q.0 q.1
 sound_fields ts q e =
     let (zs, r, is) = repeat_keeps p.field_turn FoundAll
-        (λ a b ts us d. let r = line_turn a ts ((b, true), us) d in let (c, vs, ns, base, names, is) = r.line in (ns, g.last base names, is))
-        (λ a b c ts us vs d k.
-          let r = line_turn a ts ((b, false), us) d in
-          let (t, ws, ns, base, names, is) = r.line in
-          let (zs, rest, all) = k in
-          (ns ++ zs, g.more base names rest, all ∙ ap (λ l. l ++ zs) is ∙ append_assoc a ns zs))
-        [] ts q e in
+    (λ a b ts us d. let r = line_turn a ts ((b, true), us) d in let (c, vs, ns, base, names, is) = r.line in (ns, g.last base names, is))
+    (λ a b c ts us vs d k.
+    let r = line_turn a ts ((b, false), us) d in
+    let (t, ws, ns, base, names, is) = r.line in
+    let (zs, rest, all) = k in
+    (ns ++ zs, g.more base names rest, all ∙ ap (λ l. l ++ zs) is ∙ append_assoc a ns zs))
+    [] ts q e in
     subst (λ l. Fields ts l q.1) (sym is) r
 
 abbrev IsItems : Tokens → List Item × Tokens → Type 0
@@ -138,8 +138,19 @@ sound_body ts q e =
     let (c, dc, dn) = bind_ok (bind (expect m.RightBrace fs.1) (λ _. expect m.Semicolon)) (λ _. pure (w.0, fs.0)) dl in
     let (r, dr, dp) = bind_ok (expect m.RightBrace fs.1) (λ _. expect m.Semicolon) dc in
     yields (IsStructure ts) ((w.0, fs.0), c.1) q
-      (record { t₁ = s.1; t₂ = w.1; t₃ = b.1; t₄ = fs.1; t₅ = r.1; opens = expect_key_takes key.Struct ts s ds; name = word_takes s.1 w dj; brace = expect_takes m.LeftBrace w.1 b db;
-        fields = sound_fields b.1 fs dm; closes = expect_takes m.RightBrace fs.1 r dr; ends = expect_takes m.Semicolon r.1 c dp }) dn
+    (record {
+      t₁ = s.1;
+      t₂ = w.1;
+      t₃ = b.1;
+      t₄ = fs.1;
+      t₅ = r.1;
+      opens = expect_key_takes key.Struct ts s ds;
+      name = word_takes s.1 w dj;
+      brace = expect_takes m.LeftBrace w.1 b db;
+      fields = sound_fields b.1 fs dm;
+      closes = expect_takes m.RightBrace fs.1 r dr;
+      ends = expect_takes m.Semicolon r.1 c dp;
+    }) dn
 
 -- one item, as a list
 abbrev IsItem : Tokens → Item × Tokens → Type 0
@@ -226,9 +237,9 @@ globals_more line a xs ts f s us vs ys ws zs rs d i (goes_on t) (bs, r, is) = (g
 sound_globals : (line : ℕ) (a : CType) (is : List Item) (ts : Tokens) (q : List Item × Tokens) → repeat (p.global_name line a) is ts ≡ Ok q → FoundGlobals line a is ts q.0 q.1
 sound_globals line a is ts q e =
     repeat_keeps (p.global_name line a) (FoundGlobals line a)
-      (λ b c ts us d. let r = one_global line a b ts ((c, true), us) d in globals_last line a b ts r.f r.s r.named r.behind c us r.declares r.starts r.sep)
-      (λ b c h ts us vs d k. let r = one_global line a b ts ((c, false), us) d in globals_more line a b ts r.f r.s r.named r.behind c us h vs r.declares r.starts r.sep k)
-      is ts q e
+    (λ b c ts us d. let r = one_global line a b ts ((c, true), us) d in globals_last line a b ts r.f r.s r.named r.behind c us r.declares r.starts r.sep)
+    (λ b c h ts us vs d k. let r = one_global line a b ts ((c, false), us) d in globals_more line a b ts r.f r.s r.named r.behind c us h vs r.declares r.starts r.sep k)
+    is ts q e
 
 -- ---- functions
 
@@ -274,9 +285,9 @@ IsParams ts q = Params ts q.0 q.1
 sound_list : (ts : Tokens) (q : List Field × Tokens) → repeat p.param_turn [] ts ≡ Ok q → ParamList ts q.0 q.1
 sound_list ts q e =
     let (zs, r, is) = repeat_keeps p.param_turn FoundParams
-        (λ a b ts us d. let (f, vs, r, s) = one_param a ts ((b, true), us) d in params_last a ts f vs b us r s)
-        (λ a b c ts us vs d k. let (f, ws, r, s) = one_param a ts ((b, false), us) d in params_more a ts f ws b us c vs r s k)
-        [] ts q e in
+    (λ a b ts us d. let (f, vs, r, s) = one_param a ts ((b, true), us) d in params_last a ts f vs b us r s)
+    (λ a b c ts us vs d k. let (f, ws, r, s) = one_param a ts ((b, false), us) d in params_more a ts f ws b us c vs r s k)
+    [] ts q e in
     subst (λ l. ParamList ts l q.1) (sym is) r
 
 sound_params : (ts : Tokens) (q : List Field × Tokens) → p.params ts ≡ Ok q → IsParams ts q
@@ -314,7 +325,7 @@ sound_function ts us a q r e =
     let (ss, ds, dp) = bind_ok (p.body fs.1) (λ ss. pure (made b.0 w.0 fs.0 ss)) dm in
     let body = sound_function_body fs.1 ss ds in
     yields (IsItem ts) (made b.0 w.0 fs.0 ss.0, ss.1) q
-      (g.function r (sound_stars max_stars a us b db) (word_takes b.1 w dw) (expect_takes m.LeftParen w.1 o do') (sound_params o.1 fs dn) body.opens body.inners body.closes) dp
+    (g.function r (sound_stars max_stars a us b db) (word_takes b.1 w dw) (expect_takes m.LeftParen w.1 o do') (sound_params o.1 fs dn) body.opens body.inners body.closes) dp
 
 -- ---- programs
 
@@ -404,8 +415,8 @@ program_next a b c ts us vs (again {js = js} r all) (zs, q, is) = (js ++ zs, g.n
 pub sound_program : (ts : Tokens) (q : List Item × Tokens) → p.all_items ts ≡ Ok q → AllItems ts q.0
 sound_program ts q e =
     let (zs, r, is) = repeat_keeps p.item_turn FoundProgram
-        (λ a b ts us e. program_last a b ts us (item_turn a ts ((b, true), us) e))
-        (λ a b c ts us vs e k. program_next a b c ts us vs (item_turn a ts ((b, false), us) e) k) [] ts q e in
+    (λ a b ts us e. program_last a b ts us (item_turn a ts ((b, true), us) e))
+    (λ a b c ts us vs e k. program_next a b c ts us vs (item_turn a ts ((b, false), us) e) k) [] ts q e in
     subst (AllItems ts) (sym is) r
 
 -- ---- what is in the grammar the parser reads
@@ -463,10 +474,10 @@ complete_globals : {line : ℕ} {a : CType} {ts us : Tokens} {is : List Item} (f
 unfolding same_mark
 complete_globals {line} {a} {ts} {us} found (g.last {f = f} {s = s} d i t) =
     repeat_last (p.global_name line a) (global_shorter line a) found (found ++ global line f s ∷ []) ts us
-      (rw (complete_declarator d (no_bracket i t refl), complete_starts i t refl, takes_mark t, takes_tail t) refl)
+    (rw (complete_declarator d (no_bracket i t refl), complete_starts i t refl, takes_mark t, takes_tail t) refl)
 complete_globals {line} {a} {ts} {us} found (g.more {ws = ws} {f = f} {s = s} {is = is} d i t r) =
     repeat_next (p.global_name line a) (global_shorter line a) found (found ++ global line f s ∷ []) ts ws
-      (rw (complete_declarator d (no_bracket i t refl), complete_starts i t refl, takes_mark t, takes_tail t) refl)
+    (rw (complete_declarator d (no_bracket i t refl), complete_starts i t refl, takes_mark t, takes_tail t) refl)
     ∙ complete_globals (found ++ global line f s ∷ []) r
     ∙ ap (λ l. Ok (l, us)) (append_assoc found (global line f s ∷ []) is)
 

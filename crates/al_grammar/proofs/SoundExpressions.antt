@@ -182,6 +182,7 @@ module _ (N : Job → Parser Expr) (h : (j : Job) (s : State) (y : Expr × State
     where
       one_less : length us < length ts
       one_less = takes_shorter t
+
       by : (k : Option the_mark.Mark) → mark_at us ≡ k → (n : ℕ) → named_by N w k (n, us) ≡ Ok y → Good primary (n, ts) y
       by (Some m.LeftParen) du zero k = absurd cc
       by (Some m.LeftParen) du (suc n) k =
@@ -230,7 +231,7 @@ module _ (N : Job → Parser Expr) (h : (j : Job) (s : State) (y : Expr × State
       let c = inner.took in
       let less = element_shorter last in
       gives primary (suc (suc n), ts) (subst (λ (q : CType × State). Good primary (suc (suc n), ts) (e.Calloc p.0 q.0, q.1)) is
-        (record { took = omega arith; sound = g.allocation t u (inner.sound (omega arith)) last.comma last.size last.closes })) dl
+      (record { took = omega arith; sound = g.allocation t u (inner.sound (omega arith)) last.comma last.size last.closes })) dl
 
   good_primary : (n : ℕ) (ts : Tokens) (y : Expr × State) → primary_by N (kind_at ts) (n, ts) ≡ Ok y → Good primary (n, ts) y
   good_primary n ts y d = by (kind_at ts) refl d
@@ -255,7 +256,7 @@ module _ (N : Job → Parser Expr) (h : (j : Job) (s : State) (y : Expr × State
       let b = takes_shorter u in
       let c = inner.took in
       extends x (suc n, ts) (e.Index x p.0, q.1) y (subst (λ (s : State). Extends x (suc n, ts) (e.Index x p.0, s)) after
-        (record { took = omega arith; sound = λ s₀ r. g.index r t (inner.sound (omega arith)) u })) dl
+      (record { took = omega arith; sound = λ s₀ r. g.index r t (inner.sound (omega arith)) u })) dl
 
   good_extended : (x : Expr) (s : State) (o : Outcome Expr) (y : Expr × State) → ((p : Expr × State) → o ≡ Ok p → Extends x s p) → and_then o (λ z. N (suffix z)) ≡ Ok y → Good (suffix x) s y
   good_extended x s o y f d =

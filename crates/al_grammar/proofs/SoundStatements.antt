@@ -83,9 +83,9 @@ value_shorter a b ts us e = let (x, vs, r, s) = one_value a ts ((b, false), us) 
 sound_values : (ts : Tokens) (q : List Expr × Tokens) → p.values ts ≡ Ok q → Values ts q.0 q.1
 sound_values ts q e =
     let (zs, r, is) = repeat_keeps p.value FoundValues
-        (λ a b ts us d. let (x, vs, r, s) = one_value a ts ((b, true), us) d in values_last a ts x vs b us r s)
-        (λ a b c ts us vs d k. let (x, ws, r, s) = one_value a ts ((b, false), us) d in values_more a ts x ws b us c vs r s k)
-        [] ts q e in
+    (λ a b ts us d. let (x, vs, r, s) = one_value a ts ((b, true), us) d in values_last a ts x vs b us r s)
+    (λ a b c ts us vs d k. let (x, ws, r, s) = one_value a ts ((b, false), us) d in values_more a ts x ws b us c vs r s k)
+    [] ts q e in
     subst (λ xs. Values ts xs q.1) (sym is) r
 
 sound_call_values : (ts : Tokens) (q : List Expr × Tokens) → p.call_values ts ≡ Ok q → CallValues ts q.0 q.1
@@ -147,7 +147,7 @@ sound_call w ts q e =
     let (r, dr, dl) = bind_ok (expect m.LeftParen (tail ts)) (λ _. p.call_values) dx in
     let (is, end) = call_ended (kind.Call w x.0) x.1 q dk in
     subst (λ (q : StmtKind × Tokens). IsCall w ts q × EndsCall q.1) is
-      (record { inside = r.1; xs = x.0; opens = expect_takes m.LeftParen (tail ts) r dr; arguments = sound_call_values r.1 x dl; is = refl }, end)
+    (record { inside = r.1; xs = x.0; opens = expect_takes m.LeftParen (tail ts) r dr; arguments = sound_call_values r.1 x dl; is = refl }, end)
 
 -- ---- assignments
 
@@ -175,6 +175,7 @@ sound_word w ts q t e = by (p.call w ts) refl e
     other : (a : Tokens) (o : Read StmtKind) → p.placed ts ≡ o → p.second a o ≡ Ok q → IsSimple ts q
     other a (Ok r) c e = sound_placed ts q (c ∙ e)
     other a (Err b) c e = absurd cc
+
     by : (o : Read StmtKind) → p.call w ts ≡ o → p.first o (p.placed ts) ≡ Ok q → IsSimple ts q
     by (Ok r) c e =
         let (s, end) = sound_call w ts q (c ∙ e) in
@@ -205,6 +206,7 @@ sound_policy ts q e = by (meaning_at note_word_of ts) refl e
   where
     Is : Policy × Tokens → Type 0
     Is q = NotePolicy ts q.0 q.1
+
     by : (c : Option NoteWord) → meaning_at note_word_of ts ≡ c → p.policy_by c ts ≡ Ok q → NotePolicy ts q.0 q.1
     by (Some (note.Policy a)) d e = yields (λ q. NotePolicy ts q.0 q.1) (a, tail ts) q (g.written (at_means ts d)) e
     by _ d e = yields (λ q. NotePolicy ts q.0 q.1) (policy.Raw, ts) q g.absent e
@@ -254,9 +256,9 @@ reduced_more op xs ts w us ys vs zs ws t (goes_on u) (bs, r, is) = (reduced op w
 sound_reduced : (op : RedOp) (rs : List NamedRed) (ts : Tokens) (q : List NamedRed × Tokens) → repeat (p.variable op) rs ts ≡ Ok q → FoundReduced op rs ts q.0 q.1
 sound_reduced op rs ts q e =
     repeat_keeps (p.variable op) (FoundReduced op)
-      (λ a b ts us d. let (w, vs, t, s) = one_variable op a ts ((b, true), us) d in reduced_last op a ts w vs b us t s)
-      (λ a b c ts us vs d k. let (w, ws, t, s) = one_variable op a ts ((b, false), us) d in reduced_more op a ts w ws b us c vs t s k)
-      rs ts q e
+    (λ a b ts us d. let (w, vs, t, s) = one_variable op a ts ((b, true), us) d in reduced_last op a ts w vs b us t s)
+    (λ a b c ts us vs d k. let (w, ws, t, s) = one_variable op a ts ((b, false), us) d in reduced_more op a ts w ws b us c vs t s k)
+    rs ts q e
 
 -- one `reduce`
 pub record OneReduction (rs : List NamedRed) (ts : Tokens) (q : List NamedRed × Tokens) : Type 0 where
@@ -315,8 +317,8 @@ reductions_next a b c ts us vs (again t r) (zs, k, is) =
 sound_reductions : (ts : Tokens) (q : List NamedRed × Tokens) → repeat p.reduce_turn [] ts ≡ Ok q → Reductions ts q.0 q.1
 sound_reductions ts q e =
     let (zs, r, is) = repeat_keeps p.reduce_turn FoundReductions
-        (λ a b ts us d. reductions_last a b ts us (reduce_turn a ts ((b, true), us) d))
-        (λ a b c ts us vs d k. reductions_next a b c ts us vs (reduce_turn a ts ((b, false), us) d) k) [] ts q e in
+    (λ a b ts us d. reductions_last a b ts us (reduce_turn a ts ((b, true), us) d))
+    (λ a b c ts us vs d k. reductions_next a b c ts us vs (reduce_turn a ts ((b, false), us) d) k) [] ts q e in
     subst (λ rs. Reductions ts rs q.1) (sym is) r
 
 sound_note : (ts : Tokens) (q : LoopNote × Tokens) → p.loop_note ts ≡ Ok q → Note ts q.0 q.1
@@ -334,6 +336,7 @@ sound_maybe ts q e = by (mark_at ts) e
     some : bind (expression ts) (λ x. pure (Some x)) ≡ Ok q → Maybe ts q.0 q.1
     some e = let (x, dx, dk) = bind_ok (expression ts) (λ x. pure (Some x)) e in
         yields (λ (q : Option Expr × Tokens). Maybe ts q.0 q.1) (Some x.0, x.1) q (g.just (sound_expression ts x dx)) dk
+
     by : (c : Option the_mark.Mark) → p.maybe_by c ts ≡ Ok q → Maybe ts q.0 q.1
     by (Some m.Semicolon) e = yields (λ (q : Option Expr × Tokens). Maybe ts q.0 q.1) (None, ts) q g.nothing e
     by _ e = some e
@@ -345,24 +348,26 @@ sound_first_declaration ts q e =
     let (x, dx, dm) = bind_ok (bind (expect m.Assign f.1) (λ _. expression)) (λ x. pure (kind.Declare f.0.ty f.0.name (Some x))) dl in
     let (r, dr, dn) = bind_ok (expect m.Assign f.1) (λ _. expression) dx in
     yields (λ (q : StmtKind × Tokens). First ts (Some (at ts q.0)) q.1) (kind.Declare f.0.ty f.0.name (Some x.0), x.1) q
-      (g.declares (sound_base ts a da) (sound_declarator a.0 a.1 f df) (expect_takes m.Assign f.1 r dr) (sound_expression r.1 x dn)) dm
+    (g.declares (sound_base ts a da) (sound_declarator a.0 a.1 f df) (expect_takes m.Assign f.1 r dr) (sound_expression r.1 x dn)) dm
 
 sound_first : (ts : Tokens) (q : Option Stmt × Tokens) → p.first_part ts ≡ Ok q → First ts q.0 q.1
 sound_first ts q e = by (mark_at ts) e
   where
     Is : Option Stmt × Tokens → Type 0
     Is q = First ts q.0 q.1
+
     of : (b : Bool) → bind (p.lined (p.first_kind b) ts) (λ s. pure (Some s)) ≡ Ok q → First ts q.0 q.1
     of true e =
         let (s, ds, dk) = bind_ok (bind (p.first_declaration ts) (λ k. pure (at ts k))) (λ s. pure (Some s)) e in
         let (k, dl, dm) = bind_ok (p.first_declaration ts) (λ k. pure (at ts k)) ds in
         yields (λ (q : Option Stmt × Tokens). First ts q.0 q.1) (Some s.0, s.1) q
-          (yields (λ (s : Stmt × Tokens). First ts (Some s.0) s.1) (at ts k.0, k.1) s (sound_first_declaration ts k dl) dm) dk
+        (yields (λ (s : Stmt × Tokens). First ts (Some s.0) s.1) (at ts k.0, k.1) s (sound_first_declaration ts k dl) dm) dk
     of false e =
         let (s, ds, dk) = bind_ok (bind (p.simple ts) (λ k. pure (at ts k))) (λ s. pure (Some s)) e in
         let (k, dl, dm) = bind_ok (p.simple ts) (λ k. pure (at ts k)) ds in
         yields (λ (q : Option Stmt × Tokens). First ts q.0 q.1) (Some s.0, s.1) q
-          (yields (λ (s : Stmt × Tokens). First ts (Some s.0) s.1) (at ts k.0, k.1) s (g.simple (sound_simple ts k dl)) dm) dk
+        (yields (λ (s : Stmt × Tokens). First ts (Some s.0) s.1) (at ts k.0, k.1) s (g.simple (sound_simple ts k dl)) dm) dk
+
     by : (c : Option the_mark.Mark) → p.first_by c ts ≡ Ok q → First ts q.0 q.1
     by (Some m.Semicolon) e = yields (λ (q : Option Stmt × Tokens). First ts q.0 q.1) (None, ts) q g.nothing e
     by _ e = of (p.begins_base (key_at ts)) e
@@ -375,7 +380,8 @@ sound_third ts q e = by (mark_at ts) e
         let (s, ds, dk) = bind_ok (bind (p.simple ts) (λ k. pure (at ts k))) (λ s. pure (Some s)) e in
         let (k, dl, dm) = bind_ok (p.simple ts) (λ k. pure (at ts k)) ds in
         yields (λ (q : Option Stmt × Tokens). Third ts q.0 q.1) (Some s.0, s.1) q
-          (yields (λ (s : Stmt × Tokens). Third ts (Some s.0) s.1) (at ts k.0, k.1) s (g.simple (sound_simple ts k dl)) dm) dk
+        (yields (λ (s : Stmt × Tokens). Third ts (Some s.0) s.1) (at ts k.0, k.1) s (g.simple (sound_simple ts k dl)) dm) dk
+
     by : (c : Option the_mark.Mark) → p.third_by c ts ≡ Ok q → Third ts q.0 q.1
     by (Some m.RightParen) e = yields (λ (q : Option Stmt × Tokens). Third ts q.0 q.1) (None, ts) q g.nothing e
     by _ e = some e
@@ -396,8 +402,8 @@ sound_head ts q e =
     let (u, du, dp) = bind_ok (expect m.Semicolon b.1) (λ _. p.third_part) dc in
     let (r, dr, dq) = bind_ok (expect m.RightParen c.1) (λ _. pure (a.0, b.0, c.0)) dn in
     yields (IsHead ts) ((a.0, b.0, c.0), r.1) q
-      (g.head (expect_key_takes key.For ts f df) (expect_takes m.LeftParen f.1 o dh) (sound_first o.1 a dj) (expect_takes m.Semicolon a.1 s ds)
-        (sound_maybe s.1 b dm) (expect_takes m.Semicolon b.1 u du) (sound_third u.1 c dp) (expect_takes m.RightParen c.1 r dr)) dq
+    (g.head (expect_key_takes key.For ts f df) (expect_takes m.LeftParen f.1 o dh) (sound_first o.1 a dj) (expect_takes m.Semicolon a.1 s ds)
+    (sound_maybe s.1 b dm) (expect_takes m.Semicolon b.1 u du) (sound_third u.1 c dp) (expect_takes m.RightParen c.1 r dr)) dq
 
 sound_condition : (ts : Tokens) (q : Expr × Tokens) → p.condition ts ≡ Ok q → Condition ts q.0 q.1
 sound_condition ts q e =
@@ -464,9 +470,9 @@ locals_more line a xs ts f x us vs ys ws zs rs d i (goes_on t) (bs, r, is) =
 sound_locals : (line : ℕ) (a : CType) (ss : List Stmt) (ts : Tokens) (q : List Stmt × Tokens) → repeat (p.local line a) ss ts ≡ Ok q → FoundLocals line a ss ts q.0 q.1
 sound_locals line a ss ts q e =
     repeat_keeps (p.local line a) (FoundLocals line a)
-      (λ b c ts us d. let r = one_local line a b ts ((c, true), us) d in locals_last line a b ts r.f r.x r.named r.behind c us r.declares r.begins r.sep)
-      (λ b c h ts us vs d k. let r = one_local line a b ts ((c, false), us) d in locals_more line a b ts r.f r.x r.named r.behind c us h vs r.declares r.begins r.sep k)
-      ss ts q e
+    (λ b c ts us d. let r = one_local line a b ts ((c, true), us) d in locals_last line a b ts r.f r.x r.named r.behind c us r.declares r.begins r.sep)
+    (λ b c h ts us vs d k. let r = one_local line a b ts ((c, false), us) d in locals_more line a b ts r.f r.x r.named r.behind c us h vs r.declares r.begins r.sep k)
+    ss ts q e
 
 -- ---- statements
 
@@ -557,8 +563,8 @@ module _ (d : ℕ) (nested : Step Stmt) (h : (ts : Tokens) (q : Stmt × Tokens) 
       let (s, ds, dk) = bind_ok (repeat (p.inner_turn d nested) [] ts) (λ ss us. bind (expect m.RightBrace us) (λ _. pure ss)) e in
       let (r, dr, dl) = bind_ok (expect m.RightBrace s.1) (λ _. pure s.0) dk in
       let (zs, k, is) = repeat_keeps (p.inner_turn d nested) FoundInners
-          (λ a b ts us e. inners_last a b ts us (inner_turn a ts ((b, true), us) e))
-          (λ a b c ts us vs e k. inners_next a b c ts us vs (inner_turn a ts ((b, false), us) e) k) [] ts s ds in
+      (λ a b ts us e. inners_last a b ts us (inner_turn a ts ((b, true), us) e))
+      (λ a b c ts us vs e k. inners_next a b c ts us vs (inner_turn a ts ((b, false), us) e) k) [] ts s ds in
       yields (IsBraced ts) (s.0, r.1) q (record { close = s.1; inners = subst (λ l. Inners d ts l s.1) (sym is) k; closes = expect_takes m.RightBrace s.1 r dr }) dl
 
   sound_else : (ts us vs : Tokens) (c : Expr) (x : Stmt) (q : StmtKind × Tokens) → Takes (Key key.If) ts (tail ts) → Condition (tail ts) c us → Statement d us x vs
@@ -568,6 +574,7 @@ module _ (d : ℕ) (nested : Step Stmt) (h : (ts : Tokens) (q : Stmt × Tokens) 
     where
       none : (k : TokenKind) → v.kind ≡ k → is_else k ≡ false → ◌≡◌ {A = Read StmtKind} (Ok (kind.If c x None, v ∷ vs)) (Ok q) → Kind d ts q
       none k dv f e = yields (Kind d ts) (kind.If c x None, v ∷ vs) q (g.if_only t a b (ap is_else dv ∙ f)) e
+
       by : (k : TokenKind) → v.kind ≡ k → p.else_by d nested c x (is_else k) (v ∷ vs) ≡ Ok q → Kind d ts q
       by (Key key.Else) dv e =
           let (y, dy, dk) = bind_ok (nested vs) (λ y. pure (kind.If c x (Some y))) e in
@@ -604,7 +611,7 @@ module _ (d : ℕ) (nested : Step Stmt) (h : (ts : Tokens) (q : Stmt × Tokens) 
       let (a, da, dk) = bind_ok (p.head ts) (λ a us. bind (nested us) (λ x. pure (kind.For a.0 a.1 a.2 x n))) e in
       let (x, dx, dl) = bind_ok (nested a.1) (λ x. pure (kind.For a.0.0 a.0.1 a.0.2 x n)) dk in
       yields (IsFor n ts) (kind.For a.0.0 a.0.1 a.0.2 x.0 n, x.1) q
-        (record { first = a.0.0; test = a.0.1; third = a.0.2; body = x.0; inside = a.1; head = sound_head ts a da; reads = h a.1 x dx; is = refl }) dl
+      (record { first = a.0.0; test = a.0.1; third = a.0.2; body = x.0; inside = a.1; head = sound_head ts a da; reads = h a.1 x dx; is = refl }) dl
 
   sound_plain_for : (ts : Tokens) (q : StmtKind × Tokens) → bind (p.gate d ts) (λ _. p.for_loop d nested None) ≡ Ok q → Kind d ts q
   sound_plain_for ts q e =
@@ -621,8 +628,8 @@ module _ (d : ℕ) (nested : Step Stmt) (h : (ts : Tokens) (q : Stmt × Tokens) 
       let (k, dk', do') = bind_ok (p.for_loop d nested (Some n.0) s.1) (λ k. pure (at s.1 k)) dm in
       let f = sound_for (Some n.0) s.1 k dk' in
       yields (λ (q : Stmt × Tokens). Statement (suc d) ts q.0 q.1) (at s.1 k.0, k.1) q
-        (subst (λ (c : StmtKind). Statement (suc d) ts (at s.1 c) k.1) f.is
-          (g.noted_loop t (subst (λ us. Note us n.0 n.1) (sym (skipped d ts r dr)) (sound_note r.1 n dl)) (end_takes n.1 s ds) f.head f.reads)) do'
+      (subst (λ (c : StmtKind). Statement (suc d) ts (at s.1 c) k.1) f.is
+      (g.noted_loop t (subst (λ us. Note us n.0 n.1) (sym (skipped d ts r dr)) (sound_note r.1 n dl)) (end_takes n.1 s ds) f.head f.reads)) do'
 
   sound_block : (ts : Tokens) (q : StmtKind × Tokens) → Takes (Mark m.LeftBrace) ts (tail ts) → bind (p.braced d nested (tail ts)) (λ ss. pure (kind.Block ss)) ≡ Ok q → Kind d ts q
   sound_block ts q t e =

@@ -101,7 +101,7 @@ sound_dimensions (suc n) a ts p e = by (is_mark m.LeftBracket ts) refl e (λ us 
         let (r, dr, dn) = bind_ok (expect m.RightBracket l.1) (λ _. dimensions n a) dq in
         let h = sound_length (tail ts) l dl in
         yields (λ p. Dimensions (suc n) a ts p.0 p.1) (type.Array q.0 l.0, q.1) p
-          (g.dimension (is_mark_takes m.LeftBracket ts d) h.takes h.above h.below (expect_takes m.RightBracket l.1 r dr) (ih r.1 q dn)) dm
+        (g.dimension (is_mark_takes m.LeftBracket ts d) h.takes h.above h.below (expect_takes m.RightBracket l.1 r dr) (ih r.1 q dn)) dm
     by false d e ih = yields (λ p. Dimensions (suc n) a ts p.0 p.1) (a, ts) p g.none e
 
 pub sound_declarator : (a : CType) (ts : Tokens) (p : Field × Tokens) → declarator a ts ≡ Ok p → Declarator a ts p.0 p.1
@@ -110,7 +110,7 @@ sound_declarator a ts p e =
     let (w, dw, dl) = bind_ok (word b.1) (λ w vs. bind (dimensions max_dimensions b.0 vs) (λ c. pure (record { name = w; ty = c }))) dk in
     let (c, dc, dm) = bind_ok (dimensions max_dimensions b.0 w.1) (λ c. pure (record { name = w.0; ty = c })) dl in
     yields (λ (p : Field × Tokens). Declarator a ts p.0 p.1) (record { name = w.0; ty = c.0 }, c.1) p
-      (g.declarator (sound_stars max_stars a ts b db) (word_takes b.1 w dw) (sound_dimensions max_dimensions b.0 w.1 c dc)) dm
+    (g.declarator (sound_stars max_stars a ts b db) (word_takes b.1 w dw) (sound_dimensions max_dimensions b.0 w.1 c dc)) dm
 
 -- `( base * )`
 pub record OperandType (ts : Tokens) (p : CType × Tokens) : Type 0 where
@@ -130,7 +130,7 @@ sound_operand ts p e =
     let (b, db, dl) = bind_ok (stars max_stars a.0 a.1) (λ b vs. bind (expect m.RightParen vs) (λ _. pure b)) dk in
     let (c, dc, dm) = bind_ok (expect m.RightParen b.1) (λ _. pure b.0) dl in
     yields (OperandType ts) (b.0, c.1) p
-      (record { base_type = a.0; opened = o.1; base_end = a.1; close = b.1; opens = expect_takes m.LeftParen ts o do'; base = sound_base o.1 a dj; stars = sound_stars max_stars a.0 a.1 b db; closes = expect_takes m.RightParen b.1 c dc }) dm
+    (record { base_type = a.0; opened = o.1; base_end = a.1; close = b.1; opens = expect_takes m.LeftParen ts o do'; base = sound_base o.1 a dj; stars = sound_stars max_stars a.0 a.1 b db; closes = expect_takes m.RightParen b.1 c dc }) dm
 
 pub size_from : {ts us : Tokens} (p : CType × Tokens) → Takes (Key key.Sizeof) ts us → OperandType us p → SizeOf ts p.0 p.1
 size_from p t o = g.size_of t o.opens o.base o.stars o.closes

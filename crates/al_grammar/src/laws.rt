@@ -8,5 +8,4 @@ ghost use Rattle.al_grammar.specs.Programs.{Derives};
 /// Tokens derive at most one program.
 pub fn one_program()
     ensures { (ts : Tokens) (p q : Program) → Derives ts p → Derives ts q → p ≡ q }
-{
-}
+{}

@@ -6,5 +6,6 @@ pub mod operators;
 
 pub use laws::one_program;
 pub use operators::{
-    Joint, LEVELS, NoteWord, Prefix, apply, infix_of, join, note_word_of, prefix_of, step_of, update_of,
+    Joint, LEVELS, NoteWord, Prefix, apply, infix_of, join, note_word_of, prefix_of, step_of,
+    update_of,
 };
