@@ -1,13 +1,12 @@
 -- Statements in order, and the turns of a loop, as the code does them.
-use Rattle.std.proofs.Common.{◌≡◌, ℕ, zero, suc, ◌+◌, ◌-◌, ◌<◌, List, [], ◌∷◌, length, drop, get_or, Result, Ok, Err, refl, sym, ap, subst, ◌∙◌, arith}
+use Rattle.std.proofs.Common.{◌≡◌, ℕ, ◌+◌, ◌<◌, List, ◌∷◌, length, drop, get_or, Ok, Err, sym, ap, subst, ◌∙◌, arith}
 use Rattle.std.specs.Prelude.{ℤ}
 use Rattle.std.proofs.lemmas.List.{drop_more, drop_all}
 use Rattle.al_core.specs.declared.values.Val.{Val}
-use Rattle.al_core.specs.declared.values.Trap.TheVariants as trap
 use Rattle.al_core.specs.declared.typed_tree.TStmt.{TStmt}
 use Rattle.al_core.specs.World.{World}
-use Rattle.al_core.specs.Action.{State, Answer, Act, At, after, bind, pure, lift, get_budget, ◌>>=◌}
-use Rattle.al_core.specs.Meaning.{Flow, Next, Broke, Continued, Returned, Where, then_flow, turns, turns_to, execute, execute_all}
+use Rattle.al_core.specs.Action.{State, Answer, At, after, bind, pure, ◌>>=◌}
+use Rattle.al_core.specs.Meaning.{Flow, Next, Where, then_flow, execute, execute_all}
 use Rattle.al_plain.specs.declared.fault.Fault.{Fault}
 use Rattle.al_plain.specs.Does.{Does}
 use Rattle.al_plain.proofs.Binds.{raised}

@@ -76,7 +76,15 @@ impl<F> Walker<F> {
         line: u32,
     ) -> Result<Val, Fault>
     where
-        F: Fn(Global, &Setting<'_>, u32, &mut Machine<G>, u32, Items<Val>, u32) -> Result<Val, Fault>,
+        F: Fn(
+            Global,
+            &Setting<'_>,
+            u32,
+            &mut Machine<G>,
+            u32,
+            Items<Val>,
+            u32,
+        ) -> Result<Val, Fault>,
         requires { Calls (G.world (setting_of on.now)) G.place on.now self.now.room (F.pre self.now.call) (F.post self.now.call) }
         ensures { Does (meaning.test_value (G.world (setting_of on.now)) G.place on.now.input.now (call_to (G.world (setting_of on.now)) G.place on.now.typed.now.funcs on.now.input.now self.now.room) (option_copied e.entry) line m.old) result m.new }
     {
@@ -96,7 +104,15 @@ impl<F> Walker<F> {
         line: u32,
     ) -> Result<Flow, Fault>
     where
-        F: Fn(Global, &Setting<'_>, u32, &mut Machine<G>, u32, Items<Val>, u32) -> Result<Val, Fault>,
+        F: Fn(
+            Global,
+            &Setting<'_>,
+            u32,
+            &mut Machine<G>,
+            u32,
+            Items<Val>,
+            u32,
+        ) -> Result<Val, Fault>,
         requires { Calls (G.world (setting_of on.now)) G.place on.now self.now.room (F.pre self.now.call) (F.post self.now.call) }
         ensures { Does (does_kind (G.world (setting_of on.now)) G.place on.now.input.now (call_to (G.world (setting_of on.now)) G.place on.now.typed.now.funcs on.now.input.now self.now.room) (kind.Print format.now es.now) line m.old) (flowed result) m.new }
     {
@@ -118,7 +134,15 @@ impl<F> Walker<F> {
         line: u32,
     ) -> Result<i64, Fault>
     where
-        F: Fn(Global, &Setting<'_>, u32, &mut Machine<G>, u32, Items<Val>, u32) -> Result<Val, Fault>,
+        F: Fn(
+            Global,
+            &Setting<'_>,
+            u32,
+            &mut Machine<G>,
+            u32,
+            Items<Val>,
+            u32,
+        ) -> Result<Val, Fault>,
         requires { Calls (G.world (setting_of on.now)) G.place on.now self.now.room (F.pre self.now.call) (F.post self.now.call) }
         ensures { Does (meaning.bound_value (G.world (setting_of on.now)) (loops.bound_of test.now) line m.old) result m.new }
     {
