@@ -16,28 +16,28 @@ use Rattle.al_core.specs.Memory.{Memory, has_object, value_at, put, add}
 -- ---- names
 
 -- who allocates: the code outside the iterations of annotated loops, or iteration j of execution e
-pub data Maker : Type 0 where
-  Program : Maker
-  Iteration : ℕ → ℕ → Maker
+pub data Allocator : Type 0 where
+  Outer : Allocator
+  InIteration : ℕ → ℕ → Allocator
 
 -- who allocates, how many objects it has made, and their words, each object counted as its words plus one
-pub record Names : Type 0 where
-  pub maker : Maker
+pub record Allocations : Type 0 where
+  pub allocator : Allocator
   pub next : ℕ
   pub words : ℕ
 
 -- a name depends on no thread, chunk or attempt
-abbrev pub name_of : Maker → ℕ → Obj
-name_of Program k = Serial k
-name_of (Iteration e j) k = Iter e j k
+abbrev pub name_of : Allocator → ℕ → Obj
+name_of Outer k = Serial k
+name_of (InIteration e j) k = Iter e j k
 
-abbrev pub word_limit : Maker → ℕ
-word_limit Program = 4194304
-word_limit (Iteration e j) = 1048576
+abbrev pub word_limit : Allocator → ℕ
+word_limit Outer = 4194304
+word_limit (InIteration e j) = 1048576
 
 -- ---- the access record of a chunk
 
-pub record Log : Type 0 where
+pub record AccessRecord : Type 0 where
   -- the addresses that were read before the chunk wrote them
   pub reads : FinSet addr_cmp
   -- those that were written
@@ -50,26 +50,26 @@ pub record Log : Type 0 where
 
 pub record Content : Type 0 where
   pub memory : Memory
-  pub names : Names
+  pub allocations : Allocations
   pub printed : List ℕ
   -- there is none where code runs plain
-  pub log : Option Log
+  pub accesses : Option AccessRecord
 
 abbrev pub with_memory : Content → Memory → Content
 with_memory c m = record c { memory = m }
 
-abbrev pub with_log : Content → Log → Content
-with_log c log = record c { log = Some log }
+abbrev pub with_accesses : Content → AccessRecord → Content
+with_accesses c accesses = record c { accesses = Some accesses }
 
-abbrev pub with_read : Log → Addr → Log
-with_read log a = record log { reads = set.insert log.reads a }
+abbrev pub with_read : AccessRecord → Addr → AccessRecord
+with_read accesses a = record accesses { reads = set.insert accesses.reads a }
 
-abbrev pub with_touched : Log → Addr → Log
-with_touched log a = record log { touched = set.insert log.touched a }
+abbrev pub with_touched : AccessRecord → Addr → AccessRecord
+with_touched accesses a = record accesses { touched = set.insert accesses.touched a }
 
 -- a word that was written before is not read from outside
-abbrev pub with_load : Log → Addr → Log
-with_load log a = if set.contains log.touched a then log else with_read log a
+abbrev pub with_load : AccessRecord → Addr → AccessRecord
+with_load accesses a = if set.contains accesses.touched a then accesses else with_read accesses a
 
 -- ---- loads and stores of a memory
 
@@ -105,70 +105,70 @@ red_index [] a = None
 red_index (r ∷ reds) a = if addr_eq r.at a then Some 0 else option_map suc (red_index reds a)
 
 -- an access to a word of an object that the chunk made records nothing
-abbrev pub is_own : Log → Addr → Bool
-is_own log (Word o w) = set.contains log.made o
-is_own log (Head o) = false
-is_own log (Local k) = false
+abbrev pub is_own : AccessRecord → Addr → Bool
+is_own accesses (Word o w) = set.contains accesses.made o
+is_own accesses (Head o) = false
+is_own accesses (Local k) = false
 
 -- any other access to a word reads the object's head, also where it traps; a shared local has no head
-abbrev pub with_head : Log → Addr → Log
-with_head log (Word o w) = with_read log (Head o)
-with_head log (Head o) = log
-with_head log (Local k) = log
+abbrev pub with_head : AccessRecord → Addr → AccessRecord
+with_head accesses (Word o w) = with_read accesses (Head o)
+with_head accesses (Head o) = accesses
+with_head accesses (Local k) = accesses
 
 -- a load that finds a value reads it
-abbrev pub log_load : Log → Addr → Option Val → Log
-log_load log a (Some v) = with_load (with_head log a) a
-log_load log a None = with_head log a
+abbrev pub record_load : AccessRecord → Addr → Option Val → AccessRecord
+record_load accesses a (Some v) = with_load (with_head accesses a) a
+record_load accesses a None = with_head accesses a
 
-abbrev pub log_store : Log → Addr → Option Val → Log
-log_store log a (Some v) = with_touched (with_head log a) a
-log_store log a None = with_head log a
+abbrev pub record_store : AccessRecord → Addr → Option Val → AccessRecord
+record_store accesses a (Some v) = with_touched (with_head accesses a) a
+record_store accesses a None = with_head accesses a
 
 -- a reduction variable is read and changed in its accumulator, and nothing is recorded
-abbrev pub load_logged : Content → Log → Addr → Kind → Option ℕ → Result Val Trap × Content
-load_logged c log a want (Some i) = (read_as a want (or_zero (slice_get log.accumulators i)), c)
-load_logged c log a want None =
-    (load_in c.memory a want, if is_own log a then c else with_log c (log_load log a (value_at c.memory a)))
+abbrev pub load_recorded : Content → AccessRecord → Addr → Kind → Option ℕ → Result Val Trap × Content
+load_recorded c accesses a want (Some i) = (read_as a want (or_zero (slice_get accesses.accumulators i)), c)
+load_recorded c accesses a want None =
+    (load_in c.memory a want, if is_own accesses a then c else with_accesses c (record_load accesses a (value_at c.memory a)))
 
-abbrev pub store_logged : Content → Log → Addr → Val → Option ℕ → Result (Unit {0}) Trap × Content
-store_logged c log a v (Some i) = (Ok tt, with_log c (record log { accumulators = slice_set log.accumulators i v }))
-store_logged c log a v None =
-    store_in (if is_own log a then c else with_log c (log_store log a (value_at c.memory a))) a v (value_at c.memory a)
+abbrev pub store_recorded : Content → AccessRecord → Addr → Val → Option ℕ → Result (Unit {0}) Trap × Content
+store_recorded c accesses a v (Some i) = (Ok tt, with_accesses c (record accesses { accumulators = slice_set accesses.accumulators i v }))
+store_recorded c accesses a v None =
+    store_in (if is_own accesses a then c else with_accesses c (record_store accesses a (value_at c.memory a))) a v (value_at c.memory a)
 
 -- ---- the operations
 
-abbrev pub load_by : Option Log → Content → Addr → Kind → Result Val Trap × Content
+abbrev pub load_by : Option AccessRecord → Content → Addr → Kind → Result Val Trap × Content
 load_by None c a want = (load_in c.memory a want, c)
-load_by (Some log) c a want = load_logged c log a want (red_index log.reds a)
+load_by (Some accesses) c a want = load_recorded c accesses a want (red_index accesses.reds a)
 
-abbrev pub store_by : Option Log → Content → Addr → Val → Result (Unit {0}) Trap × Content
+abbrev pub store_by : Option AccessRecord → Content → Addr → Val → Result (Unit {0}) Trap × Content
 store_by None c a v = store_in c a v (value_at c.memory a)
-store_by (Some log) c a v = store_logged c log a v (red_index log.reds a)
+store_by (Some accesses) c a v = store_recorded c accesses a v (red_index accesses.reds a)
 
 -- making an object writes its head
-abbrev pub log_make : Option Log → Obj → Option Log
-log_make None o = None
-log_make (Some log) o = Some (with_touched (record log { made = set.insert log.made o }) (Head o))
+abbrev pub record_make : Option AccessRecord → Obj → Option AccessRecord
+record_make None o = None
+record_make (Some accesses) o = Some (with_touched (record accesses { made = set.insert accesses.made o }) (Head o))
 
-abbrev pub one_more : Names → ℕ → Names
-one_more names words = record names { next = names.next + 1; words = names.words + words + 1 }
+abbrev pub one_more : Allocations → ℕ → Allocations
+one_more allocations words = record allocations { next = allocations.next + 1; words = allocations.words + words + 1 }
 
 -- the words of an object that is made are all 0
 abbrev pub with_object : Content → Obj → ℕ → Content
 with_object c o words =
-    record { memory = add c.memory o (replicate words (Int (pos 0))); names = one_more c.names words; printed = c.printed; log = log_make c.log o }
+    record { memory = add c.memory o (replicate words (Int (pos 0))); allocations = one_more c.allocations words; printed = c.printed; accesses = record_make c.accesses o }
 
 unfoldable pub load : Addr → Kind → Content → Result Val Trap × Content
-load a want c = load_by c.log c a want
+load a want c = load_by c.accesses c a want
 
 unfoldable pub store : Addr → Val → Content → Result (Unit {0}) Trap × Content
-store a v c = store_by c.log c a v
+store a v c = store_by c.accesses c a v
 
 unfoldable pub make : ℕ → Content → Result Obj Trap × Content
 make words c =
-    if nat_lt (word_limit c.names.maker) (c.names.words + words + 1) then (Err trap.Alloc, c)
-    else (Ok (name_of c.names.maker c.names.next), with_object c (name_of c.names.maker c.names.next) words)
+    if nat_lt (word_limit c.allocations.allocator) (c.allocations.words + words + 1) then (Err trap.Alloc, c)
+    else (Ok (name_of c.allocations.allocator c.allocations.next), with_object c (name_of c.allocations.allocator c.allocations.next) words)
 
 unfoldable pub print : List ℕ → Content → Content
 print bytes c = record c { printed = c.printed ++ bytes }

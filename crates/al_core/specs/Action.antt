@@ -8,7 +8,7 @@ use Rattle.al_core.specs.World.{Val, Kind, Trap, Pointer, World}
 
 -- which locals are private to the frame: all of them, or in an iteration the loop's counter and those from a first to below a last
 pub data Private : Type 0 where
-  All : Private
+  AllPrivate : Private
   Own : ℕ → ℕ → ℕ → Private
 
 -- the locals of the function that runs, by number
@@ -85,7 +85,7 @@ or_zero (Some v) = v
 or_zero None = Int (pos 0)
 
 abbrev pub is_private : Private → ℕ → Bool
-is_private All k = true
+is_private AllPrivate k = true
 is_private (Own counter first last) k = (k == counter) || (nat_le first k && nat_lt k last)
 
 abbrev pub with_locals : Frame → List Val → Frame

@@ -18,8 +18,8 @@ use Rattle.al_core.specs.Orders.{obj_cmp, addr_cmp}
 use Rattle.al_core.specs.Values.{of_kind}
 use Rattle.al_core.specs.Reductions.{red_identity}
 use Rattle.al_core.specs.Memory.{Memory, words_or_none, length_at, has_object, value_at}
-use Rattle.al_core.specs.Access.{Iteration, Log, Content}
-use Rattle.al_core.specs.Iteration.{Execution, Ran, iterations}
+use Rattle.al_core.specs.Access.{InIteration, AccessRecord, Content}
+use Rattle.al_core.specs.Iteration.{Execution, Finished, iterations}
 
 -- ---- which iterations
 
@@ -36,7 +36,7 @@ abbrev pub chunk_trips : Execution → ℕ → ℕ
 chunk_trips x c = chunk_end x c - chunk_start x c
 
 -- the iterations of a chunk, in ascending order, up to the first trap
-abbrev pub chunk_runs : Execution → ℕ → Content → Ran
+abbrev pub chunk_runs : Execution → ℕ → Content → Finished
 chunk_runs x c = iterations x (chunk_trips x c) (chunk_start x c)
 
 -- ---- the outcome
@@ -55,18 +55,18 @@ pub record Outcome : Type 0 where
   pub steps : ℕ
 
 -- a chunk starts with nothing recorded and with the identity in each accumulator
-abbrev pub fresh_log : List Red → Log
-fresh_log reds = record { reads = set.empty; touched = set.empty; made = set.empty; reds = reds; accumulators = map (λ r. Int (red_identity r.op)) reds }
+abbrev pub fresh_accesses : List Red → AccessRecord
+fresh_accesses reds = record { reads = set.empty; touched = set.empty; made = set.empty; reds = reds; accumulators = map (λ r. Int (red_identity r.op)) reds }
 
 abbrev pub chunk_from : Execution → List Red → Memory → ℕ → Content
-chunk_from x reds m c = record { memory = m; names = record { maker = Iteration x.number (chunk_start x c); next = 0; words = 0 }; printed = []; log = Some (fresh_log reds) }
+chunk_from x reds m c = record { memory = m; allocations = record { allocator = InIteration x.number (chunk_start x c); next = 0; words = 0 }; printed = []; accesses = Some (fresh_accesses reds) }
 
 abbrev pub with_value : Addr → Option Val → Option (Addr × Val)
 with_value a (Some v) = Some (a, v)
 with_value a None = None
 
-unfoldable pub written : Memory → FinSet addr_cmp → FinMap addr_cmp Val
-written m touched = map.from_entries (filter_map (λ a. with_value a (value_at m a)) (set.items touched))
+unfoldable pub writes_of : Memory → FinSet addr_cmp → FinMap addr_cmp Val
+writes_of m touched = map.from_entries (filter_map (λ a. with_value a (value_at m a)) (set.items touched))
 
 unfoldable pub made_objects : Memory → FinSet obj_cmp → FinMap obj_cmp (List Val)
 made_objects m made = map.from_entries (map (λ o. (o, words_or_none (map.get m.objects o))) (set.items made))
@@ -75,13 +75,13 @@ abbrev pub gathered : Val → ℤ
 gathered (Int n) = n
 gathered (Ptr o w) = pos 0
 
-abbrev pub outcome_of : Ran → Option Log → Outcome
-outcome_of r (Some log) = record {
-  reads = log.reads;
-  touched = log.touched;
-  writes = written r.content.memory log.touched;
-  made = made_objects r.content.memory log.made;
-  accumulators = map gathered log.accumulators;
+abbrev pub outcome_of : Finished → Option AccessRecord → Outcome
+outcome_of r (Some accesses) = record {
+  reads = accesses.reads;
+  touched = accesses.touched;
+  writes = writes_of r.content.memory accesses.touched;
+  made = made_objects r.content.memory accesses.made;
+  accumulators = map gathered accesses.accumulators;
   printed = r.content.printed;
   ending = r.ending;
   steps = r.steps;
@@ -89,7 +89,7 @@ outcome_of r (Some log) = record {
 outcome_of r None = record { reads = set.empty; touched = set.empty; writes = map.empty; made = map.empty; accumulators = []; printed = r.content.printed; ending = r.ending; steps = r.steps }
 
 unfoldable pub outcome : Execution → List Red → Memory → ℕ → Outcome
-outcome x reds m c = outcome_of (chunk_runs x c (chunk_from x reds m c)) (chunk_runs x c (chunk_from x reds m c)).content.log
+outcome x reds m c = outcome_of (chunk_runs x c (chunk_from x reds m c)) (chunk_runs x c (chunk_from x reds m c)).content.accesses
 
 -- ---- readiness
 
@@ -130,6 +130,6 @@ pub record IsReady (x : Execution) (reds : List Red) (m : Memory) (c : ℕ) : Ty
   -- no object has a name that the chunk may give
   pub fresh : (o : Obj) → IsNameFrom x.number (chunk_start x c) (chunk_end x c) o → has_object m o ≡ false
   -- no pointer leads into the object of a reduction variable
-  pub unreached : (a : Addr) (v : Val) → value_at m a ≡ Some v → All (λ r. ¬ (LeadsTo v r)) reds
+  pub unaliased : (a : Addr) (v : Val) → value_at m a ≡ Some v → All (λ r. ¬ (LeadsTo v r)) reds
   -- every number has 64 bits
   pub values : (a : Addr) (v : Val) → value_at m a ≡ Some v → IsVal v

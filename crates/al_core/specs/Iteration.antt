@@ -5,7 +5,7 @@ use Rattle.al_core.specs.declared.reports.Ending.TheVariants as ending
 use Rattle.al_core.specs.declared.typed_tree.Typed.{Typed}
 use Rattle.al_core.specs.declared.values.Val.TheVariants.{Int}
 use Rattle.al_core.specs.Action.{Own, State, Answer, Act, pure, spend, ◌>>=◌, ◌>>◌, set_local}
-use Rattle.al_core.specs.Access.{Iteration, Content, in_iteration}
+use Rattle.al_core.specs.Access.{InIteration, Content, in_iteration}
 use Rattle.al_core.specs.Loops.{Loop}
 use Rattle.al_core.specs.Meaning.{Inside, execute, call_to}
 
@@ -21,7 +21,7 @@ pub record Execution : Type 0 where
   pub iter_steps : ℕ
 
 -- how code ended, the steps that it spent, and what it left
-pub record Ran : Type 0 where
+pub record Finished : Type 0 where
   pub ending : Ending
   pub steps : ℕ
   pub content : Content
@@ -38,28 +38,28 @@ abbrev pub iteration_from : Execution → ℕ → Content → State Content
 iteration_from x j c = record {
   frame = record { locals = replicate x.loop.locals (Int (pos 0)); own = Own x.loop.info.counter x.loop.info.first x.loop.info.last };
   budget = x.iter_steps;
-  world = record c { names = record { maker = Iteration x.number j; next = 0; words = 0 } };
+  world = record c { allocations = record { allocator = InIteration x.number j; next = 0; words = 0 } };
 }
 
 abbrev pub ending_of : {A : Type 0} → Answer A → Ending
 ending_of (Ok a) = ending.Done
 ending_of (Err e) = ending.Trap e.0 e.1
 
-abbrev pub ran : ℕ → Answer (Unit {0}) × State Content → Ran
-ran budget r = record { ending = ending_of r.0; steps = budget - r.1.budget; content = r.1.world }
+abbrev pub finished : ℕ → Answer (Unit {0}) × State Content → Finished
+finished budget r = record { ending = ending_of r.0; steps = budget - r.1.budget; content = r.1.world }
 
-unfoldable pub iteration : Execution → ℕ → Content → Ran
-iteration x j c = ran x.iter_steps (iteration_does x j (iteration_from x j c))
+unfoldable pub iteration : Execution → ℕ → Content → Finished
+iteration x j c = finished x.iter_steps (iteration_does x j (iteration_from x j c))
 
-abbrev pub add_steps : ℕ → Ran → Ran
+abbrev pub add_steps : ℕ → Finished → Finished
 add_steps n r = record r { steps = n + r.steps }
 
 -- what comes next runs only where there was no trap
-abbrev pub then_runs : Ending → Ran → (Content → Ran) → Ran
+abbrev pub then_runs : Ending → Finished → (Content → Finished) → Finished
 then_runs ending.Done r next = add_steps r.steps (next r.content)
 then_runs (ending.Trap t line) r next = r
 
 -- so many iterations from iteration j on, up to the first trap
-abbrev pub iterations : Execution → ℕ → ℕ → Content → Ran
+abbrev pub iterations : Execution → ℕ → ℕ → Content → Finished
 iterations x zero j c = record { ending = ending.Done; steps = 0; content = c }
 iterations x (suc n) j c = then_runs (iteration x j c).ending (iteration x j c) (iterations x n (suc j))

@@ -34,7 +34,7 @@ bound_of None = bound.Number (pos 0)
 -- ---- the loops in a statement
 
 -- an annotated loop where it stands: its number, the local that its first part sets, its bound and its body
-pub record Found : Type 0 where
+pub record NotedLoop : Type 0 where
   pub number : ℕ
   pub counter : ℕ
   pub bound : Bound
@@ -44,18 +44,18 @@ pub record Found : Type 0 where
 pub record Seen : Type 0 where
   pub stmt : TStmt
   pub sets : Option ℕ
-  pub loops : List Found
+  pub loops : List NotedLoop
 
 pub record SeenKind : Type 0 where
   pub kind : TKind
   pub sets : Option ℕ
-  pub loops : List Found
+  pub loops : List NotedLoop
 
-abbrev pub all_loops : List Seen → List Found
+abbrev pub all_loops : List Seen → List NotedLoop
 all_loops [] = []
 all_loops (s ∷ ss) = s.loops ++ all_loops ss
 
-abbrev pub any_loops : Option Seen → List Found
+abbrev pub any_loops : Option Seen → List NotedLoop
 any_loops (Some s) = s.loops
 any_loops None = []
 
@@ -63,12 +63,12 @@ abbrev pub any_sets : Option Seen → Option ℕ
 any_sets (Some s) = s.sets
 any_sets None = None
 
-abbrev pub found : Option ℕ → Option ℕ → Option TExpr → TStmt → List Found
+abbrev pub found : Option ℕ → Option ℕ → Option TExpr → TStmt → List NotedLoop
 found (Some number) (Some counter) test body = record { number = number; counter = counter; bound = bound_of test; body = body } ∷ []
 found (Some number) None test body = []
 found None counter test body = []
 
-abbrev pub loops_here : TKind-F SeenKind Seen → List Found
+abbrev pub loops_here : TKind-F SeenKind Seen → List NotedLoop
 loops_here (TKind-F.If e a b) = a.loops ++ any_loops b
 loops_here (TKind-F.While e a) = a.loops
 loops_here (TKind-F.For first test third body number) =
@@ -89,11 +89,11 @@ see_stmt s = record { stmt = roll-TStmt (map-TStmt SeenKind Seen TKind TStmt (λ
 unfoldable pub seen : TStmt → Seen
 seen = fold-TStmt SeenKind Seen see_kind see_stmt
 
-abbrev pub loops_in : List TStmt → List Found
+abbrev pub loops_in : List TStmt → List NotedLoop
 loops_in [] = []
 loops_in (s ∷ ss) = (seen s).loops ++ loops_in ss
 
-abbrev pub with_number : ℕ → List Found → Option Found
+abbrev pub with_number : ℕ → List NotedLoop → Option NotedLoop
 with_number n [] = None
 with_number n (f ∷ fs) = if f.number == n then Some f else with_number n fs
 
@@ -105,7 +105,7 @@ pub record Loop : Type 0 where
   pub locals : ℕ
   pub body : TStmt
 
-abbrev pub the_loop : ℕ → TNote → TFunc → Option Found → Option Loop
+abbrev pub the_loop : ℕ → TNote → TFunc → Option NotedLoop → Option Loop
 the_loop n note f None = None
 the_loop n note f (Some found) = Some (record {
   info = record { number = n; func = note.func; line = note.line; counter = found.counter; bound = found.bound; first = note.first; last = note.last; own = note.own };

@@ -15,7 +15,7 @@ use Rattle.al_core.specs.declared.typed_tree.TKind.TheOpen.{TStmt-F, TKind-F}
 use Rattle.al_core.specs.declared.typed_tree.TFunc.{TFunc}
 use Rattle.al_core.specs.World.{Val, Pointer, World}
 use Rattle.al_core.specs.Values.{then_ok, truth, of_test, number, numbers, operate, operate_one, choose, compare, point, shift, element, input_at, words_of, text, trips}
-use Rattle.al_core.specs.Action.{All, Frame, Act, At, pure, lift, spend, get_budget, ◌>>=◌, ◌>>◌, all, get_local, set_local, load, store, make, print, visit, enter, leave}
+use Rattle.al_core.specs.Action.{AllPrivate, Frame, Act, At, pure, lift, spend, get_budget, ◌>>=◌, ◌>>◌, all, get_local, set_local, load, store, make, print, visit, enter, leave}
 use Rattle.al_core.specs.Loops.{bound_of}
 
 -- how a statement ends, where it does not trap
@@ -115,9 +115,9 @@ module _ {S : Type 0} (world : World S) where
 
   -- an annotated loop's start is evaluated, and then its bound is read
   abbrev pub annotated_loop : Where → ℕ → ℕ → Option (ℕ × Act S Val) → Bound → Act S Flow → Act S Flow
-  annotated_loop place loop line (Some (counter, start)) bound body =
-      start >>= (λ v. lift line (number v) >>= (λ lo. bound_value bound line >>= (λ hi. annotated place loop line counter lo hi body)))
-  annotated_loop place loop line None bound body = pure Next
+  annotated_loop here loop line (Some (counter, start)) bound body =
+      start >>= (λ v. lift line (number v) >>= (λ lo. bound_value bound line >>= (λ hi. annotated here loop line counter lo hi body)))
+  annotated_loop here loop line None bound body = pure Next
 
 -- ---- the tree, in a world, outside or inside iterations, for an input and for what calls do
 
@@ -208,8 +208,8 @@ module _ {S : Type 0} (world : World S) (here : Where) (input : List ℤ) (call 
 
 -- the locals of a function that is called: its arguments, and 0 in all others
 abbrev pub frame_of : Option TFunc → List Val → Frame
-frame_of (Some f) args = record { locals = args ++ replicate (length f.locals - length args) (Int (pos 0)); own = All }
-frame_of None args = record { locals = args; own = All }
+frame_of (Some f) args = record { locals = args ++ replicate (length f.locals - length args) (Int (pos 0)); own = AllPrivate }
+frame_of None args = record { locals = args; own = AllPrivate }
 
 abbrev pub body_of : Option TFunc → List TStmt
 body_of (Some f) = f.body

@@ -11,7 +11,7 @@ use Rattle.al_core.specs.Action.{State, Answer}
 use Rattle.al_core.specs.Iteration.{ending_of}
 use Rattle.al_core.specs.declared.reports.Judged.{Judged}
 use Rattle.al_core.specs.Lockstep.{commits_of}
-use Rattle.al_core.specs.Run.{Sizes, Way, Plainly, InRounds, InChunks, Whole, whole_run}
+use Rattle.al_core.specs.Run.{Sizes, Mode, Plainly, InRounds, InChunks, Whole, whole_run}
 
 -- the span has all steps outside iterations, too
 abbrev pub report_of : ℕ → Answer Val × State Whole → Report
@@ -27,18 +27,18 @@ report_of budget r = record {
 }
 
 -- a loop runs in rounds by its entry, or plain where it has none
-abbrev pub way_of : Option (Option Choice) → Way
-way_of (Some (Some choice)) = InRounds choice
-way_of (Some None) = Plainly
-way_of None = Plainly
+abbrev pub mode_of : Option (Option Choice) → Mode
+mode_of (Some (Some choice)) = InRounds choice
+mode_of (Some None) = Plainly
+mode_of None = Plainly
 
-abbrev pub by_choices : List (Option Choice) → ℕ → ℕ → Way
-by_choices choices number execution = way_of (slice_get choices number)
+abbrev pub by_choices : List (Option Choice) → ℕ → ℕ → Mode
+by_choices choices number execution = mode_of (slice_get choices number)
 
 -- the report of a run with a choice for each annotated loop, or none where it runs plain
 unfoldable pub report : Typed → List ℤ → Sizes → List (Option Choice) → Report
 report typed input sizes choices =
-    report_of sizes.serial_steps (whole_run (record { typed = typed; input = input; sizes = sizes; ways = by_choices choices }))
+    report_of sizes.serial_steps (whole_run (record { typed = typed; input = input; sizes = sizes; modes = by_choices choices }))
 
 -- without its events, where nobody watches
 abbrev pub watched : Bool → Report → Report
@@ -68,10 +68,10 @@ pub record OutputAndEnding : Type 0 where
 abbrev pub shown_of : Answer Val × State Whole → OutputAndEnding
 shown_of r = record { output = r.1.world.content.printed; ending = ending_of r.0 }
 
-abbrev pub in_commit_order : List Event → ℕ → ℕ → Way
+abbrev pub in_commit_order : List Event → ℕ → ℕ → Mode
 in_commit_order events number execution = InChunks (commit_order events execution)
 
 -- What a program prints, and how it ends, where each execution runs its chunks one after another on one memory, in the commit order that these events tell.
 unfoldable pub serial_run : Typed → List ℤ → Sizes → List Event → OutputAndEnding
 serial_run typed input sizes events =
-    shown_of (whole_run (record { typed = typed; input = input; sizes = sizes; ways = in_commit_order events }))
+    shown_of (whole_run (record { typed = typed; input = input; sizes = sizes; modes = in_commit_order events }))

@@ -50,8 +50,8 @@ verdict_by policy order written failed trapped o =
 unfoldable pub verdict_of : Choice → Judging → Outcome → Verdict
 verdict_of choice so_far o = verdict_by choice.policy choice.order so_far.written so_far.failed so_far.trapped o
 
-abbrev pub told : ℕ → Verdict → Judging → Outcome → Judging
-told c v so_far o =
+abbrev pub with_verdict : ℕ → Verdict → Judging → Outcome → Judging
+with_verdict c v so_far o =
     record so_far { verdicts = so_far.verdicts ++ record { chunk = c; verdict = v } ∷ []; longest = max so_far.longest o.steps }
 
 abbrev pub committed : Choice → Judging → Outcome → Judging
@@ -66,7 +66,7 @@ settled choice verdict.Fail so_far o = record so_far { failed = true }
 settled choice verdict.After so_far o = so_far
 
 abbrev pub judged_by : Choice → ℕ → Verdict → Judging → Outcome → Judging
-judged_by choice c v so_far o = told c v (settled choice v so_far o) o
+judged_by choice c v so_far o = with_verdict c v (settled choice v so_far o) o
 
 unfoldable pub judged : Choice → Judging → ℕ → Outcome → Judging
 judged choice so_far c o = judged_by choice c (verdict_of choice so_far o) so_far o

@@ -18,21 +18,21 @@ use Rattle.al_core.specs.declared.values.Val.TheVariants.{Int}
 use Rattle.al_core.specs.Orders.{obj_cmp}
 use Rattle.al_core.specs.World.{Val, Trap, World}
 use Rattle.al_core.specs.Values.{trips}
-use Rattle.al_core.specs.Action.{All, State, Answer}
+use Rattle.al_core.specs.Action.{AllPrivate, State, Answer}
 use Rattle.al_core.specs.Memory.{Memory}
-use Rattle.al_core.specs.Access.{Program, Content, load, store, make, print}
+use Rattle.al_core.specs.Access.{Outer, Content, load, store, make, print}
 use Rattle.al_core.specs.Loops.{Loop, loop_at}
 use Rattle.al_core.specs.Meaning.{Outside, call_to}
-use Rattle.al_core.specs.Iteration.{Execution, Ran}
+use Rattle.al_core.specs.Iteration.{Execution, Finished}
 use Rattle.al_core.specs.Chunk.{chunk_count}
 use Rattle.al_core.specs.Lockstep.{Rounds, not_committed, all_chunks, lockstep}
 use Rattle.al_core.specs.Serial.{plain_loop, serial}
 
 -- how an execution of an annotated loop runs: plain, in rounds, or chunk after chunk, of a list or, where there is none, all of them
-pub data Way : Type 0 where
-  Plainly : Way
-  InRounds : Choice → Way
-  InChunks : Option (List ℕ) → Way
+pub data Mode : Type 0 where
+  Plainly : Mode
+  InRounds : Choice → Mode
+  InChunks : Option (List ℕ) → Mode
 
 -- the numbers on which a run's meaning depends; how many threads there are is none of them
 pub record Sizes : Type 0 where
@@ -51,7 +51,7 @@ pub record Setting : Type 0 where
   pub typed : Typed
   pub input : List ℤ
   pub sizes : Sizes
-  pub ways : ℕ → ℕ → Way
+  pub modes : ℕ → ℕ → Mode
 
 -- ---- counts
 
@@ -103,33 +103,33 @@ abbrev pub on_content : {A : Type 0} → (Content → A × Content) → Whole �
 on_content f w = ((f w.content).0, record w { content = (f w.content).1 })
 
 -- what an execution has come to: the memory, what it printed, how it ended, and the counts with it
-pub record Came : Type 0 where
+pub record LoopResult : Type 0 where
   pub memory : Memory
   pub printed : List ℕ
   pub ending : Ending
   pub counts : Counts
 
-abbrev pub came_plain : Counts → Ran → Came
-came_plain n r = record { memory = r.content.memory; printed = r.content.printed; ending = r.ending; counts = count_steps r.steps n }
+abbrev pub result_of_plain : Counts → Finished → LoopResult
+result_of_plain n r = record { memory = r.content.memory; printed = r.content.printed; ending = r.ending; counts = count_steps r.steps n }
 
-abbrev pub came_rounds : Execution → Counts → Rounds → Came
-came_rounds x n r = record { memory = r.memory; printed = r.printed; ending = r.ending; counts = count_rounds x r n }
+abbrev pub result_of_rounds : Execution → Counts → Rounds → LoopResult
+result_of_rounds x n r = record { memory = r.memory; printed = r.printed; ending = r.ending; counts = count_rounds x r n }
 
 abbrev pub list_or_all : Execution → Option (List ℕ) → List ℕ
 list_or_all x (Some cs) = cs
 list_or_all x None = all_chunks x
 
-abbrev pub by_way : Execution → ℕ → Counts → Memory → Way → Came
-by_way x lanes n m Plainly = came_plain n (plain_loop x m)
-by_way x lanes n m (InRounds choice) = came_rounds x n (lockstep x choice lanes m)
-by_way x lanes n m (InChunks cs) = came_plain n (serial x (list_or_all x cs) m)
+abbrev pub by_mode : Execution → ℕ → Counts → Memory → Mode → LoopResult
+by_mode x lanes n m Plainly = result_of_plain n (plain_loop x m)
+by_mode x lanes n m (InRounds choice) = result_of_rounds x n (lockstep x choice lanes m)
+by_mode x lanes n m (InChunks cs) = result_of_plain n (serial x (list_or_all x cs) m)
 
 -- after the loop its counter holds the greater of its start and its bound
 abbrev pub after_loop : Execution → ℤ → Ending → List Val → Answer (List Val)
 after_loop x hi ending.Done locals = Ok (slice_set locals x.loop.info.counter (Int (int_max x.lo hi)))
 after_loop x hi (ending.Trap t line) locals = Err (t, line)
 
-abbrev pub come_back : Execution → ℤ → Whole → Came → Answer (List Val) × Whole
+abbrev pub come_back : Execution → ℤ → Whole → LoopResult → Answer (List Val) × Whole
 come_back x hi w r = (
   after_loop x hi r.ending r.memory.locals,
   record {
@@ -147,7 +147,7 @@ abbrev pub at_loop : Content → List Val → Memory
 at_loop c locals = record { objects = c.memory.objects; locals = locals }
 
 abbrev pub run_loop : Setting → Execution → ℤ → List Val → Whole → Answer (List Val) × Whole
-run_loop g x hi locals w = come_back x hi w (by_way x g.sizes.lanes w.counts (at_loop w.content locals) (g.ways x.loop.info.number x.number))
+run_loop g x hi locals w = come_back x hi w (by_mode x g.sizes.lanes w.counts (at_loop w.content locals) (g.modes x.loop.info.number x.number))
 
 -- too many trips trap at the loop's own line, and are no execution
 abbrev pub if_trips : Setting → Loop → ℤ → ℤ → List Val → Whole → Result ℕ Trap → Answer (List Val) × Whole
@@ -182,10 +182,10 @@ no_counts = record { loops = 0; rounds = 0; attempts = 0; aborted = 0; span = 0;
 
 abbrev pub start : Setting → State Whole
 start g = record {
-  frame = record { locals = []; own = All };
+  frame = record { locals = []; own = AllPrivate };
   budget = g.sizes.serial_steps;
   world = record {
-    content = record { memory = record { objects = globals_from 0 g.typed.globals; locals = [] }; names = record { maker = Program; next = 0; words = 0 }; printed = []; log = None };
+    content = record { memory = record { objects = globals_from 0 g.typed.globals; locals = [] }; allocations = record { allocator = Outer; next = 0; words = 0 }; printed = []; accesses = None };
     executions = 0;
     counts = no_counts;
   };

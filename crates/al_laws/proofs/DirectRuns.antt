@@ -12,9 +12,9 @@ use Rattle.al_core.specs.declared.values.Obj.{Obj}
 use Rattle.al_core.specs.declared.values.Obj.TheVariants.{Iter}
 use Rattle.al_core.specs.Orders.{obj_cmp}
 use Rattle.al_core.specs.Memory.{Memory}
-use Rattle.al_core.specs.Access.{Names, Log, Content, in_iteration}
-use Rattle.al_core.specs.Iteration.{Execution, Ran, ending_of, iteration, iteration_from, then_runs, add_steps, iterations}
-use Rattle.al_core.specs.Chunk.{IsReady, chunk_start, chunk_end, chunk_trips, chunk_runs, chunk_from, fresh_log, outcome_of, outcome}
+use Rattle.al_core.specs.Access.{Allocations, AccessRecord, Content, in_iteration}
+use Rattle.al_core.specs.Iteration.{Execution, Finished, ending_of, iteration, iteration_from, then_runs, add_steps, iterations}
+use Rattle.al_core.specs.Chunk.{IsReady, chunk_start, chunk_end, chunk_trips, chunk_runs, chunk_from, fresh_accesses, outcome_of, outcome}
 use Rattle.al_core.specs.Applied.{applied}
 use Rattle.al_core.specs.Serial.{direct}
 use Rattle.al_laws.specs.Recording.{without_log, HasNoReds}
@@ -27,19 +27,19 @@ use Rattle.al_laws.proofs.Laid.{none_of, whole_memory}
 
 -- ---- with a record and without it
 
-record SameRun (r q : Ran) : Type 0 where
+record SameRun (r q : Finished) : Type 0 where
   pub ending : r.ending ≡ q.ending
   pub steps : r.steps ≡ q.steps
   pub content : without_log r.content ≡ q.content
-  pub logged : HasNoReds r.content.log
+  pub logged : HasNoReds r.content.accesses
 
-same_iteration : (x : Execution) (j : ℕ) (c : Content) → HasNoReds c.log → SameRun (iteration x j c) (iteration x j (without_log c))
+same_iteration : (x : Execution) (j : ℕ) (c : Content) → HasNoReds c.accesses → SameRun (iteration x j c) (iteration x j (without_log c))
 unfolding iteration
 same_iteration x j c h =
     let r = (of_iteration (λ A. Agree Recorded Good {A = A}) (agree_closed Recorded Good in_iteration in_iteration recorded_kept) x j).by (iteration_from x j c) (iteration_from x j (without_log c)) (record { frame = refl; budget = refl; world = record { same = refl; logged = h } }) tt in
     record { ending = ap ending_of r.answer; steps = ap (λ b. x.iter_steps - b) r.state.budget; content = r.state.world.same; logged = r.state.world.logged }
 
-then_same : (e : Ending) (r q : Ran) (f : Content → Ran) → r.ending ≡ e → SameRun r q → ((c : Content) → HasNoReds c.log → SameRun (f c) (f (without_log c))) → SameRun (then_runs r.ending r f) (then_runs q.ending q f)
+then_same : (e : Ending) (r q : Finished) (f : Content → Finished) → r.ending ≡ e → SameRun r q → ((c : Content) → HasNoReds c.accesses → SameRun (f c) (f (without_log c))) → SameRun (then_runs r.ending r f) (then_runs q.ending q f)
 then_same ending.Done r q f e s h =
     subst (λ z. SameRun (then_runs z r f) (then_runs q.ending q f)) (sym e)
     (subst (λ z. SameRun (add_steps r.steps (f r.content)) (then_runs z q f)) (sym e ∙ s.ending)
@@ -48,7 +48,7 @@ then_same ending.Done r q f e s h =
 then_same (ending.Trap t line) r q f e s h =
     subst (λ z. SameRun (then_runs z r f) (then_runs q.ending q f)) (sym e) (subst (λ z. SameRun r (then_runs z q f)) (sym e ∙ s.ending) s)
 
-same_iterations : (x : Execution) (n j : ℕ) (c : Content) → HasNoReds c.log → SameRun (iterations x n j c) (iterations x n j (without_log c))
+same_iterations : (x : Execution) (n j : ℕ) (c : Content) → HasNoReds c.accesses → SameRun (iterations x n j c) (iterations x n j (without_log c))
 same_iterations x zero j c h = record { ending = refl; steps = refl; content = refl; logged = h }
 same_iterations x (suc n) j c h = then_same (iteration x j c).ending (iteration x j c) (iteration x j (without_log c)) (iterations x n (suc j)) refl (same_iteration x j c h) (same_iterations x n (suc j))
 
@@ -56,22 +56,22 @@ same_iterations x (suc n) j c h = then_same (iteration x j c).ending (iteration 
 
 -- the private memory as it is before iteration j
 record Between (m : Memory) (e j last : ℕ) (c : Content) : Type 0 where
-  pub log : Log
-  pub is : c.log ≡ Some log
-  pub no_reds : log.reds ≡ []
-  pub made : (o : Obj) → set.contains log.made o ≡ true → (fin.get m.objects o ≡ None) × (is_some (fin.get c.memory.objects o) ≡ true)
-  pub kept : (o : Obj) → set.contains log.made o ≡ false → SameBut log.touched o (fin.get m.objects o) (fin.get c.memory.objects o)
+  pub accesses : AccessRecord
+  pub is : c.accesses ≡ Some accesses
+  pub no_reds : accesses.reds ≡ []
+  pub made : (o : Obj) → set.contains accesses.made o ≡ true → (fin.get m.objects o ≡ None) × (is_some (fin.get c.memory.objects o) ≡ true)
+  pub kept : (o : Obj) → set.contains accesses.made o ≡ false → SameBut accesses.touched o (fin.get m.objects o) (fin.get c.memory.objects o)
   pub locals_length : length c.memory.locals ≡ length m.locals
-  pub locals : (k : ℕ) → set.contains log.touched (Local k) ≡ false → slice_get c.memory.locals k ≡ slice_get m.locals k
+  pub locals : (k : ℕ) → set.contains accesses.touched (Local k) ≡ false → slice_get c.memory.locals k ≡ slice_get m.locals k
   pub coming : (i k : ℕ) → j ≤ i → i < last → fin.get c.memory.objects (Iter e i k) ≡ None
 
 module _ (m : Memory) (x : Execution) (last : ℕ) where
   starts : (j : ℕ) (c : Content) → j < last → Between m x.number j last c → Stays m x.number j last (iteration_from x j c).world
   starts j c l b = record {
-    log = b.log;
+    accesses = b.accesses;
     is = b.is;
     no_reds = b.no_reds;
-    maker = refl;
+    allocator = refl;
     made = b.made;
     kept = b.kept;
     locals_length = b.locals_length;
@@ -82,7 +82,7 @@ module _ (m : Memory) (x : Execution) (last : ℕ) where
 
   ends : (j : ℕ) (c : Content) → Stays m x.number j last c → Between m x.number (suc j) last c
   ends j c s = record {
-    log = s.log;
+    accesses = s.accesses;
     is = s.is;
     no_reds = s.no_reds;
     made = s.made;
@@ -97,7 +97,7 @@ module _ (m : Memory) (x : Execution) (last : ℕ) where
   iteration_keeps j c l b =
       ends j _ ((of_iteration (λ A. Keeps (Stays m x.number j last) {A = A}) (keeps_closed (Stays m x.number j last) in_iteration (stays m x.number j last)) x j).by (iteration_from x j c) (starts j c l b))
 
-  then_keeps : (e : Ending) (r : Ran) (i : ℕ) (f : Content → Ran) → r.ending ≡ e → Between m x.number i last r.content → ((c : Content) → Between m x.number i last c → (k : ℕ) × Between m x.number k last (f c).content)
+  then_keeps : (e : Ending) (r : Finished) (i : ℕ) (f : Content → Finished) → r.ending ≡ e → Between m x.number i last r.content → ((c : Content) → Between m x.number i last c → (k : ℕ) × Between m x.number k last (f c).content)
       → (k : ℕ) × Between m x.number k last (then_runs r.ending r f).content
   then_keeps ending.Done r i f e b h = subst (λ z. (k : ℕ) × Between m x.number k last (then_runs z r f).content) (sym e) (h r.content b)
   then_keeps (ending.Trap t line) r i f e b h = subst (λ z. (k : ℕ) × Between m x.number k last (then_runs z r f).content) (sym e) (i, b)
@@ -111,7 +111,7 @@ module _ (m : Memory) (x : Execution) (last : ℕ) where
 
 at_start : (x : Execution) (m : Memory) (c : ℕ) → IsReady x [] m c → Between m x.number (chunk_start x c) (chunk_end x c) (chunk_from x [] m c)
 at_start x m c ready = record {
-  log = fresh_log [];
+  accesses = fresh_accesses [];
   is = refl;
   no_reds = refl;
   made = λ o t. absurd (true≢false (sym t ∙ contains-empty obj_cmp o));
@@ -123,16 +123,16 @@ at_start x m c ready = record {
 
 -- ---- the names with which iterations begin do not matter
 
-record SameEnd (r q : Ran) : Type 0 where
+record SameEnd (r q : Finished) : Type 0 where
   pub memory : r.content.memory ≡ q.content.memory
   pub printed : r.content.printed ≡ q.content.printed
   pub ending : r.ending ≡ q.ending
   pub steps : r.steps ≡ q.steps
 
-any_names : (x : Execution) (n j : ℕ) (c : Content) (a b : Names) → SameEnd (iterations x n j (record c { names = a })) (iterations x n j (record c { names = b }))
+any_allocations : (x : Execution) (n j : ℕ) (c : Content) (a b : Allocations) → SameEnd (iterations x n j (record c { allocations = a })) (iterations x n j (record c { allocations = b }))
 unfolding iteration
-any_names x zero j c a b = record { memory = refl; printed = refl; ending = refl; steps = refl }
-any_names x (suc n) j c a b = record { memory = refl; printed = refl; ending = refl; steps = refl }
+any_allocations x zero j c a b = record { memory = refl; printed = refl; ending = refl; steps = refl }
+any_allocations x (suc n) j c a b = record { memory = refl; printed = refl; ending = refl; steps = refl }
 
 -- ---- the law
 
@@ -141,11 +141,11 @@ unfolding outcome applied
 chunk_is_direct_run x m c ready =
     let r = chunk_runs x c (chunk_from x [] m c) in
     let same = same_iterations x (chunk_trips x c) (chunk_start x c) (chunk_from x [] m c) refl in
-    let named = any_names x (chunk_trips x c) (chunk_start x c) (without_log (chunk_from x [] m c)) (chunk_from x [] m c).names (direct x m).names in
+    let named = any_allocations x (chunk_trips x c) (chunk_start x c) (without_log (chunk_from x [] m c)) (chunk_from x [] m c).allocations (direct x m).allocations in
     let b = (iterations_keep m x (chunk_end x c) (chunk_trips x c) (chunk_start x c) (chunk_from x [] m c) (omega arith) (at_start x m c ready)).1 in
     subst (λ l. IsDirectRun m (outcome_of r l) (chunk_runs x c (direct x m))) (sym b.is)
     (record {
-      memory = whole_memory m r.content.memory b.log.touched b.log.made (λ o t. (b.made o t).1) b.kept b.locals_length b.locals ∙ ap (λ d. d.memory) same.content ∙ named.memory;
+      memory = whole_memory m r.content.memory b.accesses.touched b.accesses.made (λ o t. (b.made o t).1) b.kept b.locals_length b.locals ∙ ap (λ d. d.memory) same.content ∙ named.memory;
       printed = ap (λ d. d.printed) same.content ∙ named.printed;
       ending = same.ending ∙ named.ending;
       steps = same.steps ∙ named.steps;

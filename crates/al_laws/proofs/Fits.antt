@@ -14,8 +14,8 @@ use Rattle.al_core.specs.Memory.{Memory}
 use Rattle.al_core.specs.Loops.{Loop, loop_at}
 use Rattle.al_core.specs.Meaning.{Outside}
 use Rattle.al_core.specs.Iteration.{Execution}
-use Rattle.al_core.specs.Run.{Way, Plainly, InRounds, InChunks, Setting, Counts, Whole, by_way, execution, at_loop, if_trips, visit_loop, outside, line_of, start, whole_run, sizes_of}
-use Rattle.al_core.specs.Report.{way_of, by_choices, report}
+use Rattle.al_core.specs.Run.{Mode, Plainly, InRounds, InChunks, Setting, Counts, Whole, by_mode, execution, at_loop, if_trips, visit_loop, outside, line_of, start, whole_run, sizes_of}
+use Rattle.al_core.specs.Report.{mode_of, by_choices, report}
 use Rattle.al_core.specs.Limits.{AreInRange}
 use Rattle.al_laws.specs.Bounds.{Fit, CountsFit}
 use Rattle.al_laws.proofs.Abstraction.{of_call}
@@ -35,19 +35,19 @@ abbrev Holds : Whole → Type 0
 Holds w = Bounded w.executions w.counts
 
 -- no list of chunks is given
-abbrev NoChunks : Way → Type 0
+abbrev NoChunks : Mode → Type 0
 NoChunks Plainly = Unit {0}
 NoChunks (InRounds choice) = Unit {0}
 NoChunks (InChunks cs) = ⊥
 
-no_chunks : (o : Option (Option Choice)) → NoChunks (way_of o)
+no_chunks : (o : Option (Option Choice)) → NoChunks (mode_of o)
 no_chunks (Some (Some choice)) = tt
 no_chunks (Some None) = tt
 no_chunks None = tt
 
 module _ (k : Knobs) (ok : AreInRange k) where
   -- an execution of at most 16,777,216 trips
-  by_way_bounded : (x : Execution) (e : ℕ) (n : Counts) (m : Memory) (way : Way) → x.chunk ≡ k.chunk → x.iter_steps ≡ k.iter_steps → x.trips ≤ 16777216 → NoChunks way → Bounded e n → Bounded (e + 1) (by_way x k.lanes n m way).counts
+  by_way_bounded : (x : Execution) (e : ℕ) (n : Counts) (m : Memory) (way : Mode) → x.chunk ≡ k.chunk → x.iter_steps ≡ k.iter_steps → x.trips ≤ 16777216 → NoChunks way → Bounded e n → Bounded (e + 1) (by_mode x k.lanes n m way).counts
   by_way_bounded x e n m Plainly ec es t w b = record {
     loops = omega (arith, b.loops);
     rounds = omega (arith, b.rounds);
@@ -83,7 +83,7 @@ module _ (k : Knobs) (ok : AreInRange k) where
 
   module _ (typed : Typed) (input : List ℤ) (choices : List (Option Choice)) where
     abbrev setting : Setting
-    setting = record { typed = typed; input = input; sizes = sizes_of k; ways = by_choices choices }
+    setting = record { typed = typed; input = input; sizes = sizes_of k; modes = by_choices choices }
 
     trips_bounded : (l : Loop) (lo hi : ℤ) (locals : List Val) (w : Whole) (r : Result ℕ Trap) → ok_or_none r ≤ 16777216 → Holds w → Holds (if_trips setting l lo hi locals w r).1
     trips_bounded l lo hi locals w (Err t) h b = b

@@ -15,7 +15,7 @@ use Rattle.al_core.specs.declared.values.Trap.TheVariants as trap
 use Rattle.al_core.specs.declared.values.Obj.{Obj}
 use Rattle.al_core.specs.Orders.{obj_eq, addr_cmp, addr_eq}
 use Rattle.al_core.specs.Memory.{Memory, AgreeAt, word_in, value_at, put, add}
-use Rattle.al_core.specs.Access.{Log, Content, Names, with_log, with_touched, with_head, with_object, one_more, log_load, log_store, log_make, load_in, loaded, missing_or_outside, is_own, red_index, load_logged, store_logged, load_by, store_by, store_in, word_limit, name_of, load, store, make, print, in_iteration}
+use Rattle.al_core.specs.Access.{AccessRecord, Content, Allocations, with_accesses, with_touched, with_head, with_object, one_more, record_load, record_store, record_make, load_in, loaded, missing_or_outside, is_own, red_index, load_recorded, store_recorded, load_by, store_by, store_in, word_limit, name_of, load, store, make, print, in_iteration}
 use Rattle.al_laws.proofs.Orders.{obj_total, addr_total, obj_equal, obj_itself, addr_equal, addr_itself}
 use Rattle.al_laws.proofs.Words.{get_set_other}
 use Rattle.al_laws.proofs.Laid.{same_shape}
@@ -46,33 +46,33 @@ touched_before u b a f c = ap (λ z. z || set.contains u a) (sym f) ∙ sym (set
 
 module _ (m n : Memory) (same_count : length m.locals ≡ length n.locals) where
   -- what a memory still has of the one that it was copied from
-  pub record Half (from now : Memory) (log : Log) : Type 0 where
-    pub kept : (o : Obj) → set.contains log.made o ≡ false → SameBut log.touched o (map.get from.objects o) (map.get now.objects o)
+  pub record Half (from now : Memory) (accesses : AccessRecord) : Type 0 where
+    pub kept : (o : Obj) → set.contains accesses.made o ≡ false → SameBut accesses.touched o (map.get from.objects o) (map.get now.objects o)
     pub locals_length : length now.locals ≡ length from.locals
-    pub locals : (k : ℕ) → set.contains log.touched (Local k) ≡ false → slice_get now.locals k ≡ slice_get from.locals k
+    pub locals : (k : ℕ) → set.contains accesses.touched (Local k) ≡ false → slice_get now.locals k ≡ slice_get from.locals k
 
-  -- two runs so far: the same record, names and printed bytes, and the same values where something was touched or made
+  -- two runs so far: the same record, allocations and printed bytes, and the same values where something was touched or made
   pub record Near (s t : Content) : Type 0 where
-    pub log : Log
-    pub is_s : s.log ≡ Some log
-    pub is_t : t.log ≡ Some log
-    pub names : s.names ≡ t.names
+    pub accesses : AccessRecord
+    pub is_s : s.accesses ≡ Some accesses
+    pub is_t : t.accesses ≡ Some accesses
+    pub allocations : s.allocations ≡ t.allocations
     pub printed : s.printed ≡ t.printed
-    pub made : (o : Obj) → set.contains log.made o ≡ true → map.get s.memory.objects o ≡ map.get t.memory.objects o
-    pub touched : (a : Addr) → set.contains log.touched a ≡ true → value_at s.memory a ≡ value_at t.memory a
-    pub half_s : Half m s.memory log
-    pub half_t : Half n t.memory log
+    pub made : (o : Obj) → set.contains accesses.made o ≡ true → map.get s.memory.objects o ≡ map.get t.memory.objects o
+    pub touched : (a : Addr) → set.contains accesses.touched a ≡ true → value_at s.memory a ≡ value_at t.memory a
+    pub half_s : Half m s.memory accesses
+    pub half_t : Half n t.memory accesses
 
   abbrev pub AgreeOn : FinSet addr_cmp → Type 0
   AgreeOn reads = (a : Addr) → set.contains reads a ≡ true → AgreeAt m n a
 
-  abbrev pub GoodLog : Option Log → Type 0
+  abbrev pub GoodLog : Option AccessRecord → Type 0
   GoodLog None = Unit {0}
-  GoodLog (Some log) = AgreeOn log.reads
+  GoodLog (Some accesses) = AgreeOn accesses.reads
 
   -- the two memories agree at each read
   abbrev pub Good : Content → Type 0
-  Good c = GoodLog c.log
+  Good c = GoodLog c.accesses
 
   -- ---- what agreement at a head gives
 
@@ -122,87 +122,87 @@ module _ (m n : Memory) (same_count : length m.locals ≡ length n.locals) where
   word_as_found t o w (Some x) None n s = absurd s
   word_as_found t o w (Some x) (Some x') n s = s.1 w n
 
-  half_by : (from now : Memory) (log l : Log) → l.made ≡ log.made → l.touched ≡ log.touched → Half from now log → Half from now l
-  half_by from now log l em et h = record {
+  half_by : (from now : Memory) (accesses l : AccessRecord) → l.made ≡ accesses.made → l.touched ≡ accesses.touched → Half from now accesses → Half from now l
+  half_by from now accesses l em et h = record {
     kept = λ o f. subst (λ z. SameBut z o (map.get from.objects o) (map.get now.objects o)) (sym et) (h.kept o (ap (λ z. set.contains z o) (sym em) ∙ f));
     locals_length = h.locals_length;
     locals = λ k f. h.locals k (ap (λ z. set.contains z (Local k)) (sym et) ∙ f);
   }
 
   module _ (s t : Content) (h : Near s t) where
-    head_now : (o : Obj) → set.contains h.log.made o ≡ false → AgreeAt m n (Head o) → same_length (map.get s.memory.objects o) (map.get t.memory.objects o)
+    head_now : (o : Obj) → set.contains h.accesses.made o ≡ false → AgreeAt m n (Head o) → same_length (map.get s.memory.objects o) (map.get t.memory.objects o)
     head_now o f e =
-        lengths_now h.log.touched o (map.get m.objects o) (map.get n.objects o) (map.get s.memory.objects o) (map.get t.memory.objects o) (by_lengths (map.get m.objects o) (map.get n.objects o) e) (h.half_s.kept o f) (h.half_t.kept o f)
+        lengths_now h.accesses.touched o (map.get m.objects o) (map.get n.objects o) (map.get s.memory.objects o) (map.get t.memory.objects o) (by_lengths (map.get m.objects o) (map.get n.objects o) e) (h.half_s.kept o f) (h.half_t.kept o f)
 
     local_there : (k : ℕ) → is_some (slice_get s.memory.locals k) ≡ is_some (slice_get t.memory.locals k)
     local_there k = same_shape s.memory.locals t.memory.locals (h.half_s.locals_length ∙ same_count ∙ sym h.half_t.locals_length) k
 
     -- a word that was touched, or that the two memories agree at
-    word_now : (o : Obj) (w : ℕ) → set.contains h.log.made o ≡ false → (set.contains h.log.touched (Word o w) ≡ false → AgreeAt m n (Word o w)) → value_at s.memory (Word o w) ≡ value_at t.memory (Word o w)
+    word_now : (o : Obj) (w : ℕ) → set.contains h.accesses.made o ≡ false → (set.contains h.accesses.touched (Word o w) ≡ false → AgreeAt m n (Word o w)) → value_at s.memory (Word o w) ≡ value_at t.memory (Word o w)
     word_now o w f e =
-        elim (set.contains h.log.touched (Word o w)) as (λ b. set.contains h.log.touched (Word o w) ≡ b → value_at s.memory (Word o w) ≡ value_at t.memory (Word o w)) [
+        elim (set.contains h.accesses.touched (Word o w)) as (λ b. set.contains h.accesses.touched (Word o w) ≡ b → value_at s.memory (Word o w) ≡ value_at t.memory (Word o w)) [
           | true ↦ λ c. h.touched (Word o w) c
           | false ↦ λ c.
-              word_as_found h.log.touched o w (map.get m.objects o) (map.get s.memory.objects o) c (h.half_s.kept o f) ∙ e c ∙ sym (word_as_found h.log.touched o w (map.get n.objects o) (map.get t.memory.objects o) c (h.half_t.kept o f))
+              word_as_found h.accesses.touched o w (map.get m.objects o) (map.get s.memory.objects o) c (h.half_s.kept o f) ∙ e c ∙ sym (word_as_found h.accesses.touched o w (map.get n.objects o) (map.get t.memory.objects o) c (h.half_t.kept o f))
         ] refl
 
-    local_now : (k : ℕ) → (set.contains h.log.touched (Local k) ≡ false → AgreeAt m n (Local k)) → value_at s.memory (Local k) ≡ value_at t.memory (Local k)
+    local_now : (k : ℕ) → (set.contains h.accesses.touched (Local k) ≡ false → AgreeAt m n (Local k)) → value_at s.memory (Local k) ≡ value_at t.memory (Local k)
     local_now k e =
-        elim (set.contains h.log.touched (Local k)) as (λ b. set.contains h.log.touched (Local k) ≡ b → value_at s.memory (Local k) ≡ value_at t.memory (Local k)) [
+        elim (set.contains h.accesses.touched (Local k)) as (λ b. set.contains h.accesses.touched (Local k) ≡ b → value_at s.memory (Local k) ≡ value_at t.memory (Local k)) [
           | true ↦ λ c. h.touched (Local k) c
           | false ↦ λ c. h.half_s.locals k c ∙ e c ∙ sym (h.half_t.locals k c)
         ] refl
 
     -- with other reads
-    near_reads : (l : Log) → l.made ≡ h.log.made → l.touched ≡ h.log.touched → Near (with_log s l) (with_log t l)
+    near_reads : (l : AccessRecord) → l.made ≡ h.accesses.made → l.touched ≡ h.accesses.touched → Near (with_accesses s l) (with_accesses t l)
     near_reads l em et = record {
-      log = l;
+      accesses = l;
       is_s = refl;
       is_t = refl;
-      names = h.names;
+      allocations = h.allocations;
       printed = h.printed;
       made = λ o c. h.made o (ap (λ z. set.contains z o) (sym em) ∙ c);
       touched = λ a c. h.touched a (ap (λ z. set.contains z a) (sym et) ∙ c);
-      half_s = half_by m s.memory h.log l em et h.half_s;
-      half_t = half_by n t.memory h.log l em et h.half_t;
+      half_s = half_by m s.memory h.accesses l em et h.half_s;
+      half_t = half_by n t.memory h.accesses l em et h.half_t;
     }
 
   -- ---- loads
 
-  more_of_load : (log : Log) (a : Addr) (v : Option Val) (q : Addr) → set.contains (with_head log a).reads q ≡ true → set.contains (log_load log a v).reads q ≡ true
-  more_of_load log a (Some v) q e =
-      elim (set.contains (with_head log a).touched a) as (λ b. set.contains (if b then with_head log a else record (with_head log a) { reads = set.insert (with_head log a).reads a }).reads q ≡ true) [
+  more_of_load : (accesses : AccessRecord) (a : Addr) (v : Option Val) (q : Addr) → set.contains (with_head accesses a).reads q ≡ true → set.contains (record_load accesses a v).reads q ≡ true
+  more_of_load accesses a (Some v) q e =
+      elim (set.contains (with_head accesses a).touched a) as (λ b. set.contains (if b then with_head accesses a else record (with_head accesses a) { reads = set.insert (with_head accesses a).reads a }).reads q ≡ true) [
         | true ↦ e
-        | false ↦ inserted_more (with_head log a).reads a q e
+        | false ↦ inserted_more (with_head accesses a).reads a q e
       ]
-  more_of_load log a None q e = e
+  more_of_load accesses a None q e = e
 
-  more_of_head : (log : Log) (a q : Addr) → set.contains log.reads q ≡ true → set.contains (with_head log a).reads q ≡ true
-  more_of_head log (Word o w) q e = inserted_more log.reads (Head o) q e
-  more_of_head log (Head o) q e = e
-  more_of_head log (Local k) q e = e
+  more_of_head : (accesses : AccessRecord) (a q : Addr) → set.contains accesses.reads q ≡ true → set.contains (with_head accesses a).reads q ≡ true
+  more_of_head accesses (Word o w) q e = inserted_more accesses.reads (Head o) q e
+  more_of_head accesses (Head o) q e = e
+  more_of_head accesses (Local k) q e = e
 
   -- what a load finds and has not touched, it reads
-  load_reads_it : (log : Log) (a : Addr) (v : Val) → set.contains (with_head log a).touched a ≡ false → set.contains (log_load log a (Some v)).reads a ≡ true
-  load_reads_it log a v f =
-      ap (λ b. set.contains (if b then with_head log a else record (with_head log a) { reads = set.insert (with_head log a).reads a }).reads a) f ∙ inserted_here (with_head log a).reads a
+  load_reads_it : (accesses : AccessRecord) (a : Addr) (v : Val) → set.contains (with_head accesses a).touched a ≡ false → set.contains (record_load accesses a (Some v)).reads a ≡ true
+  load_reads_it accesses a v f =
+      ap (λ b. set.contains (if b then with_head accesses a else record (with_head accesses a) { reads = set.insert (with_head accesses a).reads a }).reads a) f ∙ inserted_here (with_head accesses a).reads a
 
   same_none : (y : Option Val) → false ≡ is_some y → y ≡ None
   same_none None e = refl
   same_none (Some v) e = absurd (true≢false (sym e))
 
   module _ (s t : Content) (h : Near s t) where
-    word_loaded : (o : Obj) (w : ℕ) (v : Option Val) → value_at s.memory (Word o w) ≡ v → set.contains h.log.made o ≡ false → AgreeOn (log_load h.log (Word o w) v).reads → value_at s.memory (Word o w) ≡ value_at t.memory (Word o w)
-    word_loaded o w (Some v) e f g = word_now s t h o w f (λ c. g (Word o w) (load_reads_it h.log (Word o w) v c))
+    word_loaded : (o : Obj) (w : ℕ) (v : Option Val) → value_at s.memory (Word o w) ≡ v → set.contains h.accesses.made o ≡ false → AgreeOn (record_load h.accesses (Word o w) v).reads → value_at s.memory (Word o w) ≡ value_at t.memory (Word o w)
+    word_loaded o w (Some v) e f g = word_now s t h o w f (λ c. g (Word o w) (load_reads_it h.accesses (Word o w) v c))
     word_loaded o w None e f g =
-        e ∙ sym (same_none (value_at t.memory (Word o w)) (sym (ap is_some e) ∙ word_there (map.get s.memory.objects o) (map.get t.memory.objects o) w (head_now s t h o f (g (Head o) (inserted_here h.log.reads (Head o))))))
+        e ∙ sym (same_none (value_at t.memory (Word o w)) (sym (ap is_some e) ∙ word_there (map.get s.memory.objects o) (map.get t.memory.objects o) w (head_now s t h o f (g (Head o) (inserted_here h.accesses.reads (Head o))))))
 
-    local_loaded : (k : ℕ) (v : Option Val) → value_at s.memory (Local k) ≡ v → AgreeOn (log_load h.log (Local k) v).reads → value_at s.memory (Local k) ≡ value_at t.memory (Local k)
-    local_loaded k (Some v) e g = local_now s t h k (λ c. g (Local k) (load_reads_it h.log (Local k) v c))
+    local_loaded : (k : ℕ) (v : Option Val) → value_at s.memory (Local k) ≡ v → AgreeOn (record_load h.accesses (Local k) v).reads → value_at s.memory (Local k) ≡ value_at t.memory (Local k)
+    local_loaded k (Some v) e g = local_now s t h k (λ c. g (Local k) (load_reads_it h.accesses (Local k) v c))
     local_loaded k None e g = e ∙ sym (same_none (value_at t.memory (Local k)) (sym (ap is_some e) ∙ local_there s t h k))
 
-    head_of_load : (o : Obj) (w : ℕ) (v : Option Val) → AgreeOn (log_load h.log (Word o w) v).reads → AgreeAt m n (Head o)
-    head_of_load o w v g = g (Head o) (more_of_load h.log (Word o w) v (Head o) (inserted_here h.log.reads (Head o)))
+    head_of_load : (o : Obj) (w : ℕ) (v : Option Val) → AgreeOn (record_load h.accesses (Word o w) v).reads → AgreeAt m n (Head o)
+    head_of_load o w v g = g (Head o) (more_of_load h.accesses (Word o w) v (Head o) (inserted_here h.accesses.reads (Head o)))
 
     same_load : (a : Addr) (k : Kind) → value_at s.memory a ≡ value_at t.memory a → missing_or_outside s.memory a ≡ missing_or_outside t.memory a → load_in s.memory a k ≡ load_in t.memory a k
     same_load a k e f =
@@ -212,60 +212,60 @@ module _ (m n : Memory) (same_count : length m.locals ≡ length n.locals) where
     Same p q = (p.0 ≡ q.0) × Near p.1 q.1
 
     -- a word of an object that the chunk made
-    own_word : (o : Obj) (w : ℕ) → set.contains h.log.made o ≡ true → value_at s.memory (Word o w) ≡ value_at t.memory (Word o w)
+    own_word : (o : Obj) (w : ℕ) → set.contains h.accesses.made o ≡ true → value_at s.memory (Word o w) ≡ value_at t.memory (Word o w)
     own_word o w c = ap (λ x. word_in x w) (h.made o c)
 
-    own_missing : (o : Obj) (w : ℕ) → set.contains h.log.made o ≡ true → missing_or_outside s.memory (Word o w) ≡ missing_or_outside t.memory (Word o w)
+    own_missing : (o : Obj) (w : ℕ) → set.contains h.accesses.made o ≡ true → missing_or_outside s.memory (Word o w) ≡ missing_or_outside t.memory (Word o w)
     own_missing o w c = ap (λ x. if is_some x then trap.Bounds else trap.Missing) (h.made o c)
 
-    other_missing : (o : Obj) (w : ℕ) → set.contains h.log.made o ≡ false → AgreeAt m n (Head o) → missing_or_outside s.memory (Word o w) ≡ missing_or_outside t.memory (Word o w)
+    other_missing : (o : Obj) (w : ℕ) → set.contains h.accesses.made o ≡ false → AgreeAt m n (Head o) → missing_or_outside s.memory (Word o w) ≡ missing_or_outside t.memory (Word o w)
     other_missing o w f e = ap (λ b. if b then trap.Bounds else trap.Missing) (there (map.get s.memory.objects o) (map.get t.memory.objects o) (head_now s t h o f e))
 
     -- the read is recorded alike
-    read_near : (a : Addr) (v : Option Val) → Near (with_log s (log_load h.log a v)) (with_log t (log_load h.log a v))
-    read_near a v = let r = load_reads h.log a v in near_reads s t h (log_load h.log a v) (ap (λ l. l.made) r.1) (ap (λ l. l.touched) r.1)
+    read_near : (a : Addr) (v : Option Val) → Near (with_accesses s (record_load h.accesses a v)) (with_accesses t (record_load h.accesses a v))
+    read_near a v = let r = load_reads h.accesses a v in near_reads s t h (record_load h.accesses a v) (ap (λ l. l.made) r.1) (ap (λ l. l.touched) r.1)
 
     loaded_alike : (a : Addr) (k : Kind) → value_at s.memory a ≡ value_at t.memory a → missing_or_outside s.memory a ≡ missing_or_outside t.memory a
-        → Same (load_in s.memory a k, with_log s (log_load h.log a (value_at s.memory a))) (load_in t.memory a k, with_log t (log_load h.log a (value_at t.memory a)))
+        → Same (load_in s.memory a k, with_accesses s (record_load h.accesses a (value_at s.memory a))) (load_in t.memory a k, with_accesses t (record_load h.accesses a (value_at t.memory a)))
     loaded_alike a k e f =
-        (same_load a k e f, subst (λ v. Near (with_log s (log_load h.log a (value_at s.memory a))) (with_log t (log_load h.log a v))) e (read_near a (value_at s.memory a)))
+        (same_load a k e f, subst (λ v. Near (with_accesses s (record_load h.accesses a (value_at s.memory a))) (with_accesses t (record_load h.accesses a v))) e (read_near a (value_at s.memory a)))
 
-    load_word : (o : Obj) (w : ℕ) (k : Kind) (b : Bool) → set.contains h.log.made o ≡ b → Good (if b then s else with_log s (log_load h.log (Word o w) (value_at s.memory (Word o w))))
-        → Same (load_in s.memory (Word o w) k, if b then s else with_log s (log_load h.log (Word o w) (value_at s.memory (Word o w)))) (load_in t.memory (Word o w) k, if b then t else with_log t (log_load h.log (Word o w) (value_at t.memory (Word o w))))
+    load_word : (o : Obj) (w : ℕ) (k : Kind) (b : Bool) → set.contains h.accesses.made o ≡ b → Good (if b then s else with_accesses s (record_load h.accesses (Word o w) (value_at s.memory (Word o w))))
+        → Same (load_in s.memory (Word o w) k, if b then s else with_accesses s (record_load h.accesses (Word o w) (value_at s.memory (Word o w)))) (load_in t.memory (Word o w) k, if b then t else with_accesses t (record_load h.accesses (Word o w) (value_at t.memory (Word o w))))
     load_word o w k true c g = (same_load (Word o w) k (own_word o w c) (own_missing o w c), h)
     load_word o w k false c g =
         loaded_alike (Word o w) k (word_loaded o w (value_at s.memory (Word o w)) refl c g) (other_missing o w c (head_of_load o w (value_at s.memory (Word o w)) g))
 
-    load_alike : (a : Addr) (k : Kind) → Good (load_logged s h.log a k None).1 → Same (load_logged s h.log a k None) (load_logged t h.log a k None)
-    load_alike (Word o w) k g = load_word o w k (set.contains h.log.made o) refl g
+    load_alike : (a : Addr) (k : Kind) → Good (load_recorded s h.accesses a k None).1 → Same (load_recorded s h.accesses a k None) (load_recorded t h.accesses a k None)
+    load_alike (Word o w) k g = load_word o w k (set.contains h.accesses.made o) refl g
     load_alike (Head o) k g = loaded_alike (Head o) k refl refl
     load_alike (Local i) k g = loaded_alike (Local i) k (local_loaded i (value_at s.memory (Local i)) refl g) refl
 
-    load_by_index : (a : Addr) (k : Kind) (i : Option ℕ) → Good (load_logged s h.log a k i).1 → Same (load_logged s h.log a k i) (load_logged t h.log a k i)
+    load_by_index : (a : Addr) (k : Kind) (i : Option ℕ) → Good (load_recorded s h.accesses a k i).1 → Same (load_recorded s h.accesses a k i) (load_recorded t h.accesses a k i)
     load_by_index a k (Some i) g = (refl, h)
     load_by_index a k None g = load_alike a k g
 
-    load_same : (a : Addr) (k : Kind) → Good (load_by s.log s a k).1 → Same (load_by s.log s a k) (load_by t.log t a k)
+    load_same : (a : Addr) (k : Kind) → Good (load_by s.accesses s a k).1 → Same (load_by s.accesses s a k) (load_by t.accesses t a k)
     load_same a k =
-        subst (λ l. Good (load_by l s a k).1 → Same (load_by l s a k) (load_by t.log t a k)) (sym h.is_s)
-        (subst (λ l. Good (load_by (Some h.log) s a k).1 → Same (load_by (Some h.log) s a k) (load_by l t a k)) (sym h.is_t) (load_by_index a k (red_index h.log.reds a)))
+        subst (λ l. Good (load_by l s a k).1 → Same (load_by l s a k) (load_by t.accesses t a k)) (sym h.is_s)
+        (subst (λ l. Good (load_by (Some h.accesses) s a k).1 → Same (load_by (Some h.accesses) s a k) (load_by l t a k)) (sym h.is_t) (load_by_index a k (red_index h.accesses.reds a)))
 
   -- what was read before is still read
-  load_back_own : (s : Content) (log : Log) (a : Addr) (b : Bool) → s.log ≡ Some log → Good (if b then s else with_log s (log_load log a (value_at s.memory a))) → Good s
-  load_back_own s log a true e g = g
-  load_back_own s log a false e g = subst GoodLog (sym e) (λ q c. g q (more_of_load log a (value_at s.memory a) q (more_of_head log a q c)))
+  load_back_own : (s : Content) (accesses : AccessRecord) (a : Addr) (b : Bool) → s.accesses ≡ Some accesses → Good (if b then s else with_accesses s (record_load accesses a (value_at s.memory a))) → Good s
+  load_back_own s accesses a true e g = g
+  load_back_own s accesses a false e g = subst GoodLog (sym e) (λ q c. g q (more_of_load accesses a (value_at s.memory a) q (more_of_head accesses a q c)))
 
-  load_back_index : (s : Content) (log : Log) (a : Addr) (k : Kind) (i : Option ℕ) → s.log ≡ Some log → Good (load_logged s log a k i).1 → Good s
-  load_back_index s log a k (Some i) e g = g
-  load_back_index s log a k None e g = load_back_own s log a (is_own log a) e g
+  load_back_index : (s : Content) (accesses : AccessRecord) (a : Addr) (k : Kind) (i : Option ℕ) → s.accesses ≡ Some accesses → Good (load_recorded s accesses a k i).1 → Good s
+  load_back_index s accesses a k (Some i) e g = g
+  load_back_index s accesses a k None e g = load_back_own s accesses a (is_own accesses a) e g
 
-  load_back : (s : Content) (a : Addr) (k : Kind) (l : Option Log) → s.log ≡ l → Good (load_by l s a k).1 → Good s
+  load_back : (s : Content) (a : Addr) (k : Kind) (l : Option AccessRecord) → s.accesses ≡ l → Good (load_by l s a k).1 → Good s
   load_back s a k None e g = g
-  load_back s a k (Some log) e g = load_back_index s log a k (red_index log.reds a) e g
+  load_back s a k (Some accesses) e g = load_back_index s accesses a k (red_index accesses.reds a) e g
 
   load_matches : (a : Addr) (k : Kind) → Matches Near Good (load a k) (load a k)
   unfolding load
-  load_matches a k = record { by = λ s t h g. load_same s t h a k g; back = λ s g. load_back s a k s.log refl g }
+  load_matches a k = record { by = λ s t h g. load_same s t h a k g; back = λ s g. load_back s a k s.accesses refl g }
 
   -- ---- stores
 
@@ -273,24 +273,24 @@ module _ (m n : Memory) (same_count : length m.locals ≡ length n.locals) where
   Weak u t = (a : Addr) → set.contains t a ≡ false → set.contains u a ≡ false
 
   -- one copy, after a word was put
-  half_word : (from now : Memory) (log : Log) (o : Obj) (w : ℕ) (v : Val) (l : Log) → l.made ≡ log.made → Weak log.touched l.touched → (set.contains log.made o ≡ false → set.contains l.touched (Word o w) ≡ true) → Half from now log → Half from (put now (Word o w) v) l
-  half_word from now log o w v l em weak written h = record {
+  half_word : (from now : Memory) (accesses : AccessRecord) (o : Obj) (w : ℕ) (v : Val) (l : AccessRecord) → l.made ≡ accesses.made → Weak accesses.touched l.touched → (set.contains accesses.made o ≡ false → set.contains l.touched (Word o w) ≡ true) → Half from now accesses → Half from (put now (Word o w) v) l
+  half_word from now accesses o w v l em weak written h = record {
     kept = λ q f.
         let f' = ap (λ z. set.contains z q) (sym em) ∙ f in
         subst (λ x. SameBut l.touched q (map.get from.objects q) x) (sym (get_put now o w v q))
         (elim (obj_eq q o) as (λ b. obj_eq q o ≡ b → SameBut l.touched q (map.get from.objects q) (if b then option_map (λ l. slice_set l w v) (map.get now.objects q) else map.get now.objects q)) [
           | true ↦ λ e.
               let same = obj_equal q o e in
-              word_put log.touched l.touched q w v (map.get from.objects q) (map.get now.objects q) weak (ap (λ p. set.contains l.touched (Word p w)) same ∙ written (ap (set.contains log.made) (sym same) ∙ f')) (h.kept q f')
-          | false ↦ λ e. weaker log.touched l.touched q (map.get from.objects q) (map.get now.objects q) weak (h.kept q f')
+              word_put accesses.touched l.touched q w v (map.get from.objects q) (map.get now.objects q) weak (ap (λ p. set.contains l.touched (Word p w)) same ∙ written (ap (set.contains accesses.made) (sym same) ∙ f')) (h.kept q f')
+          | false ↦ λ e. weaker accesses.touched l.touched q (map.get from.objects q) (map.get now.objects q) weak (h.kept q f')
         ] refl);
     locals_length = h.locals_length;
     locals = λ k f. h.locals k (weak (Local k) f);
   }
 
-  half_local : (from now : Memory) (log : Log) (k : ℕ) (v : Val) (l : Log) → l.made ≡ log.made → Weak log.touched l.touched → set.contains l.touched (Local k) ≡ true → Half from now log → Half from (put now (Local k) v) l
-  half_local from now log k v l em weak written h = record {
-    kept = λ q f. weaker log.touched l.touched q (map.get from.objects q) (map.get now.objects q) weak (h.kept q (ap (λ z. set.contains z q) (sym em) ∙ f));
+  half_local : (from now : Memory) (accesses : AccessRecord) (k : ℕ) (v : Val) (l : AccessRecord) → l.made ≡ accesses.made → Weak accesses.touched l.touched → set.contains l.touched (Local k) ≡ true → Half from now accesses → Half from (put now (Local k) v) l
+  half_local from now accesses k v l em weak written h = record {
+    kept = λ q f. weaker accesses.touched l.touched q (map.get from.objects q) (map.get now.objects q) weak (h.kept q (ap (λ z. set.contains z q) (sym em) ∙ f));
     locals_length = length-set now.locals k v ∙ h.locals_length;
     locals = λ i f. get_set_other now.locals i k v (λ e. true≢false (sym written ∙ ap (λ i. set.contains l.touched (Local i)) (sym e) ∙ f)) ∙ h.locals i (weak (Local i) f);
   }
@@ -311,14 +311,14 @@ module _ (m n : Memory) (same_count : length m.locals ≡ length n.locals) where
       ∙ sym (ap (λ x. word_in x w) (get_put t o w v o ∙ ap (λ b. if b then option_map (λ l. slice_set l w v) (map.get t.objects o) else map.get t.objects o) (obj_itself o)))
 
   module _ (s t : Content) (h : Near s t) where
-    word_put_near : (o : Obj) (w : ℕ) (v : Val) (l : Log) (ls lt : Option Log) → ls ≡ Some l → lt ≡ Some l → l.made ≡ h.log.made → Weak h.log.touched l.touched → (set.contains h.log.made o ≡ false → set.contains l.touched (Word o w) ≡ true)
-        → ((a : Addr) → addr_eq a (Word o w) ≡ false → set.contains l.touched a ≡ true → set.contains h.log.touched a ≡ true) → is_some (value_at s.memory (Word o w)) ≡ true → is_some (value_at t.memory (Word o w)) ≡ true
-        → Near (record { memory = put s.memory (Word o w) v; names = s.names; printed = s.printed; log = ls }) (record { memory = put t.memory (Word o w) v; names = t.names; printed = t.printed; log = lt })
+    word_put_near : (o : Obj) (w : ℕ) (v : Val) (l : AccessRecord) (ls lt : Option AccessRecord) → ls ≡ Some l → lt ≡ Some l → l.made ≡ h.accesses.made → Weak h.accesses.touched l.touched → (set.contains h.accesses.made o ≡ false → set.contains l.touched (Word o w) ≡ true)
+        → ((a : Addr) → addr_eq a (Word o w) ≡ false → set.contains l.touched a ≡ true → set.contains h.accesses.touched a ≡ true) → is_some (value_at s.memory (Word o w)) ≡ true → is_some (value_at t.memory (Word o w)) ≡ true
+        → Near (record { memory = put s.memory (Word o w) v; allocations = s.allocations; printed = s.printed; accesses = ls }) (record { memory = put t.memory (Word o w) v; allocations = t.allocations; printed = t.printed; accesses = lt })
     word_put_near o w v l ls lt is it em weak written before ps pt = record {
-      log = l;
+      accesses = l;
       is_s = is;
       is_t = it;
-      names = h.names;
+      allocations = h.allocations;
       printed = h.printed;
       made = λ q c. put_object_alike s.memory t.memory o w v q (h.made q (ap (λ z. set.contains z q) (sym em) ∙ c));
       touched = λ a c.
@@ -327,59 +327,59 @@ module _ (m n : Memory) (same_count : length m.locals ≡ length n.locals) where
                 subst (λ a. value_at (put s.memory (Word o w) v) a ≡ value_at (put t.memory (Word o w) v) a) (sym (addr_equal a (Word o w) e)) (put_word_alike s.memory t.memory o w v ps pt)
             | false ↦ λ e. put_other s.memory o w v a e ∙ h.touched a (before a e c) ∙ sym (put_other t.memory o w v a e)
           ] refl;
-      half_s = half_word m s.memory h.log o w v l em weak written h.half_s;
-      half_t = half_word n t.memory h.log o w v l em weak written h.half_t;
+      half_s = half_word m s.memory h.accesses o w v l em weak written h.half_s;
+      half_t = half_word n t.memory h.accesses o w v l em weak written h.half_t;
     }
 
     local_put_near : (k : ℕ) (v : Val) → is_some (slice_get s.memory.locals k) ≡ true → is_some (slice_get t.memory.locals k) ≡ true
-        → Near (record { memory = put s.memory (Local k) v; names = s.names; printed = s.printed; log = Some (with_touched h.log (Local k)) }) (record { memory = put t.memory (Local k) v; names = t.names; printed = t.printed; log = Some (with_touched h.log (Local k)) })
+        → Near (record { memory = put s.memory (Local k) v; allocations = s.allocations; printed = s.printed; accesses = Some (with_touched h.accesses (Local k)) }) (record { memory = put t.memory (Local k) v; allocations = t.allocations; printed = t.printed; accesses = Some (with_touched h.accesses (Local k)) })
     local_put_near k v ps pt = record {
-      log = with_touched h.log (Local k);
+      accesses = with_touched h.accesses (Local k);
       is_s = refl;
       is_t = refl;
-      names = h.names;
+      allocations = h.allocations;
       printed = h.printed;
       made = h.made;
       touched = λ a c.
           elim (addr_eq a (Local k)) as (λ b. addr_eq a (Local k) ≡ b → value_at (put s.memory (Local k) v) a ≡ value_at (put t.memory (Local k) v) a) [
             | true ↦ λ e. subst (λ a. value_at (put s.memory (Local k) v) a ≡ value_at (put t.memory (Local k) v) a) (sym (addr_equal a (Local k) e)) (set_both s.memory.locals t.memory.locals k v ps pt)
-            | false ↦ λ e. local_other s.memory k v a e ∙ h.touched a (touched_before h.log.touched (Local k) a e c) ∙ sym (local_other t.memory k v a e)
+            | false ↦ λ e. local_other s.memory k v a e ∙ h.touched a (touched_before h.accesses.touched (Local k) a e c) ∙ sym (local_other t.memory k v a e)
           ] refl;
-      half_s = half_local m s.memory h.log k v (with_touched h.log (Local k)) refl (inserted_weaker h.log.touched (Local k)) (inserted_here h.log.touched (Local k)) h.half_s;
-      half_t = half_local n t.memory h.log k v (with_touched h.log (Local k)) refl (inserted_weaker h.log.touched (Local k)) (inserted_here h.log.touched (Local k)) h.half_t;
+      half_s = half_local m s.memory h.accesses k v (with_touched h.accesses (Local k)) refl (inserted_weaker h.accesses.touched (Local k)) (inserted_here h.accesses.touched (Local k)) h.half_s;
+      half_t = half_local n t.memory h.accesses k v (with_touched h.accesses (Local k)) refl (inserted_weaker h.accesses.touched (Local k)) (inserted_here h.accesses.touched (Local k)) h.half_t;
     }
 
-    store_word : (o : Obj) (w : ℕ) (x : Val) (b : Bool) (vs vt : Option Val) → set.contains h.log.made o ≡ b → value_at s.memory (Word o w) ≡ vs → value_at t.memory (Word o w) ≡ vt → is_some vs ≡ is_some vt → (b ≡ false → AgreeAt m n (Head o))
-        → Same s t h (store_in (if b then s else with_log s (log_store h.log (Word o w) vs)) (Word o w) x vs) (store_in (if b then t else with_log t (log_store h.log (Word o w) vt)) (Word o w) x vt)
+    store_word : (o : Obj) (w : ℕ) (x : Val) (b : Bool) (vs vt : Option Val) → set.contains h.accesses.made o ≡ b → value_at s.memory (Word o w) ≡ vs → value_at t.memory (Word o w) ≡ vt → is_some vs ≡ is_some vt → (b ≡ false → AgreeAt m n (Head o))
+        → Same s t h (store_in (if b then s else with_accesses s (record_store h.accesses (Word o w) vs)) (Word o w) x vs) (store_in (if b then t else with_accesses t (record_store h.accesses (Word o w) vt)) (Word o w) x vt)
     store_word o w x true (Some y) (Some z) c es et p head =
-        (refl, word_put_near o w x h.log s.log t.log h.is_s h.is_t refl (λ a f. f) (λ f. absurd (true≢false (sym c ∙ f))) (λ a e f. f) (ap is_some es) (ap is_some et))
+        (refl, word_put_near o w x h.accesses s.accesses t.accesses h.is_s h.is_t refl (λ a f. f) (λ f. absurd (true≢false (sym c ∙ f))) (λ a e f. f) (ap is_some es) (ap is_some et))
     store_word o w x true None None c es et p head = (ap (λ z. Err z) (own_missing s t h o w c), h)
     store_word o w x false (Some y) (Some z) c es et p head =
-        (refl, word_put_near o w x (log_store h.log (Word o w) (Some y)) (Some (log_store h.log (Word o w) (Some y))) (Some (log_store h.log (Word o w) (Some y))) refl refl refl (inserted_weaker h.log.touched (Word o w)) (λ f. inserted_here h.log.touched (Word o w)) (touched_before h.log.touched (Word o w)) (ap is_some es) (ap is_some et))
+        (refl, word_put_near o w x (record_store h.accesses (Word o w) (Some y)) (Some (record_store h.accesses (Word o w) (Some y))) (Some (record_store h.accesses (Word o w) (Some y))) refl refl refl (inserted_weaker h.accesses.touched (Word o w)) (λ f. inserted_here h.accesses.touched (Word o w)) (touched_before h.accesses.touched (Word o w)) (ap is_some es) (ap is_some et))
     store_word o w x false None None c es et p head =
-        (ap (λ z. Err z) (other_missing s t h o w c (head refl)), near_reads s t h (with_head h.log (Word o w)) refl refl)
+        (ap (λ z. Err z) (other_missing s t h o w c (head refl)), near_reads s t h (with_head h.accesses (Word o w)) refl refl)
     store_word o w x b (Some y) None c es et p head = absurd (true≢false p)
     store_word o w x b None (Some z) c es et p head = absurd (true≢false (sym p))
 
     store_local : (k : ℕ) (x : Val) (vs vt : Option Val) → value_at s.memory (Local k) ≡ vs → value_at t.memory (Local k) ≡ vt → is_some vs ≡ is_some vt
-        → Same s t h (store_in (with_log s (log_store h.log (Local k) vs)) (Local k) x vs) (store_in (with_log t (log_store h.log (Local k) vt)) (Local k) x vt)
+        → Same s t h (store_in (with_accesses s (record_store h.accesses (Local k) vs)) (Local k) x vs) (store_in (with_accesses t (record_store h.accesses (Local k) vt)) (Local k) x vt)
     store_local k x (Some y) (Some z) es et p = (refl, local_put_near k x (ap is_some es) (ap is_some et))
-    store_local k x None None es et p = (refl, near_reads s t h h.log refl refl)
+    store_local k x None None es et p = (refl, near_reads s t h h.accesses refl refl)
     store_local k x (Some y) None es et p = absurd (true≢false p)
     store_local k x None (Some z) es et p = absurd (true≢false (sym p))
 
     -- a store reads the head
-    store_head : (o : Obj) (w : ℕ) (x : Val) (vs : Option Val) → Good (store_in (with_log s (log_store h.log (Word o w) vs)) (Word o w) x vs).1 → AgreeAt m n (Head o)
-    store_head o w x (Some y) g = g (Head o) (inserted_here h.log.reads (Head o))
-    store_head o w x None g = g (Head o) (inserted_here h.log.reads (Head o))
+    store_head : (o : Obj) (w : ℕ) (x : Val) (vs : Option Val) → Good (store_in (with_accesses s (record_store h.accesses (Word o w) vs)) (Word o w) x vs).1 → AgreeAt m n (Head o)
+    store_head o w x (Some y) g = g (Head o) (inserted_here h.accesses.reads (Head o))
+    store_head o w x None g = g (Head o) (inserted_here h.accesses.reads (Head o))
 
-    word_presence : (o : Obj) (w : ℕ) (b : Bool) → set.contains h.log.made o ≡ b → (b ≡ false → AgreeAt m n (Head o)) → is_some (value_at s.memory (Word o w)) ≡ is_some (value_at t.memory (Word o w))
+    word_presence : (o : Obj) (w : ℕ) (b : Bool) → set.contains h.accesses.made o ≡ b → (b ≡ false → AgreeAt m n (Head o)) → is_some (value_at s.memory (Word o w)) ≡ is_some (value_at t.memory (Word o w))
     word_presence o w true c head = ap is_some (own_word s t h o w c)
     word_presence o w false c head = word_there (map.get s.memory.objects o) (map.get t.memory.objects o) w (head_now s t h o c (head refl))
 
-    store_word_alike : (o : Obj) (w : ℕ) (x : Val) (b : Bool) → set.contains h.log.made o ≡ b
-        → Good (store_in (if b then s else with_log s (log_store h.log (Word o w) (value_at s.memory (Word o w)))) (Word o w) x (value_at s.memory (Word o w))).1
-        → Same s t h (store_in (if b then s else with_log s (log_store h.log (Word o w) (value_at s.memory (Word o w)))) (Word o w) x (value_at s.memory (Word o w))) (store_in (if b then t else with_log t (log_store h.log (Word o w) (value_at t.memory (Word o w)))) (Word o w) x (value_at t.memory (Word o w)))
+    store_word_alike : (o : Obj) (w : ℕ) (x : Val) (b : Bool) → set.contains h.accesses.made o ≡ b
+        → Good (store_in (if b then s else with_accesses s (record_store h.accesses (Word o w) (value_at s.memory (Word o w)))) (Word o w) x (value_at s.memory (Word o w))).1
+        → Same s t h (store_in (if b then s else with_accesses s (record_store h.accesses (Word o w) (value_at s.memory (Word o w)))) (Word o w) x (value_at s.memory (Word o w))) (store_in (if b then t else with_accesses t (record_store h.accesses (Word o w) (value_at t.memory (Word o w)))) (Word o w) x (value_at t.memory (Word o w)))
     store_word_alike o w x true c g =
         let head : true ≡ false → AgreeAt m n (Head o) = λ e. absurd (true≢false e) in
         store_word o w x true (value_at s.memory (Word o w)) (value_at t.memory (Word o w)) c refl refl (word_presence o w true c head) head
@@ -387,44 +387,44 @@ module _ (m n : Memory) (same_count : length m.locals ≡ length n.locals) where
         let head : false ≡ false → AgreeAt m n (Head o) = λ e. store_head o w x (value_at s.memory (Word o w)) g in
         store_word o w x false (value_at s.memory (Word o w)) (value_at t.memory (Word o w)) c refl refl (word_presence o w false c head) head
 
-    store_alike : (a : Addr) (x : Val) → Good (store_logged s h.log a x None).1 → Same s t h (store_logged s h.log a x None) (store_logged t h.log a x None)
-    store_alike (Word o w) x g = store_word_alike o w x (set.contains h.log.made o) refl g
-    store_alike (Head o) x g = (refl, near_reads s t h h.log refl refl)
+    store_alike : (a : Addr) (x : Val) → Good (store_recorded s h.accesses a x None).1 → Same s t h (store_recorded s h.accesses a x None) (store_recorded t h.accesses a x None)
+    store_alike (Word o w) x g = store_word_alike o w x (set.contains h.accesses.made o) refl g
+    store_alike (Head o) x g = (refl, near_reads s t h h.accesses refl refl)
     store_alike (Local k) x g = store_local k x (value_at s.memory (Local k)) (value_at t.memory (Local k)) refl refl (local_there s t h k)
 
-    store_by_index : (a : Addr) (x : Val) (i : Option ℕ) → Good (store_logged s h.log a x i).1 → Same s t h (store_logged s h.log a x i) (store_logged t h.log a x i)
-    store_by_index a x (Some i) g = (refl, near_reads s t h (record h.log { accumulators = slice_set h.log.accumulators i x }) refl refl)
+    store_by_index : (a : Addr) (x : Val) (i : Option ℕ) → Good (store_recorded s h.accesses a x i).1 → Same s t h (store_recorded s h.accesses a x i) (store_recorded t h.accesses a x i)
+    store_by_index a x (Some i) g = (refl, near_reads s t h (record h.accesses { accumulators = slice_set h.accesses.accumulators i x }) refl refl)
     store_by_index a x None g = store_alike a x g
 
-    store_same : (a : Addr) (x : Val) → Good (store_by s.log s a x).1 → Same s t h (store_by s.log s a x) (store_by t.log t a x)
+    store_same : (a : Addr) (x : Val) → Good (store_by s.accesses s a x).1 → Same s t h (store_by s.accesses s a x) (store_by t.accesses t a x)
     store_same a x =
-        subst (λ l. Good (store_by l s a x).1 → Same s t h (store_by l s a x) (store_by t.log t a x)) (sym h.is_s)
-        (subst (λ l. Good (store_by (Some h.log) s a x).1 → Same s t h (store_by (Some h.log) s a x) (store_by l t a x)) (sym h.is_t) (store_by_index a x (red_index h.log.reds a)))
+        subst (λ l. Good (store_by l s a x).1 → Same s t h (store_by l s a x) (store_by t.accesses t a x)) (sym h.is_s)
+        (subst (λ l. Good (store_by (Some h.accesses) s a x).1 → Same s t h (store_by (Some h.accesses) s a x) (store_by l t a x)) (sym h.is_t) (store_by_index a x (red_index h.accesses.reds a)))
 
-  more_of_store : (log : Log) (a : Addr) (v : Option Val) (q : Addr) → set.contains log.reads q ≡ true → set.contains (log_store log a v).reads q ≡ true
-  more_of_store log a (Some v) q e = more_of_head log a q e
-  more_of_store log a None q e = more_of_head log a q e
+  more_of_store : (accesses : AccessRecord) (a : Addr) (v : Option Val) (q : Addr) → set.contains accesses.reads q ≡ true → set.contains (record_store accesses a v).reads q ≡ true
+  more_of_store accesses a (Some v) q e = more_of_head accesses a q e
+  more_of_store accesses a None q e = more_of_head accesses a q e
 
-  kept_log : (d : Content) (a : Addr) (x : Val) (v : Option Val) → (store_in d a x v).1.log ≡ d.log
+  kept_log : (d : Content) (a : Addr) (x : Val) (v : Option Val) → (store_in d a x v).1.accesses ≡ d.accesses
   kept_log d a x (Some v) = refl
   kept_log d a x None = refl
 
-  store_back_own : (s : Content) (log : Log) (a : Addr) (b : Bool) → s.log ≡ Some log → Good (if b then s else with_log s (log_store log a (value_at s.memory a))) → Good s
-  store_back_own s log a true e g = g
-  store_back_own s log a false e g = subst GoodLog (sym e) (λ q c. g q (more_of_store log a (value_at s.memory a) q c))
+  store_back_own : (s : Content) (accesses : AccessRecord) (a : Addr) (b : Bool) → s.accesses ≡ Some accesses → Good (if b then s else with_accesses s (record_store accesses a (value_at s.memory a))) → Good s
+  store_back_own s accesses a true e g = g
+  store_back_own s accesses a false e g = subst GoodLog (sym e) (λ q c. g q (more_of_store accesses a (value_at s.memory a) q c))
 
-  store_back_index : (s : Content) (log : Log) (a : Addr) (x : Val) (i : Option ℕ) → s.log ≡ Some log → Good (store_logged s log a x i).1 → Good s
-  store_back_index s log a x (Some i) e g = subst GoodLog (sym e) g
-  store_back_index s log a x None e g =
-      store_back_own s log a (is_own log a) e (subst GoodLog (kept_log (if is_own log a then s else with_log s (log_store log a (value_at s.memory a))) a x (value_at s.memory a)) g)
+  store_back_index : (s : Content) (accesses : AccessRecord) (a : Addr) (x : Val) (i : Option ℕ) → s.accesses ≡ Some accesses → Good (store_recorded s accesses a x i).1 → Good s
+  store_back_index s accesses a x (Some i) e g = subst GoodLog (sym e) g
+  store_back_index s accesses a x None e g =
+      store_back_own s accesses a (is_own accesses a) e (subst GoodLog (kept_log (if is_own accesses a then s else with_accesses s (record_store accesses a (value_at s.memory a))) a x (value_at s.memory a)) g)
 
-  store_back : (s : Content) (a : Addr) (x : Val) (l : Option Log) → s.log ≡ l → Good (store_by l s a x).1 → Good s
+  store_back : (s : Content) (a : Addr) (x : Val) (l : Option AccessRecord) → s.accesses ≡ l → Good (store_by l s a x).1 → Good s
   store_back s a x None e g = subst GoodLog (kept_log s a x (value_at s.memory a)) g
-  store_back s a x (Some log) e g = store_back_index s log a x (red_index log.reds a) e g
+  store_back s a x (Some accesses) e g = store_back_index s accesses a x (red_index accesses.reds a) e g
 
   store_matches : (a : Addr) (x : Val) → Matches Near Good (store a x) (store a x)
   unfolding store
-  store_matches a x = record { by = λ s t h g. store_same s t h a x g; back = λ s g. store_back s a x s.log refl g }
+  store_matches a x = record { by = λ s t h g. store_same s t h a x g; back = λ s g. store_back s a x s.accesses refl g }
 
   -- ---- allocations and printing
 
@@ -445,17 +445,17 @@ module _ (m n : Memory) (same_count : length m.locals ≡ length n.locals) where
   value_inserted s t o ws (Head q) e = refl
   value_inserted s t o ws (Local k) e = e
 
-  abbrev with_made : Log → Obj → Log
-  with_made log o = with_touched (record log { made = set.insert log.made o }) (Head o)
+  abbrev with_made : AccessRecord → Obj → AccessRecord
+  with_made accesses o = with_touched (record accesses { made = set.insert accesses.made o }) (Head o)
 
-  half_made : (from now : Memory) (log : Log) (o : Obj) (ws : List Val) → Half from now log → Half from (add now o ws) (with_made log o)
-  half_made from now log o ws h = record {
+  half_made : (from now : Memory) (accesses : AccessRecord) (o : Obj) (ws : List Val) → Half from now accesses → Half from (add now o ws) (with_made accesses o)
+  half_made from now accesses o ws h = record {
     kept = λ q f.
-        let both = sym (set.contains-insert obj_total log.made o q) ∙ f in
-        subst (λ x. SameBut (set.insert log.touched (Head o)) q (map.get from.objects q) x) (sym (get_inserted now o ws q (or_left (obj_eq q o) (set.contains log.made q) both)))
-        (weaker log.touched (set.insert log.touched (Head o)) q (map.get from.objects q) (map.get now.objects q) (inserted_weaker log.touched (Head o)) (h.kept q (or_right (obj_eq q o) (set.contains log.made q) both)));
+        let both = sym (set.contains-insert obj_total accesses.made o q) ∙ f in
+        subst (λ x. SameBut (set.insert accesses.touched (Head o)) q (map.get from.objects q) x) (sym (get_inserted now o ws q (or_left (obj_eq q o) (set.contains accesses.made q) both)))
+        (weaker accesses.touched (set.insert accesses.touched (Head o)) q (map.get from.objects q) (map.get now.objects q) (inserted_weaker accesses.touched (Head o)) (h.kept q (or_right (obj_eq q o) (set.contains accesses.made q) both)));
     locals_length = h.locals_length;
-    locals = λ k f. h.locals k (inserted_weaker log.touched (Head o) (Local k) f);
+    locals = λ k f. h.locals k (inserted_weaker accesses.touched (Head o) (Local k) f);
   }
 
   or_false_left : (b c : Bool) → b ≡ false → (b || c) ≡ true → c ≡ true
@@ -466,46 +466,46 @@ module _ (m n : Memory) (same_count : length m.locals ≡ length n.locals) where
   object_near s t h o words =
       let ws = replicate words (Int (pos 0)) in
       record {
-        log = with_made h.log o;
-        is_s = ap (λ l. log_make l o) h.is_s;
-        is_t = ap (λ l. log_make l o) h.is_t;
-        names = ap (λ z. one_more z words) h.names;
+        accesses = with_made h.accesses o;
+        is_s = ap (λ l. record_make l o) h.is_s;
+        is_t = ap (λ l. record_make l o) h.is_t;
+        allocations = ap (λ z. one_more z words) h.allocations;
         printed = h.printed;
         made = λ q c.
             map.get-insert obj_total s.memory.objects o ws q
-            ∙ inserted_alike s.memory t.memory o ws q (obj_eq q o) (λ f. h.made q (or_false_left (obj_eq q o) (set.contains h.log.made q) f (sym (set.contains-insert obj_total h.log.made o q) ∙ c)))
+            ∙ inserted_alike s.memory t.memory o ws q (obj_eq q o) (λ f. h.made q (or_false_left (obj_eq q o) (set.contains h.accesses.made q) f (sym (set.contains-insert obj_total h.accesses.made o q) ∙ c)))
             ∙ sym (map.get-insert obj_total t.memory.objects o ws q);
         touched = λ a c.
             elim (addr_eq a (Head o)) as (λ b. addr_eq a (Head o) ≡ b → value_at (add s.memory o ws) a ≡ value_at (add t.memory o ws) a) [
               | true ↦ λ e. subst (λ a. value_at (add s.memory o ws) a ≡ value_at (add t.memory o ws) a) (sym (addr_equal a (Head o) e)) refl
-              | false ↦ λ e. value_inserted s.memory t.memory o ws a (h.touched a (touched_before h.log.touched (Head o) a e c))
+              | false ↦ λ e. value_inserted s.memory t.memory o ws a (h.touched a (touched_before h.accesses.touched (Head o) a e c))
             ] refl;
-        half_s = half_made m s.memory h.log o ws h.half_s;
-        half_t = half_made n t.memory h.log o ws h.half_t;
+        half_s = half_made m s.memory h.accesses o ws h.half_s;
+        half_t = half_made n t.memory h.accesses o ws h.half_t;
       }
 
-  abbrev over_limit : ℕ → Names → Bool
-  over_limit words names = nat_lt (word_limit names.maker) (names.words + words + 1)
+  abbrev over_limit : ℕ → Allocations → Bool
+  over_limit words allocations = nat_lt (word_limit allocations.allocator) (allocations.words + words + 1)
 
   limited_same : (s t : Content) (h : Near s t) (words : ℕ) (b : Bool) → Same s t h (limited s b words) (limited t b words)
   limited_same s t h words true = (refl, h)
   limited_same s t h words false =
-      let o = name_of s.names.maker s.names.next in
-      (ap {A = Names} {B = Result Obj Trap} (λ z. Ok (name_of z.maker z.next)) h.names, subst (λ z. Near (with_object s o words) (with_object t z words)) (ap (λ z. name_of z.maker z.next) h.names) (object_near s t h o words))
+      let o = name_of s.allocations.allocator s.allocations.next in
+      (ap {A = Allocations} {B = Result Obj Trap} (λ z. Ok (name_of z.allocator z.next)) h.allocations, subst (λ z. Near (with_object s o words) (with_object t z words)) (ap (λ z. name_of z.allocator z.next) h.allocations) (object_near s t h o words))
 
-  make_back : (s : Content) (o : Obj) (l : Option Log) → GoodLog (log_make l o) → GoodLog l
+  make_back : (s : Content) (o : Obj) (l : Option AccessRecord) → GoodLog (record_make l o) → GoodLog l
   make_back s o None g = tt
-  make_back s o (Some log) g = g
+  make_back s o (Some accesses) g = g
 
   limited_back : (s : Content) (words : ℕ) (b : Bool) → Good (limited s b words).1 → Good s
   limited_back s words true g = g
-  limited_back s words false g = make_back s (name_of s.names.maker s.names.next) s.log g
+  limited_back s words false g = make_back s (name_of s.allocations.allocator s.allocations.next) s.accesses g
 
   make_matches : (words : ℕ) → Matches Near Good (make words) (make words)
   unfolding make
   make_matches words = record {
-    by = λ s t h g. subst (λ b. Same s t h (limited s (over_limit words s.names) words) (limited t b words)) (ap (over_limit words) h.names) (limited_same s t h words (over_limit words s.names));
-    back = λ s g. limited_back s words (over_limit words s.names) g;
+    by = λ s t h g. subst (λ b. Same s t h (limited s (over_limit words s.allocations) words) (limited t b words)) (ap (over_limit words) h.allocations) (limited_same s t h words (over_limit words s.allocations));
+    back = λ s g. limited_back s words (over_limit words s.allocations) g;
   }
 
   print_matches : (bytes : List ℕ) → Matches Near Good {A = Result (Unit {0}) Trap} (λ s. (Ok tt, print bytes s)) (λ t. (Ok tt, print bytes t))
@@ -514,10 +514,10 @@ module _ (m n : Memory) (same_count : length m.locals ≡ length n.locals) where
     by = λ s t h g. (
       refl,
       record {
-        log = h.log;
+        accesses = h.accesses;
         is_s = h.is_s;
         is_t = h.is_t;
-        names = h.names;
+        allocations = h.allocations;
         printed = ap (λ z. z ++ bytes) h.printed;
         made = h.made;
         touched = h.touched;

@@ -11,7 +11,7 @@ use Rattle.al_core.specs.declared.values.Addr.TheVariants.{Word, Local}
 use Rattle.al_core.specs.declared.values.Obj.{Obj}
 use Rattle.al_core.specs.Orders.{obj_cmp, addr_cmp}
 use Rattle.al_core.specs.Memory.{Memory, words_or_none, word_in, value_at}
-use Rattle.al_core.specs.Chunk.{written, made_objects}
+use Rattle.al_core.specs.Chunk.{writes_of, made_objects}
 use Rattle.al_core.specs.Applied.{laid, added}
 use Rattle.al_laws.proofs.Orders.{obj_total, obj_apart}
 use Rattle.al_laws.proofs.Words.{same_list}
@@ -35,7 +35,7 @@ same_shape (x ∷ l) (y ∷ k) e (suc i) = same_shape l k (omega arith) i
 
 module _ (m n : Memory) (touched : FinSet addr_cmp) (made : FinSet obj_cmp) where
   abbrev words_laid : Memory
-  words_laid = laid (fin.entries (written n touched)) m
+  words_laid = laid (fin.entries (writes_of n touched)) m
 
   -- the value that the outcome has at an address, over the one that was there
   abbrev laid_value : Addr → Option Val → Option Val
@@ -43,12 +43,12 @@ module _ (m n : Memory) (touched : FinSet addr_cmp) (made : FinSet obj_cmp) wher
 
   word_laid : (q : Obj) (i : ℕ) → word_in (fin.get words_laid.objects q) i ≡ laid_value (Word q i) (word_in (fin.get m.objects q) i)
   word_laid q i =
-      laid_words (fin.entries (written n touched)) m q i (fin.entries_sorted (written n touched))
+      laid_words (fin.entries (writes_of n touched)) m q i (fin.entries_sorted (writes_of n touched))
       ∙ ap (λ x. over x (word_in (fin.get m.objects q) i)) (get_written n touched (Word q i))
 
   local_laid : (k : ℕ) → slice_get words_laid.locals k ≡ laid_value (Local k) (slice_get m.locals k)
   local_laid k =
-      laid_locals (fin.entries (written n touched)) m k (fin.entries_sorted (written n touched))
+      laid_locals (fin.entries (writes_of n touched)) m k (fin.entries_sorted (writes_of n touched))
       ∙ ap (λ x. over x (slice_get m.locals k)) (get_written n touched (Local k))
 
   -- at a touched address the new value, and at another one the old one, which is the same
@@ -57,11 +57,11 @@ module _ (m n : Memory) (touched : FinSet addr_cmp) (made : FinSet obj_cmp) wher
   by_touch false x y s e = sym (e refl)
 
   laid_object : (q : Obj) (x y : Option (List Val)) → fin.get m.objects q ≡ x → fin.get n.objects q ≡ y → SameBut touched q x y → fin.get words_laid.objects q ≡ y
-  laid_object q None None ex ey s = none_of (fin.get words_laid.objects q) (laid_there (fin.entries (written n touched)) m q ∙ ap is_some ex)
+  laid_object q None None ex ey s = none_of (fin.get words_laid.objects q) (laid_there (fin.entries (writes_of n touched)) m q ∙ ap is_some ex)
   laid_object q None (Some ws) ex ey s = absurd s
   laid_object q (Some vs) None ex ey s = absurd s
   laid_object q (Some vs) (Some ws) ex ey s =
-      let l = some_of (fin.get words_laid.objects q) (laid_there (fin.entries (written n touched)) m q ∙ ap is_some ex) in
+      let l = some_of (fin.get words_laid.objects q) (laid_there (fin.entries (writes_of n touched)) m q ∙ ap is_some ex) in
       l.1 ∙ ap (λ l. Some l) (same_list l.0 ws (λ i.
       ap (λ x. word_in x i) (sym l.1) ∙ word_laid q i ∙ ap (λ x. laid_value (Word q i) (word_in x i)) ex
       ∙ ap (λ x. over (if set.contains touched (Word q i) then word_in x i else None) (slice_get vs i)) ey

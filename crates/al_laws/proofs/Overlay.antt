@@ -17,7 +17,7 @@ use Rattle.al_core.specs.declared.values.Addr.TheVariants.{Word, Head, Local}
 use Rattle.al_core.specs.declared.values.Obj.{Obj}
 use Rattle.al_core.specs.Orders.{obj_cmp, obj_eq, addr_cmp, addr_eq}
 use Rattle.al_core.specs.Memory.{Memory, words_or_none, word_in, value_at, put, add}
-use Rattle.al_core.specs.Chunk.{with_value, written, made_objects}
+use Rattle.al_core.specs.Chunk.{with_value, writes_of, made_objects}
 use Rattle.al_core.specs.Applied.{laid, added}
 use Rattle.al_laws.proofs.Orders.{obj_total, addr_total, obj_equal, obj_itself, addr_equal, addr_itself}
 use Rattle.al_laws.proofs.Words.{get_set_other}
@@ -172,8 +172,8 @@ find_made m (o ∷ items) q =
       | false ↦ λ t. find_made m items q
     ] refl
 
-pub get_written : (m : Memory) (touched : FinSet addr_cmp) (a : Addr) → find addr_cmp a (fin.entries (written m touched)) ≡ (if set.contains touched a then value_at m a else None)
-unfolding written
+pub get_written : (m : Memory) (touched : FinSet addr_cmp) (a : Addr) → find addr_cmp a (fin.entries (writes_of m touched)) ≡ (if set.contains touched a then value_at m a else None)
+unfolding writes_of
 get_written m touched a =
     sym (fin.get-entries (fin.from_entries (filter_map (λ b. with_value b (value_at m b)) (set.items touched))) a)
     ∙ fin.get-from_entries addr_total (filter_map (λ b. with_value b (value_at m b)) (set.items touched)) a

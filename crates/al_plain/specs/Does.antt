@@ -13,7 +13,7 @@ use Rattle.al_plain.specs.declared.fault.Fault.TheVariants as fault
 use Rattle.al_plain.specs.declared.setting.Setting.{Setting}
 
 abbrev pub setting_of : Setting → Given
-setting_of s = record { typed = s.typed.now; input = s.input.now; sizes = sizes_of s.knobs; ways = by_choices s.choices.now }
+setting_of s = record { typed = s.typed.now; input = s.input.now; sizes = sizes_of s.knobs; modes = by_choices s.choices.now }
 
 -- what an action comes to
 abbrev pub Does : {A S : Type 0} → Answer A × State S → Result A Fault → State S → Type 0
