@@ -1,0 +1,201 @@
+ghost use Rattle.std.specs.Prelude.{◌≡◌};
+ghost use Rattle.al_core.specs.Values as spec;
+ghost use Rattle.al_core.specs.Meaning as meaning;
+ghost use Rattle.al_core.specs.Meaning.{call_to};
+ghost use Rattle.al_interpreter.specs.Does.{Does, setting_of};
+ghost use Rattle.al_interpreter.specs.Calls.{Calls};
+
+use crate::fault::Fault;
+use crate::ground::Ground;
+use crate::machine::Machine;
+use crate::setting::Setting;
+use crate::walker::Walker;
+use al_core::operations::{
+    choose, element, input_at, number, of_test, operate, operate_one, point, same, shift, truth,
+    words_of,
+};
+use al_core::{Obj, TExpr, TPlace, Trap, Val};
+use sqlite_items::{Boxed, Items};
+use std::alloc::Global;
+
+/// Whether two pointers are equal, or whether they differ.
+#[tactic(auto, unfolding(al_core::specs::Values::compare))]
+fn compare(equal: bool, a: Val, b: Val) -> Val
+    ensures { result ≡ spec.compare equal a b }
+{
+    if equal {
+        of_test(same(a, b))
+    } else {
+        of_test(!same(a, b))
+    }
+}
+
+fn input_value(input: &[i64], index: Val) -> Result<Val, Trap>
+    ensures { result ≡ spec.then_ok (spec.number index) (spec.input_at input.now) }
+{
+    input_at(input, number(index)?)
+}
+
+fn object_words(count: Val, size: u32) -> Result<u32, Trap>
+    ensures { result ≡ spec.then_ok (spec.number count) (λ n. spec.words_of n size) }
+{
+    words_of(number(count)?, size)
+}
+
+impl<F> Walker<F> {
+    #[cycle(expressions)]
+    #[tactic(auto, using(crate::proofs::Nodes::value_nodes), unfolding(al_core::specs::Action::bind, al_core::specs::Action::pure))]
+    pub fn value<G: Ground>(
+        &self,
+        on: &Setting<'_>,
+        m: &mut Machine<G>,
+        e: &TExpr,
+        line: u32,
+    ) -> Result<Val, Fault>
+    where
+        F: Fn(
+            Global,
+            &Setting<'_>,
+            u32,
+            &mut Machine<G>,
+            u32,
+            Items<Val>,
+            u32,
+        ) -> Result<Val, Fault>,
+        requires { Calls (G.world (setting_of on.now)) G.place on.now self.now.room (F.pre self.now.call) (F.post self.now.call) }
+        ensures { Does (meaning.value (G.world (setting_of on.now)) G.place on.now.input.now (call_to (G.world (setting_of on.now)) G.place on.now.typed.now.funcs on.now.input.now self.now.room) e.now line m.old) result m.new }
+    {
+        match e {
+            TExpr::Number(n) => Ok(Val::Int(*n)),
+            TExpr::Local(k) => m.get_local(on, *k, line),
+            TExpr::Load(want, p) => {
+                let at = self.place(on, m, p.get(), line)?;
+                m.load(on, at, *want, line)
+            }
+            TExpr::Addr(p) => {
+                let at = self.place(on, m, p.get(), line)?;
+                Ok(Val::Ptr(at.0, at.1))
+            }
+            TExpr::Unary(op, a) => {
+                let x = self.value(on, m, a.get(), line)?;
+                m.lift(line, operate_one(*op, x))
+            }
+            TExpr::Binary(op, a, b) => {
+                let x = self.value(on, m, a.get(), line)?;
+                let y = self.value(on, m, b.get(), line)?;
+                m.lift(line, operate(*op, x, y))
+            }
+            TExpr::Same(equal, a, b) => {
+                let x = self.value(on, m, a.get(), line)?;
+                let y = self.value(on, m, b.get(), line)?;
+                Ok(compare(*equal, x, y))
+            }
+            TExpr::And(a, b) => {
+                let x = self.value(on, m, a.get(), line)?;
+                if truth(x) {
+                    let y = self.value(on, m, b.get(), line)?;
+                    Ok(of_test(truth(y)))
+                } else {
+                    Ok(of_test(false))
+                }
+            }
+            TExpr::Or(a, b) => {
+                let x = self.value(on, m, a.get(), line)?;
+                if truth(x) {
+                    Ok(of_test(true))
+                } else {
+                    let y = self.value(on, m, b.get(), line)?;
+                    Ok(of_test(truth(y)))
+                }
+            }
+            TExpr::Call(f, args) => {
+                let vs = self.values(on, m, args.as_slice(), line)?;
+                self.call(on, m, *f, vs, line)
+            }
+            TExpr::Input(a) => {
+                let x = self.value(on, m, a.get(), line)?;
+                m.lift(line, input_value(on.input, x))
+            }
+            TExpr::Inputs => Ok(Val::Int(on.input.len() as i64)),
+            TExpr::Choose(op, a, b) => {
+                let x = self.value(on, m, a.get(), line)?;
+                let y = self.value(on, m, b.get(), line)?;
+                m.lift(line, choose(*op, x, y))
+            }
+            TExpr::Calloc(a, size) => {
+                let x = self.value(on, m, a.get(), line)?;
+                let words = m.lift(line, object_words(x, *size))?;
+                m.make(on, words, line)
+            }
+        }
+    }
+
+    #[cycle(expressions)]
+    #[tactic(auto, using(crate::proofs::Nodes::place_nodes), unfolding(al_core::specs::Action::bind, al_core::specs::Action::pure))]
+    pub fn place<G: Ground>(
+        &self,
+        on: &Setting<'_>,
+        m: &mut Machine<G>,
+        p: &TPlace,
+        line: u32,
+    ) -> Result<(Obj, u32), Fault>
+    where
+        F: Fn(
+            Global,
+            &Setting<'_>,
+            u32,
+            &mut Machine<G>,
+            u32,
+            Items<Val>,
+            u32,
+        ) -> Result<Val, Fault>,
+        requires { Calls (G.world (setting_of on.now)) G.place on.now self.now.room (F.pre self.now.call) (F.post self.now.call) }
+        ensures { Does (meaning.place (G.world (setting_of on.now)) G.place on.now.input.now (call_to (G.world (setting_of on.now)) G.place on.now.typed.now.funcs on.now.input.now self.now.room) p.now line m.old) result m.new }
+    {
+        match p {
+            TPlace::Global(k) => Ok((Obj::Global(*k), 0)),
+            TPlace::At(e) => {
+                let v = self.value(on, m, e, line)?;
+                m.lift(line, point(v))
+            }
+            TPlace::Plus(p, n) => {
+                let at = self.place(on, m, p.get(), line)?;
+                m.lift(line, shift(at, *n))
+            }
+            TPlace::Elem(p, i, size) => {
+                let at = self.place(on, m, p.get(), line)?;
+                let v = self.value(on, m, i, line)?;
+                m.lift(line, element(at, v, *size))
+            }
+        }
+    }
+
+    #[cycle(expressions)]
+    #[tactic(auto, using(crate::proofs::Lists::gathered), unfolding(al_core::specs::Action::bind, al_core::specs::Action::pure))]
+    pub fn values<G: Ground>(
+        &self,
+        on: &Setting<'_>,
+        m: &mut Machine<G>,
+        es: &[TExpr],
+        line: u32,
+    ) -> Result<Items<Val>, Fault>
+    where
+        F: Fn(
+            Global,
+            &Setting<'_>,
+            u32,
+            &mut Machine<G>,
+            u32,
+            Items<Val>,
+            u32,
+        ) -> Result<Val, Fault>,
+        requires { Calls (G.world (setting_of on.now)) G.place on.now self.now.room (F.pre self.now.call) (F.post self.now.call) }
+        ensures { Does (meaning.values (G.world (setting_of on.now)) G.place on.now.input.now (call_to (G.world (setting_of on.now)) G.place on.now.typed.now.funcs on.now.input.now self.now.room) es.now line m.old) result m.new }
+    {
+        let mut done = Items::new(self.alloc);
+        for e in es {
+            done.push(self.value(on, m, e, line)?)?;
+        }
+        Ok(done)
+    }
+}

@@ -1,0 +1,185 @@
+ghost use Rattle.std.specs.Prelude.{◌≡◌, Ok};
+ghost use Rattle.al_core.specs.Action as spec;
+ghost use Rattle.al_interpreter.specs.Stages.{is_outside};
+ghost use Rattle.al_interpreter.specs.Does.{Does, lined, setting_of};
+
+use crate::fault::Fault;
+use crate::frame::Frame;
+use crate::ground::Ground;
+use crate::setting::Setting;
+use crate::stage::Stage;
+use al_core::{Addr, Budget, Kind, Obj, Trap, Val, ViewFault};
+use std::alloc::Global;
+use std::marker::Model;
+
+/// The state of the code that runs: the frame, the steps that are left, and the ground.
+#[derive(Drop)]
+pub struct Machine<G> {
+    frame: Frame,
+    budget: Budget,
+    ground: G,
+}
+
+impl<G> Model for Machine<G> {
+    ghost use Rattle.al_core.specs.Action.{State};
+
+    ghost Value = { State G };
+
+    ghost view = { λ m. record { frame = m.frame; budget = m.budget; world = m.ground } };
+}
+
+fn at_line<T>(line: u32, r: Result<T, ViewFault>) -> Result<T, Fault>
+    ensures { result ≡ lined line r }
+{
+    match r {
+        Ok(a) => Ok(a),
+        Err(ViewFault::Trap(t)) => Err(Fault::Trap(t, line)),
+        Err(ViewFault::Memory) => Err(Fault::Memory),
+    }
+}
+
+impl<G: Ground> Machine<G> {
+    /// Takes a step.
+    #[tactic(auto, unfolding(al_core::specs::Action::spend))]
+    pub fn spend(&mut self, line: u32) -> Result<(), Fault>
+        ensures { Does (spec.spend line self.old) result self.new }
+    {
+        if self.budget.spend() {
+            Ok(())
+        } else {
+            Err(Fault::Trap(Trap::Steps, line))
+        }
+    }
+
+    /// What was computed with no state.
+    #[tactic(auto, unfolding(al_core::specs::Action::lift))]
+    pub fn lift<T>(&self, line: u32, r: Result<T, Trap>) -> Result<T, Fault>
+        ensures { Does (spec.lift line r self.now) result self.now }
+    {
+        match r {
+            Ok(a) => Ok(a),
+            Err(t) => Err(Fault::Trap(t, line)),
+        }
+    }
+
+    #[tactic(auto, unfolding(al_core::specs::Action::bind, al_core::specs::Action::pure, al_core::specs::Action::asks, al_core::specs::Action::get_frame))]
+    pub fn get_local(&mut self, on: &Setting<'_>, k: u32, line: u32) -> Result<Val, Fault>
+        ensures { Does (spec.get_local (G.world (setting_of on.now)) k line self.old) result self.new }
+    {
+        if self.frame.is_private(k) {
+            return Ok(self.frame.get(k));
+        }
+        let r = self.ground.load(on, Addr::Local(k), Kind::Int);
+        at_line(line, r)
+    }
+
+    #[tactic(auto, unfolding(al_core::specs::Action::bind, al_core::specs::Action::asks, al_core::specs::Action::get_frame, al_core::specs::Action::set_frame))]
+    pub fn set_local(&mut self, on: &Setting<'_>, k: u32, v: Val, line: u32) -> Result<(), Fault>
+        ensures { Does (spec.set_local (G.world (setting_of on.now)) k v line self.old) result self.new }
+    {
+        if self.frame.is_private(k) {
+            self.frame.set(k, v);
+            return Ok(());
+        }
+        let r = self.ground.store(on, Addr::Local(k), v);
+        at_line(line, r)
+    }
+
+    #[tactic(auto, unfolding(al_core::specs::Action::asks))]
+    pub fn load(
+        &mut self,
+        on: &Setting<'_>,
+        at: (Obj, u32),
+        want: Kind,
+        line: u32,
+    ) -> Result<Val, Fault>
+        ensures { Does (spec.load (G.world (setting_of on.now)) at want line self.old) result self.new }
+    {
+        let r = self.ground.load(on, Addr::Word(at.0, at.1), want);
+        at_line(line, r)
+    }
+
+    #[tactic(auto, unfolding(al_core::specs::Action::asks))]
+    pub fn store(
+        &mut self,
+        on: &Setting<'_>,
+        at: (Obj, u32),
+        v: Val,
+        line: u32,
+    ) -> Result<(), Fault>
+        ensures { Does (spec.store (G.world (setting_of on.now)) at v line self.old) result self.new }
+    {
+        let r = self.ground.store(on, Addr::Word(at.0, at.1), v);
+        at_line(line, r)
+    }
+
+    /// A pointer to a new object.
+    #[tactic(auto, unfolding(al_core::specs::Action::bind, al_core::specs::Action::pure, al_core::specs::Action::asks))]
+    pub fn make(&mut self, on: &Setting<'_>, words: u32, line: u32) -> Result<Val, Fault>
+        ensures { Does (spec.make (G.world (setting_of on.now)) words line self.old) result self.new }
+    {
+        let r = self.ground.make(on, words);
+        let object = at_line(line, r)?;
+        Ok(Val::Ptr(object, 0))
+    }
+
+    #[tactic(auto, unfolding(al_core::specs::Action::asks))]
+    pub fn print(&mut self, on: &Setting<'_>, bytes: &[u8], line: u32) -> Result<(), Fault>
+        ensures { Does (spec.print (G.world (setting_of on.now)) bytes.now line self.old) result self.new }
+    {
+        let _line = line;
+        self.ground.print(on, bytes)?;
+        Ok(())
+    }
+
+    /// Goes into a frame, and answers the one before.
+    #[tactic(auto, unfolding(al_core::specs::Action::bind, al_core::specs::Action::pure, al_core::specs::Action::get_frame, al_core::specs::Action::set_frame))]
+    pub fn enter(&mut self, frame: Frame) -> Frame
+        ensures { spec.enter frame self.old ≡ (Ok result, self.new) }
+    {
+        std::mem::replace(&mut self.frame, frame)
+    }
+
+    /// Comes back into a frame.
+    #[tactic(auto, unfolding(al_core::specs::Action::bind, al_core::specs::Action::pure, al_core::specs::Action::set_frame))]
+    pub fn leave(&mut self, old: Frame, v: Val) -> Val
+        ensures { spec.leave old v self.old ≡ (Ok result, self.new) }
+    {
+        self.frame = old;
+        v
+    }
+
+    /// The steps that are left.
+    pub fn left(&self) -> u64
+        ensures { result ≡ self.now.budget }
+    {
+        self.budget.left()
+    }
+
+    /// Hands an annotated loop on, with the frame's locals.
+    #[tactic(auto, unfolding(al_core::specs::Action::bind, al_core::specs::Action::get_frame, al_core::specs::Action::hands_on, al_core::specs::Action::set_frame))]
+    pub fn visit(
+        &mut self,
+        alloc: Global,
+        on: &Setting<'_>,
+        number: u32,
+        lo: i64,
+        hi: i64,
+    ) -> Result<(), Fault>
+        ensures { Does (spec.visit (G.world (setting_of on.now)) number lo hi self.old) result self.new }
+    {
+        let locals = self.frame.locals(alloc)?;
+        let new = self.ground.visit(alloc, on, number, lo, hi, locals)?;
+        self.frame.replace(new);
+        Ok(())
+    }
+}
+
+impl<G: Stage> Machine<G> {
+    /// Whether the code stands outside the iterations of annotated loops.
+    pub fn is_outside(&self) -> bool
+        ensures { result ≡ is_outside G.place }
+    {
+        self.ground.is_outside()
+    }
+}
