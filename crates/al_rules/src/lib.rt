@@ -1,0 +1,8 @@
+//! The static rules of the language: how large its types are, what its names mean, and what an annotated loop may be.
+#![tactic(auto)]
+
+pub mod faults;
+pub mod layout;
+
+pub use faults::{LayoutFault, LowerFault, NoteFault, NoteKind, TypeFault, TypeKind};
+pub use layout::{Layout, StructLayout};
