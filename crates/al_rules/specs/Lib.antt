@@ -1,2 +1,10 @@
 pub mod Names
 pub mod Layouts
+pub mod Checks
+pub mod Types
+pub mod Scopes
+pub mod Operands
+pub mod Expressions
+pub mod Walks
+pub mod Statements
+pub mod Programs

@@ -3,6 +3,8 @@
 
 pub mod faults;
 pub mod layout;
+pub mod operands;
 
 pub use faults::{LayoutFault, LowerFault, NoteFault, NoteKind, TypeFault, TypeKind};
 pub use layout::{Layout, StructLayout};
+pub use operands::{Operand, Value};
