@@ -1,5 +1,5 @@
 -- The words of each kind of type, and what it holds by value.
-use Rattle.std.proofs.Common.{◌≡◌, ℕ, ◌*◌, Bool, true, false, List, refl, sym, ap, ◌∙◌}
+use Rattle.std.proofs.Common.{◌≡◌, ℕ, ◌*◌, Bool, false, List, sym, ap, ◌∙◌}
 use Rattle.std.specs.List.{find}
 use Rattle.std.specs.Str.{bytes_eq}
 use Rattle.al_source.specs.declared.source_tree.CType.{CType, roll-CType, map-CType, fold-CType, fold-roll-CType}

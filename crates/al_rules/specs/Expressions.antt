@@ -1,5 +1,5 @@
 -- What an expression is, or its first fault: its parts from left to right, and then the whole.
-use Rattle.std.specs.Prelude.{ℕ, ◌*◌, List, [], ◌∷◌, Option, Some, None, Ok, Err, pos}
+use Rattle.std.specs.Prelude.{◌*◌, List, Ok, pos}
 use Rattle.al_source.specs.declared.source_tree.CType.{CType}
 use Rattle.al_source.specs.declared.source_tree.CType.TheVariants as type
 use Rattle.al_source.specs.declared.source_tree.Expr.{Expr, fold-Expr}
@@ -8,7 +8,7 @@ use Rattle.al_core.specs.declared.typed_tree.TExpr.{TExpr}
 use Rattle.al_core.specs.declared.typed_tree.TExpr.TheVariants as e
 use Rattle.al_rules.specs.declared.faults.TypeKind.TheVariants.{Unknown}
 use Rattle.al_rules.specs.declared.operands.Operand.{Operand}
-use Rattle.al_rules.specs.declared.operands.Operand.TheVariants.{Literal, Null, Value, Variable, Place}
+use Rattle.al_rules.specs.declared.operands.Operand.TheVariants.{Literal, Null, Value}
 use Rattle.al_rules.specs.Names.{Name}
 use Rattle.al_rules.specs.Types.{type_checked, is_sized}
 use Rattle.al_rules.specs.Scopes.{Binding, Known, is_struct, size, variable_named, callee_named}

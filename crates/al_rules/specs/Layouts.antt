@@ -1,5 +1,5 @@
 -- How many words the structs and globals of a program have, and where the fields of a struct lie.
-use Rattle.std.specs.Prelude.{ℕ, ◌+◌, ◌*◌, Bool, true, false, if◌then◌else◌, nat_lt, List, [], ◌∷◌, ◌++◌, Option, Some, None, Result, Ok, Err}
+use Rattle.std.specs.Prelude.{ℕ, ◌+◌, ◌*◌, Bool, false, if◌then◌else◌, nat_lt, List, [], ◌∷◌, ◌++◌, Option, Some, None, Result, Ok, Err}
 use Rattle.std.specs.List.{find, list_any, sum}
 use Rattle.std.specs.Str.{bytes_eq}
 use Rattle.al_source.specs.declared.source_tree.CType.{CType, fold-CType}

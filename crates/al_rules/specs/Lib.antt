@@ -8,3 +8,8 @@ pub mod Expressions
 pub mod Walks
 pub mod Statements
 pub mod Programs
+pub mod ForLoops
+pub mod Bodies
+pub mod Notes
+pub mod Candidates
+pub mod Refusals

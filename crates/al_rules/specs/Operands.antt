@@ -1,5 +1,5 @@
 -- What may be done with what an expression is.
-use Rattle.std.specs.Prelude.{ℕ, ◌*◌, ◌==◌, Bool, true, false, not, if◌then◌else◌, List, [], ◌∷◌, length, Option, Some, None, is_none, Ok, Err, ℤ, pos}
+use Rattle.std.specs.Prelude.{◌==◌, Bool, true, false, if◌then◌else◌, List, [], ◌∷◌, length, Option, Some, None, is_none, Ok, Err, pos}
 use Rattle.std.specs.Ordering.{int_eq}
 use Rattle.al_source.specs.declared.operators.UnOp.{UnOp}
 use Rattle.al_source.specs.declared.operators.UnOp.TheVariants.{Neg, BitNot, Not}
@@ -20,10 +20,10 @@ use Rattle.al_rules.specs.declared.operands.Operand.TheVariants.{Literal, Null, 
 use Rattle.al_rules.specs.declared.operands.Value.{Value as Used}
 use Rattle.al_rules.specs.declared.operands.Value.TheVariants.{Int, Pointer, Useless}
 use Rattle.al_rules.specs.Names.{Name}
-use Rattle.al_rules.specs.Types.{same_type, is_int, pointee, element, struct_name}
+use Rattle.al_rules.specs.Types.{same_type, element, struct_name}
 use Rattle.al_rules.specs.Scopes.{Known, size, field_of, Callee, Function, Input, Inputs, Choose}
 use Rattle.al_rules.specs.Scopes.{Variable as Named, Local as named_local, Global as named_global}
-use Rattle.al_rules.specs.Checks.{Checked, ◌>>=◌, ◌>>◌, each, ensure, some_or, or_else}
+use Rattle.al_rules.specs.Checks.{Checked, ◌>>=◌, ◌>>◌, ensure, some_or, or_else}
 
 -- ---- what an operand is where a value is wanted
 

@@ -1,5 +1,5 @@
 -- The typed tree of a program, or its first type fault: the names and types of all items, then `main`, then the bodies of the functions.
-use Rattle.std.specs.Prelude.{◌≡◌, ℕ, ◌+◌, Bool, true, false, not, ◌&&◌, ◌||◌, if◌then◌else◌, List, [], ◌∷◌, ◌++◌, length, codes, Option, Some, None, is_some, is_none, Result, Ok, Err, slice_get, ℤ, pos}
+use Rattle.std.specs.Prelude.{◌≡◌, ℕ, ◌+◌, Bool, true, false, not, ◌&&◌, ◌||◌, if◌then◌else◌, List, [], ◌∷◌, ◌++◌, length, codes, Option, Some, None, is_some, Result, Ok, Err, slice_get, ℤ, pos}
 use Rattle.std.specs.Ordering.{int_eq}
 use Rattle.al_source.specs.declared.source_tree.CType.{CType}
 use Rattle.al_source.specs.declared.source_tree.Start.{Start}
@@ -14,7 +14,6 @@ use Rattle.al_source.specs.declared.source_tree.Program.{Program}
 use Rattle.al_ast.specs.Nodes.{capped, program_nodes}
 use Rattle.al_core.specs.declared.typed_tree.TGlobal.{TGlobal}
 use Rattle.al_core.specs.declared.typed_tree.TFunc.{TFunc}
-use Rattle.al_core.specs.declared.typed_tree.TLocal.{TLocal}
 use Rattle.al_core.specs.declared.typed_tree.TNote.{TNote}
 use Rattle.al_core.specs.declared.typed_tree.Typed.{Typed}
 use Rattle.al_rules.specs.declared.layout.Layout.{Layout}
@@ -23,10 +22,10 @@ use Rattle.al_rules.specs.declared.faults.TypeFault.{TypeFault}
 use Rattle.al_rules.specs.declared.faults.TypeFault.TheVariants.{At}
 use Rattle.al_rules.specs.Names.{Name, place_named, any_named}
 use Rattle.al_rules.specs.Layouts.{sizes, layout_fault, fault_of}
-use Rattle.al_rules.specs.Checks.{Checked, and_then, ensure, ◌>>=◌, ◌>>◌}
+use Rattle.al_rules.specs.Checks.{Checked, and_then, ensure, ◌>>◌}
 use Rattle.al_rules.specs.Types.{is_int, pointee, kind_of, type_checked, is_held, is_scalar, is_result, Form}
-use Rattle.al_rules.specs.Scopes.{Binding, Known, structs_in, globals_in, funcs_in, known_of, built_in, is_struct, size, no_scope, with_binding}
-use Rattle.al_rules.specs.Walks.{Progress, at_line, local_of, add_local}
+use Rattle.al_rules.specs.Scopes.{Known, structs_in, globals_in, funcs_in, known_of, built_in, is_struct, size, no_scope, with_binding}
+use Rattle.al_rules.specs.Walks.{Progress, at_line, local_of}
 use Rattle.al_rules.specs.Statements.{statements}
 
 -- ---- items

@@ -1,11 +1,10 @@
 -- What names mean: the locals in scope, and the structs, globals and functions of a program.
 use Rattle.std.specs.Prelude.{ℕ, Bool, if◌then◌else◌, List, [], ◌∷◌, ◌++◌, codes, Option, Some, None, option_map, option_and_then, Ok, Err, slice_get, slice_index}
-use Rattle.std.specs.List.{find, list_any}
+use Rattle.std.specs.List.{find}
 use Rattle.std.specs.Str.{bytes_eq}
 use Rattle.al_source.specs.declared.operators.RedOp.{RedOp}
 use Rattle.al_source.specs.declared.operators.RedOp.TheVariants.{Min, Max}
 use Rattle.al_source.specs.declared.source_tree.CType.{CType}
-use Rattle.al_source.specs.declared.source_tree.Field.{Field}
 use Rattle.al_source.specs.declared.source_tree.StructDef.{StructDef}
 use Rattle.al_source.specs.declared.source_tree.GlobalDef.{GlobalDef}
 use Rattle.al_source.specs.declared.source_tree.Func.{Func}

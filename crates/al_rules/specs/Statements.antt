@@ -7,11 +7,9 @@ use Rattle.al_source.specs.declared.operators.BinOp.TheVariants.{Lt, Le, Gt, Ge,
 use Rattle.al_source.specs.declared.texts.Piece.{Piece}
 use Rattle.al_source.specs.declared.texts.Piece.TheVariants as piece
 use Rattle.al_source.specs.declared.source_tree.CType.{CType, out-CType}
-use Rattle.al_source.specs.declared.source_tree.CType.TheVariants as type
 use Rattle.al_source.specs.declared.source_tree.CType.TheOpen.{CType-F}
 use Rattle.al_source.specs.declared.source_tree.Expr.{Expr}
 use Rattle.al_source.specs.declared.source_tree.Stmt.{Stmt, fold-Stmt}
-use Rattle.al_source.specs.declared.source_tree.StmtKind.{StmtKind}
 use Rattle.al_source.specs.declared.source_tree.StmtKind.TheOpen.{Stmt-F, StmtKind-F}
 use Rattle.al_core.specs.declared.choices.Choice.{Choice}
 use Rattle.al_core.specs.declared.choices.Red.{Red}
@@ -32,7 +30,7 @@ use Rattle.al_rules.specs.Checks.{Checked, and_then, each, ensure, some_or}
 use Rattle.al_rules.specs.Scopes.{Known, Variable, Local, Global, in_scope, is_declared, is_struct, variable_named}
 use Rattle.al_rules.specs.Operands.{integer, scalar, fitting}
 use Rattle.al_rules.specs.Expressions as x
-use Rattle.al_rules.specs.Walks.{Walk, pure, checks, lift, fails, count_locals, add_local, begin_loop, end_loop, within, all_steps, ◌>>=◌, ◌>>◌}
+use Rattle.al_rules.specs.Walks.{Walk, pure, checks, lift, fails, add_local, begin_loop, end_loop, within, all_steps, ◌>>=◌, ◌>>◌}
 
 -- ---- forms
 

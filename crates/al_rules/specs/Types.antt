@@ -1,5 +1,5 @@
 -- Types: which are one, where each may stand, and what is known of structs.
-use Rattle.std.specs.Prelude.{ℕ, zero, suc, ◌==◌, Bool, true, false, not, ◌&&◌, if◌then◌else◌, Option, Some, None, Ok, Err}
+use Rattle.std.specs.Prelude.{ℕ, zero, suc, ◌==◌, Bool, true, false, ◌&&◌, Option, Some, None}
 use Rattle.std.specs.Str.{bytes_eq}
 use Rattle.al_source.specs.declared.source_tree.CType.{CType, fold-CType, out-CType}
 use Rattle.al_source.specs.declared.source_tree.CType.TheOpen.{CType-F}

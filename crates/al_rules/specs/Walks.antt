@@ -1,5 +1,5 @@
 -- The walk over the statements of a program: what it has found so far, and its steps. A step gives a value, or the first fault with its line.
-use Rattle.std.specs.Prelude.{ℕ, Bool, not, List, [], ◌∷◌, ◌++◌, length, Option, Some, None, Result, Ok, Err, slice_get, slice_set}
+use Rattle.std.specs.Prelude.{ℕ, List, [], ◌∷◌, ◌++◌, length, Option, Some, None, Result, Ok, Err, slice_get, slice_set}
 use Rattle.al_source.specs.declared.source_tree.CType.{CType}
 use Rattle.al_core.specs.declared.choices.Choice.{Choice}
 use Rattle.al_core.specs.declared.values.Kind.{Kind}
@@ -7,12 +7,11 @@ use Rattle.al_core.specs.declared.values.Kind.TheVariants as kind
 use Rattle.al_core.specs.declared.typed_tree.TLocal.{TLocal}
 use Rattle.al_core.specs.declared.typed_tree.TNote.{TNote}
 use Rattle.al_rules.specs.declared.faults.TypeKind.{TypeKind}
-use Rattle.al_rules.specs.declared.faults.TypeKind.TheVariants.{Twice}
 use Rattle.al_rules.specs.declared.faults.TypeFault.{TypeFault}
 use Rattle.al_rules.specs.declared.faults.TypeFault.TheVariants.{At}
 use Rattle.al_rules.specs.Names.{Name}
 use Rattle.al_rules.specs.Types.{kind_of}
-use Rattle.al_rules.specs.Scopes.{Scope, is_declared, with_binding, nested}
+use Rattle.al_rules.specs.Scopes.{Scope, with_binding, nested}
 use Rattle.al_rules.specs.Checks.{Checked, and_then}
 
 -- the names in scope, the locals of the function so far, and the annotated loops of the program so far

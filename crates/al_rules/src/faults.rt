@@ -1,3 +1,4 @@
+use al_source::{LexFault, ParseFault};
 use std::alloc::AllocError;
 use thiserror::Error;
 
@@ -126,4 +127,15 @@ impl From<AllocError> for LowerFault {
     fn from(_: AllocError) -> LowerFault {
         LowerFault::Memory
     }
+}
+
+/// Why a source is refused. No fault in it is want of memory.
+#[derive(Clone, Copy, Debug, PartialEq, Eq)]
+pub enum Refusal {
+    Lexical(LexFault),
+    Grammar(ParseFault),
+    Layout(LayoutFault),
+    Types(TypeFault),
+    Notes(NoteFault),
+    Lowering(LowerFault),
 }

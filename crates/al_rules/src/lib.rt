@@ -5,6 +5,6 @@ pub mod faults;
 pub mod layout;
 pub mod operands;
 
-pub use faults::{LayoutFault, LowerFault, NoteFault, NoteKind, TypeFault, TypeKind};
+pub use faults::{LayoutFault, LowerFault, NoteFault, NoteKind, Refusal, TypeFault, TypeKind};
 pub use layout::{Layout, StructLayout};
 pub use operands::{Operand, Value};
