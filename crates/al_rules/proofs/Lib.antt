@@ -1,1 +1,5 @@
 pub mod LayoutNodes
+pub mod TypeNodes
+pub mod ExpressionNodes
+pub mod StatementNodes
+mod Evaluate
