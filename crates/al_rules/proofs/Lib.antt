@@ -2,4 +2,3 @@ pub mod LayoutNodes
 pub mod TypeNodes
 pub mod ExpressionNodes
 pub mod StatementNodes
-mod Evaluate
