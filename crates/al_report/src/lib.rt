@@ -8,5 +8,5 @@ mod lines;
 mod tests;
 mod traces;
 
-pub use faults::{input_text, lex_text, parse_text};
+pub use faults::{input_text, layout_text, lex_text, lower_text, note_text, parse_text, type_text};
 pub use traces::{totals_text, trace_text, trap_text};

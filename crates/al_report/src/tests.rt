@@ -1,5 +1,6 @@
 use super::*;
 use al_core::{Ending, Event, Judged, Report, Trap, Verdict};
+use al_rules::{LayoutFault, LowerFault, NoteFault, NoteKind, TypeFault, TypeKind};
 use al_source::{Bytes, LexFault, ParseFault};
 use al_text::InputFault;
 use sqlite_items::Items;
@@ -37,13 +38,11 @@ fn enter(line: u32, trips: u64, chunks: u64) -> Event {
 }
 
 /// A round of chunks in a row, from the first on.
-fn round(alloc: Global, first: u64, verdicts: &[Verdict]) -> Result<Event, AllocError>
-    requires { first + length verdicts.now < 2 ^ 64 }
-{
+fn round(alloc: Global, first: u64, verdicts: &[Verdict]) -> Result<Event, AllocError> {
     let mut judged = Items::new(alloc);
     for (at, verdict) in verdicts.iter().enumerate() {
         judged.push(Judged {
-            chunk: first + at as u64,
+            chunk: first.wrapping_add(at as u64),
             verdict: *verdict,
         })?;
     }
@@ -56,7 +55,8 @@ fn a_loop_of_no_trips(rt: HostRuntime) -> Result<(), Fail> {
     let mut events = Items::new(alloc);
     events.push(enter(4, 0, 0))?;
     let run = report(alloc, events, Ending::Done, [0, 0, 0], 5);
-    let expected = "loop 0 execution 0 line 4 trips 0 chunks 0\nend done\nloops 1 rounds 0 attempts 0 aborted 0 span 5\n";
+    let expected =
+        "loop 0 execution 0 line 4 trips 0 chunks 0\nend done\nloops 1 rounds 0 attempts 0 aborted 0 span 5\n";
     assert!(rt; trace_text(alloc, &run)?.as_slice() == expected.as_bytes());
     Ok(())
 }
@@ -71,7 +71,8 @@ fn a_failed_chunk_runs_again(rt: HostRuntime) -> Result<(), Fail> {
     let run = report(alloc, events, Ending::Done, [2, 3, 1], 13);
     let totals = "loops 1 rounds 2 attempts 3 aborted 1 span 13\n";
     assert!(rt; totals_text(alloc, &run)?.as_slice() == totals.as_bytes());
-    let expected = "loop 0 execution 0 line 5 trips 2 chunks 2\nround 0: 0 commit, 1 fail\nround 1: 1 commit\nend done\nloops 1 rounds 2 attempts 3 aborted 1 span 13\n";
+    let expected =
+        "loop 0 execution 0 line 5 trips 2 chunks 2\nround 0: 0 commit, 1 fail\nround 1: 1 commit\nend done\nloops 1 rounds 2 attempts 3 aborted 1 span 13\n";
     assert!(rt; trace_text(alloc, &run)?.as_slice() == expected.as_bytes());
     Ok(())
 }
@@ -87,11 +88,15 @@ fn chunks_commit_one_by_one(rt: HostRuntime) -> Result<(), Fail> {
     ];
     let mut events = Items::new(alloc);
     events.push(enter(5, 6, 6))?;
-    for (first, lanes) in [(0u64, 4usize), (1, 4), (2, 4), (3, 3), (4, 2), (5, 1)] {
-        events.push(round(alloc, first, &all[..lanes])?)?;
-    }
+    events.push(round(alloc, 0, &all)?)?;
+    events.push(round(alloc, 1, &all)?)?;
+    events.push(round(alloc, 2, &all)?)?;
+    events.push(round(alloc, 3, &all[..3])?)?;
+    events.push(round(alloc, 4, &all[..2])?)?;
+    events.push(round(alloc, 5, &all[..1])?)?;
     let run = report(alloc, events, Ending::Done, [6, 18, 12], 60);
-    let expected = "loop 0 execution 0 line 5 trips 6 chunks 6\nround 0: 0 commit, 1 fail, 2 after, 3 after\nround 1: 1 commit, 2 fail, 3 after, 4 after\nround 2: 2 commit, 3 fail, 4 after, 5 after\nround 3: 3 commit, 4 fail, 5 after\nround 4: 4 commit, 5 fail\nround 5: 5 commit\nend done\nloops 1 rounds 6 attempts 18 aborted 12 span 60\n";
+    let expected =
+        "loop 0 execution 0 line 5 trips 6 chunks 6\nround 0: 0 commit, 1 fail, 2 after, 3 after\nround 1: 1 commit, 2 fail, 3 after, 4 after\nround 2: 2 commit, 3 fail, 4 after, 5 after\nround 3: 3 commit, 4 fail, 5 after\nround 4: 4 commit, 5 fail\nround 5: 5 commit\nend done\nloops 1 rounds 6 attempts 18 aborted 12 span 60\n";
     assert!(rt; trace_text(alloc, &run)?.as_slice() == expected.as_bytes());
     Ok(())
 }
@@ -109,7 +114,8 @@ fn a_trap_ends_the_trace(rt: HostRuntime) -> Result<(), Fail> {
     ];
     events.push(round(alloc, 0, &verdicts)?)?;
     let run = report(alloc, events, Ending::Trap(Trap::Bounds, 7), [1, 4, 0], 7);
-    let expected = "loop 0 execution 0 line 5 trips 5 chunks 5\nround 0: 0 commit, 1 commit, 2 commit, 3 trap\nend trap 7 out of bounds\nloops 1 rounds 1 attempts 4 aborted 0 span 7\n";
+    let expected =
+        "loop 0 execution 0 line 5 trips 5 chunks 5\nround 0: 0 commit, 1 commit, 2 commit, 3 trap\nend trap 7 out of bounds\nloops 1 rounds 1 attempts 4 aborted 0 span 7\n";
     assert!(rt; trace_text(alloc, &run)?.as_slice() == expected.as_bytes());
     Ok(())
 }
@@ -129,7 +135,8 @@ fn rounds_are_counted_anew(rt: HostRuntime) -> Result<(), Fail> {
     })?;
     events.push(round(alloc, 16_777_215, &[Verdict::Commit])?)?;
     let run = report(alloc, events, Ending::Done, [2, 2, 0], u128::MAX);
-    let expected = "loop 0 execution 0 line 5 trips 3 chunks 1\nround 0: 0 commit\nloop 7 execution 1 line 9 trips 16777216 chunks 16777216\nround 0: 16777215 commit\nend done\nloops 1 rounds 2 attempts 2 aborted 0 span 340282366920938463463374607431768211455\n";
+    let expected =
+        "loop 0 execution 0 line 5 trips 3 chunks 1\nround 0: 0 commit\nloop 7 execution 1 line 9 trips 16777216 chunks 16777216\nround 0: 16777215 commit\nend done\nloops 1 rounds 2 attempts 2 aborted 0 span 340282366920938463463374607431768211455\n";
     assert!(rt; trace_text(alloc, &run)?.as_slice() == expected.as_bytes());
     Ok(())
 }
@@ -162,7 +169,12 @@ fn traps_have_their_line(rt: HostRuntime) -> Result<(), Fail> {
             6,
             "alter: p6.c:6: trap: divide by zero\n",
         ),
-        ("c.c", Trap::Input, 10, "alter: c.c:10: trap: no such input\n"),
+        (
+            "c.c",
+            Trap::Input,
+            10,
+            "alter: c.c:10: trap: no such input\n",
+        ),
         (
             "p12.c",
             Trap::Trips,
@@ -228,5 +240,62 @@ fn faults_of_inputs_have_their_line(rt: HostRuntime) -> Result<(), Fail> {
     assert!(rt; is_line(text, "alter: n.txt: too many numbers\n"));
     let text = input_text(alloc, "n.txt", &InputFault::TooLong)?;
     assert!(rt; is_line(text, "alter: n.txt: input too long\n"));
+    Ok(())
+}
+
+#[test]
+fn faults_of_sizes_have_their_line(rt: HostRuntime) -> Result<(), Fail> {
+    let alloc = rt.alloc();
+    let text = layout_text(alloc, "t.c", &LayoutFault::TooLarge(1))?;
+    assert!(rt; is_line(text, "alter: t.c:1: too many words\n"));
+    let text = layout_text(alloc, "t.c", &LayoutFault::SelfHolding(8))?;
+    assert!(rt; is_line(text, "alter: t.c:8: struct holds itself\n"));
+    let text = lower_text(alloc, "t.c", &LowerFault::TooLarge)?;
+    assert!(rt; is_line(text, "alter: t.c: too many nodes\n"));
+    Ok(())
+}
+
+#[test]
+fn faults_of_types_have_their_line(rt: HostRuntime) -> Result<(), Fail> {
+    let table = [
+        (TypeKind::Main, "alter: e.c:1: no main function\n"),
+        (TypeKind::Twice, "alter: e.c:1: name defined twice\n"),
+        (TypeKind::Unknown, "alter: e.c:1: unknown name\n"),
+        (TypeKind::Shape, "alter: e.c:1: type not allowed here\n"),
+        (TypeKind::Mismatch, "alter: e.c:1: wrong type\n"),
+        (TypeKind::NotPlace, "alter: e.c:1: not a place\n"),
+        (TypeKind::LocalAddress, "alter: e.c:1: address of a local\n"),
+        (TypeKind::Count, "alter: e.c:1: wrong number of arguments\n"),
+        (TypeKind::Return, "alter: e.c:1: wrong return\n"),
+        (
+            TypeKind::Outside,
+            "alter: e.c:1: break or continue outside a loop\n",
+        ),
+    ];
+    for (kind, expected) in table {
+        let text = type_text(rt.alloc(), "e.c", &TypeFault::At(kind, 1))?;
+        assert!(rt; is_line(text, expected));
+    }
+    Ok(())
+}
+
+#[test]
+fn faults_of_annotations_have_their_line(rt: HostRuntime) -> Result<(), Fail> {
+    let table = [
+        (NoteKind::Leaves, "alter: p14.c:3: loop is left\n"),
+        (NoteKind::Form, "alter: p14.c:3: loop form\n"),
+        (NoteKind::IndexChanges, "alter: p14.c:3: counter changes\n"),
+        (NoteKind::BoundChanges, "alter: p14.c:3: bound changes\n"),
+        (NoteKind::ReductionName, "alter: p14.c:3: reduction name\n"),
+        (
+            NoteKind::ReductionAddress,
+            "alter: p14.c:3: reduction address\n",
+        ),
+        (NoteKind::ReductionUsed, "alter: p14.c:3: reduction used\n"),
+    ];
+    for (kind, expected) in table {
+        let text = note_text(rt.alloc(), "p14.c", &NoteFault::At(kind, 3))?;
+        assert!(rt; is_line(text, expected));
+    }
     Ok(())
 }
