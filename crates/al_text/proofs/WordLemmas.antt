@@ -24,8 +24,10 @@ pub word_goes_on : (text : List ℕ) (start at line : ℕ) → start ≤ at → 
 word_goes_on text start at line begun within plain = rw (drop_more text at 0 within, plain, slice_more text start at begun within) refl
 
 -- the end of the text ends it
-pub word_last : (text : List ℕ) (at line : ℕ) (word : List ℕ) → at ≡ length text → words_from line word (drop at text) ≡ word_of line word
-word_last text at line word last = grind (arith, common_steps)
+pub word_last : (text : List ℕ) (start at line : ℕ) → at ≡ length text → words_from line (slice_range text start at) (drop at text) ≡ word_of line (slice_range text start (length text)) ++ []
+word_last text start at line last =
+    let none : drop at text ≡ [] = grind (arith, common_steps) in
+    rw (none, append-nil (word_of line (slice_range text start (length text)))) (ap (λ n. word_of line (slice_range text start n)) last)
 
 -- ---- the numbers of the words, after the numbers so far
 
@@ -36,15 +38,9 @@ read_on ns more line text start at defined within blank pushed whole =
     rw (sub_self (at + 1)) (pushed ws ∙ ap (λ l. numbers_onto ns l) (sym (word_ends text at line (slice_range text start at) within blank)) ∙ whole)
 
 pub read_last : (ns more : List ℤ) (line : ℕ) (text : List ℕ) (start at : ℕ) (defined : Result (List ℤ) InputFault) → at ≡ length text → ((ws : List Word) → numbers_onto more ws ≡ numbers_onto ns (word_of line (slice_range text start (length text)) ++ ws)) → numbers_onto ns (words_from line (slice_range text start at) (drop at text)) ≡ defined → defined ≡ Ok more
-read_last ns more line text start at defined last pushed whole =
-    sym whole ∙ ap (λ l. numbers_onto ns l) (subst (λ (n : ℕ). words_from line (slice_range text start at) (drop at text) ≡ word_of line (slice_range text start n)) last (word_last text at line (slice_range text start at) last) ∙ sym (append-nil (word_of line (slice_range text start (length text))))) ∙ sym (pushed [])
+read_last ns more line text start at defined last pushed whole = sym whole ∙ ap (λ l. numbers_onto ns l) (word_last text start at line last) ∙ sym (pushed [])
 
--- and a fault of it is the text's
-pub fails_on : (fault : InputFault) (ns : List ℤ) (line : ℕ) (text : List ℕ) (start at : ℕ) (defined : Result (List ℤ) InputFault) → at < length text → is_blank (get_or text at 0) ≡ true → ((ws : List Word) → Fails fault (numbers_onto ns (word_of line (slice_range text start at) ++ ws))) → numbers_onto ns (words_from line (slice_range text start at) (drop at text)) ≡ defined → Fails fault defined
-fails_on fault ns line text start at defined within blank failed whole =
-    let ws : List Word = words_from (line_after line (get_or text at 0)) [] (drop (at + 1) text) in
-    subst (λ (d : Result (List ℤ) InputFault). Fails fault d) (ap (λ l. numbers_onto ns l) (sym (word_ends text at line (slice_range text start at) within blank)) ∙ whole) (failed ws)
-
+-- and a fault of the last word is the text's
 pub fails_last : (fault : InputFault) (ns : List ℤ) (line : ℕ) (text : List ℕ) (start at : ℕ) (defined : Result (List ℤ) InputFault) → at ≡ length text → ((ws : List Word) → Fails fault (numbers_onto ns (word_of line (slice_range text start (length text)) ++ ws))) → numbers_onto ns (words_from line (slice_range text start at) (drop at text)) ≡ defined → Fails fault defined
 fails_last fault ns line text start at defined last failed whole =
-    subst (λ (d : Result (List ℤ) InputFault). Fails fault d) (ap (λ l. numbers_onto ns l) (append-nil (word_of line (slice_range text start (length text))) ∙ sym (subst (λ (n : ℕ). words_from line (slice_range text start at) (drop at text) ≡ word_of line (slice_range text start n)) last (word_last text at line (slice_range text start at) last))) ∙ whole) (failed [])
+    subst (λ (d : Result (List ℤ) InputFault). Fails fault d) (sym (ap (λ l. numbers_onto ns l) (word_last text start at line last)) ∙ whole) (failed [])
