@@ -1,0 +1,5 @@
+pub mod Tables
+pub mod Text
+pub mod Tokens
+pub mod Lines
+pub mod Writing
