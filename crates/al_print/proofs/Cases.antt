@@ -1,6 +1,7 @@
 -- The tokens of each kind of node.
 use Rattle.std.proofs.Common.{◌≡◌, ℕ, suc, Bool, true, false, List, [], ◌∷◌, ◌++◌, map, Option, Some, None, refl, sym, ap, ◌∙◌}
 use Rattle.std.specs.Prelude.{ℤ, pos}
+use Rattle.std.proofs.lemmas.Grind.{fold-append}
 use Rattle.al_source.specs.declared.texts.Piece.{Piece}
 use Rattle.al_source.specs.declared.operators.UnOp.{UnOp}
 use Rattle.al_source.specs.declared.operators.BinOp.{BinOp}
@@ -43,7 +44,7 @@ front-Ptr a = front_of (CType-F.Ptr a) _ (type.rolls-Ptr a)
 pub front-Array : (a : CType) (n : ℕ) → type_front (type.Array a n) ≡ type_front a
 front-Array a n = front_of (CType-F.Array a n) _ (type.rolls-Array a n)
 
-pub ruleset type_fronts = (front-Int, front-Void, front-Struct, front-Ptr, front-Array)
+pub ruleset type_fronts = (fold-append, front-Int, front-Void, front-Struct, front-Ptr, front-Array)
 
 dimensions_of : (x : CType-F CType) (d : CType) → roll-CType x ≡ d → dimensions d ≡ dimensions_case (map-CType CType Kinds dimensions x)
 unfolding dimensions
@@ -64,7 +65,7 @@ dimensions-Ptr a = dimensions_of (CType-F.Ptr a) _ (type.rolls-Ptr a)
 pub dimensions-Array : (a : CType) (n : ℕ) → dimensions (type.Array a n) ≡ Mark m.LeftBracket ∷ Number (pos n) ∷ Mark m.RightBracket ∷ dimensions a
 dimensions-Array a n = dimensions_of (CType-F.Array a n) _ (type.rolls-Array a n)
 
-pub ruleset all_dimensions = (dimensions-Int, dimensions-Void, dimensions-Struct, dimensions-Ptr, dimensions-Array)
+pub ruleset all_dimensions = (fold-append, dimensions-Int, dimensions-Void, dimensions-Struct, dimensions-Ptr, dimensions-Array)
 
 -- ---- expressions
 
@@ -121,7 +122,7 @@ tokens-Calloc x a l = ap (λ f. f l) (expression_of (Expr-F.Calloc x a) _ (e.rol
 pub tokens-Call : (w : List ℕ) (xs : List Expr) (l : ℕ) → expression (e.Call w xs) l ≡ Word w ∷ Mark m.LeftParen ∷ with_commas (values xs) ++ Mark m.RightParen ∷ []
 tokens-Call w xs l = ap (λ f. f l) (expression_of (Expr-F.Call w xs) _ (e.rolls-Call w xs)) ∙ ap (λ ks. Word w ∷ Mark m.LeftParen ∷ with_commas ks ++ Mark m.RightParen ∷ []) (values_of xs)
 
-pub ruleset all_expressions = (tokens-Number, tokens-Null, tokens-Var, tokens-Unary, tokens-Binary, tokens-And, tokens-Or, tokens-Index, tokens-Dot, tokens-Arrow, tokens-Deref, tokens-Address, tokens-SizeOf, tokens-Calloc, tokens-Call)
+pub ruleset all_expressions = (fold-append, tokens-Number, tokens-Null, tokens-Var, tokens-Unary, tokens-Binary, tokens-And, tokens-Or, tokens-Index, tokens-Dot, tokens-Arrow, tokens-Deref, tokens-Address, tokens-SizeOf, tokens-Calloc, tokens-Call)
 
 -- ---- statements
 
@@ -176,7 +177,7 @@ kind-For (Some a) test (Some c) x n b = ap (λ f. f b) (kind_of (StmtKind-F.For 
 pub kind-Block : (ss : List Stmt) (b : Bool) → statement_kind (k.Block ss) b ≡ Mark m.LeftBrace ∷ statements ss ++ Mark m.RightBrace ∷ []
 kind-Block ss b = ap (λ f. f b) (kind_of (StmtKind-F.Block ss) _ (k.rolls-Block ss)) ∙ ap (λ ks. Mark m.LeftBrace ∷ ks ++ Mark m.RightBrace ∷ []) (statements_of ss)
 
-pub ruleset all_kinds = (kind-Empty, kind-Declare, kind-Assign, kind-Update, kind-Call, kind-Print, kind-If, kind-While, kind-For, kind-Block, kind-Return, kind-Break, kind-Continue)
+pub ruleset all_kinds = (fold-append, kind-Empty, kind-Declare, kind-Assign, kind-Update, kind-Call, kind-Print, kind-If, kind-While, kind-For, kind-Block, kind-Return, kind-Break, kind-Continue)
 
 pub statement_is : (s : Stmt) (b : Bool) → statement s b ≡ statement_kind s.kind b
 unfolding statement_kind statement

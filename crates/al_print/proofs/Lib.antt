@@ -5,3 +5,7 @@ pub mod Plain
 pub mod Again
 pub mod PrintedTypes
 pub mod PrintedExpressions
+pub mod Unlined
+pub mod PrintedSimple
+pub mod NoElse
+pub mod PrintedStatements

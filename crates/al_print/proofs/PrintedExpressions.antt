@@ -1,6 +1,7 @@
 -- The printed tokens of an expression that was read are read as that expression, with no more operators.
 use Rattle.std.proofs.Common.{◌≡◌, ℕ, zero, suc, ◌+◌, ◌-◌, ◌<◌, ◌≤◌, Bool, true, false, cond, nat_lt, List, [], ◌∷◌, ◌++◌, Option, Some, None, refl, sym, ap, subst, ◌∙◌, arith}
 use Rattle.std.proofs.lemmas.List.{append-nil}
+use Rattle.std.specs.Prelude.{ℤ}
 use Rattle.std.proofs.lemmas.Bool.{ltb-true, ltb-false, lt-ltb, le-ltb}
 use Rattle.al_source.specs.declared.tokens.Token.{Token}
 use Rattle.al_source.specs.declared.tokens.TokenKind.{TokenKind}
@@ -262,7 +263,7 @@ law_tight {s} {x} {s'} q = record {
     fits true e = absurd cc
     fits false e = let h = q.fits in omega arith
 
-law_number : {n : ℕ} {ts us : Tokens} {v : _} → Takes (Number v) ts us → AllWritable ts → Law 11 (n, ts) (e.Number v) (n, us)
+law_number : {n : ℕ} {ts us : Tokens} {v : ℤ} → Takes (Number v) ts us → AllWritable ts → Law 11 (n, ts) (e.Number v) (n, us)
 law_number {v = v} t h = law_tight (record {
   c = 0;
   core = Number v ∷ [];
@@ -435,14 +436,14 @@ place_of unary = 10
 place_of postfix = 11
 place_of primary = 11
 
-means_left : {A : Type 0} {table : TokenKind → Option A} {a : A} {ts us : Tokens} → Means table a ts us → AllWritable ts → AllWritable us
+pub means_left : {A : Type 0} {table : TokenKind → Option A} {a : A} {ts us : Tokens} → Means table a ts us → AllWritable ts → AllWritable us
 means_left (means d) h = h.1
 
-record Found {A : Type 0} (table : TokenKind → Option A) (a : A) : Type 0 where
-  kind : TokenKind
-  is : table kind ≡ Some a
+pub record Found {A : Type 0} (table : TokenKind → Option A) (a : A) : Type 0 where
+  pub kind : TokenKind
+  pub is : table kind ≡ Some a
 
-found : {A : Type 0} {table : TokenKind → Option A} {a : A} {ts us : Tokens} → Means table a ts us → Found table a
+pub found : {A : Type 0} {table : TokenKind → Option A} {a : A} {ts us : Tokens} → Means table a ts us → Found table a
 found (means {t = t} d) = record { kind = t.kind; is = d }
 
 mutual
@@ -496,3 +497,6 @@ place_again {x = x} q h =
     tidy = tidy_at a.printed 10 (omega arith);
     left = a.rest;
   }
+
+pub literal : {v : ℤ} {vs ws : Tokens} → Takes (Number v) vs ws → Expression vs (e.Number v) ws
+literal t = record { left = 128; reads = to_level 0 (omega arith) (raise 11 0 11 (omega arith) (omega arith) (g.bare (g.number t))) }

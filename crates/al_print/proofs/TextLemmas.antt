@@ -6,8 +6,8 @@ use Rattle.al_print.specs.declared.writer.Writer.{Writer}
 use Rattle.al_print.specs.Text.{spelling, ends_line, end_text, front_text, text_from, text_of}
 use Rattle.al_print.specs.Writing.{written, all_written}
 
-parts : (a b c d e : List ℕ) → (a ++ b ++ c ++ d) ++ e ≡ a ++ b ++ c ++ d ++ e
-parts a b c d e = rw (append_assoc, append_assoc, append_assoc)
+parts : (a b c d e : List ℕ) → (a ++ (b ++ c ++ d)) ++ e ≡ a ++ (b ++ c ++ d ++ e)
+parts a b c d e = append_assoc a (b ++ c ++ d) e
 
 pub text_after : (w : Writer) (ks : List TokenKind) → (all_written w ks).text ≡ w.text ++ text_from w.begins ks
 unfolding written

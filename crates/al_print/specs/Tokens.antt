@@ -30,15 +30,20 @@ use Rattle.al_print.specs.Tables.{unary_mark, binary, update_mark, reduction, po
 abbrev pub Kinds : Type 0
 Kinds = List TokenKind
 
--- each with a comma before it
-abbrev pub after_commas : List Kinds → Kinds
-after_commas [] = []
-after_commas (x ∷ xs) = Mark m.Comma ∷ x ++ after_commas xs
+abbrev pub comma : Bool → Kinds
+comma true = Mark m.Comma ∷ []
+comma false = []
 
--- commas between them
+-- a list with commas between its parts, and one before it where it goes on
+abbrev pub listed : Bool → List Kinds → Kinds
+listed goes_on [] = []
+listed goes_on (x ∷ xs) = comma goes_on ++ x ++ listed true xs
+
 abbrev pub with_commas : List Kinds → Kinds
-with_commas [] = []
-with_commas (x ∷ xs) = x ++ after_commas xs
+with_commas = listed false
+
+abbrev pub after_commas : List Kinds → Kinds
+after_commas = listed true
 
 -- ---- types and declared names
 

@@ -1,6 +1,7 @@
 //! Expressions, with parentheses where their places need them.
 
-ghost use Rattle.std.specs.Prelude.{◌≡◌, ◌≤◌, map, OnOk};
+ghost use Rattle.std.specs.Prelude.{◌≡◌, ◌≤◌, ◌++◌, ◌∷◌, suc, nat_lt, OnOk};
+ghost use Rattle.al_source.specs.declared.tokens.TokenKind.TheVariants as token;
 ghost use Rattle.al_print.specs.Tokens as spec;
 ghost use Rattle.al_print.specs.Writing.{all_written};
 
@@ -49,9 +50,19 @@ pub fn expression(w: &mut Writer, level: u8, x: &Expr) -> Result<(), AllocError>
         Expr::Unary(op, x) => prefixed(w, level, unary_mark(*op), x.get()),
         Expr::Deref(x) => prefixed(w, level, Mark::Star, x.get()),
         Expr::Address(x) => prefixed(w, level, Mark::Ampersand, x.get()),
-        Expr::Binary(op, x, y) => joined(w, level, binary(*op), x.get(), y.get()),
-        Expr::And(x, y) => joined(w, level, (1, Mark::AndAnd), x.get(), y.get()),
-        Expr::Or(x, y) => joined(w, level, (0, Mark::OrOr), x.get(), y.get()),
+        Expr::Binary(op, x, y) => {
+            let op = binary(*op);
+            left_operand(w, level, op, x.get())?;
+            right_operand(w, level, op, y.get())
+        }
+        Expr::And(x, y) => {
+            left_operand(w, level, (1, Mark::AndAnd), x.get())?;
+            right_operand(w, level, (1, Mark::AndAnd), y.get())
+        }
+        Expr::Or(x, y) => {
+            left_operand(w, level, (0, Mark::OrOr), x.get())?;
+            right_operand(w, level, (0, Mark::OrOr), y.get())
+        }
         Expr::Index(x, i) => {
             expression(w, POSTFIX, x.get())?;
             w.mark(Mark::LeftBracket)?;
@@ -71,7 +82,7 @@ pub fn expression(w: &mut Writer, level: u8, x: &Expr) -> Result<(), AllocError>
         Expr::Call(name, xs) => {
             w.word(name.as_slice())?;
             w.mark(Mark::LeftParen)?;
-            with_commas(w, xs.as_slice())?;
+            values(w, false, xs.as_slice())?;
             w.mark(Mark::RightParen)
         }
         Expr::SizeOf(ty) => size_of(w, ty),
@@ -97,41 +108,46 @@ fn prefixed(w: &mut Writer, level: u8, mark: Mark, x: &Expr) -> Result<(), Alloc
     closing(w, needed)
 }
 
+/// The left operand of an operator of some level, with what stands before it.
 #[cycle(expressions)]
-fn joined(w: &mut Writer, level: u8, op: (u8, Mark), x: &Expr, y: &Expr) -> Result<(), AllocError>
-    requires { op.0 ≤ 9 }
-    ensures { OnOk result (w.new ≡ all_written w.old (spec.joined op (spec.expression x.now) (spec.expression y.now) level)) }
+fn left_operand(w: &mut Writer, level: u8, op: (u8, Mark), x: &Expr) -> Result<(), AllocError>
+    ensures { OnOk result (w.new ≡ all_written w.old (spec.opening (nat_lt op.0 level) ++ spec.expression x.now op.0)) }
 {
-    let needed = op.0 < level;
-    opening(w, needed)?;
-    expression(w, op.0, x)?;
-    w.mark(op.1)?;
-    expression(w, op.0 + 1, y)?;
-    closing(w, needed)
+    opening(w, op.0 < level)?;
+    expression(w, op.0, x)
 }
 
+/// The operator and its right operand, with what stands after it.
 #[cycle(expressions)]
-pub fn with_commas(w: &mut Writer, xs: &[Expr]) -> Result<(), AllocError>
-    ensures { OnOk result (w.new ≡ all_written w.old (spec.with_commas (spec.values xs.now))) }
+fn right_operand(w: &mut Writer, level: u8, op: (u8, Mark), y: &Expr) -> Result<(), AllocError>
+    requires { op.0 ≤ 9 }
+    ensures { OnOk result (w.new ≡ all_written w.old (token.Mark op.1 ∷ spec.expression y.now (suc op.0) ++ spec.closing (nat_lt op.0 level))) }
 {
-    match xs {
-        [] => Ok(()),
-        [x, rest @ ..] => {
-            expression(w, 0, x)?;
-            after_commas(w, rest)
-        }
+    w.mark(op.1)?;
+    expression(w, op.0 + 1, y)?;
+    closing(w, op.0 < level)
+}
+
+fn comma(w: &mut Writer, needed: bool) -> Result<(), AllocError>
+    ensures { OnOk result (w.new ≡ all_written w.old (spec.comma needed)) }
+{
+    if needed {
+        w.mark(Mark::Comma)
+    } else {
+        Ok(())
     }
 }
 
+/// Values with commas between them, and one before them where they go on.
 #[cycle(expressions)]
-pub fn after_commas(w: &mut Writer, xs: &[Expr]) -> Result<(), AllocError>
-    ensures { OnOk result (w.new ≡ all_written w.old (spec.after_commas (spec.values xs.now))) }
+pub fn values(w: &mut Writer, goes_on: bool, xs: &[Expr]) -> Result<(), AllocError>
+    ensures { OnOk result (w.new ≡ all_written w.old (spec.listed goes_on (spec.values xs.now))) }
 {
-    let mut left = xs;
-    while let [x, rest @ ..] = left {
-        w.mark(Mark::Comma)?;
+    let mut goes_on = goes_on;
+    for x in xs {
+        comma(w, goes_on)?;
         expression(w, 0, x)?;
-        left = rest;
+        goes_on = true;
     }
     Ok(())
 }

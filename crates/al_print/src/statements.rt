@@ -1,12 +1,14 @@
 //! Statements and annotations.
 
-ghost use Rattle.std.specs.Prelude.{◌≡◌, OnOk};
-ghost use Rattle.al_source.specs.declared.source_tree.StmtKind.TheVariants as kind;
+ghost use Rattle.std.specs.Prelude.{◌≡◌, ◌∷◌, ◌++◌, [], OnOk};
+ghost use Rattle.al_source.specs.declared.tokens.Key.TheVariants as key;
+ghost use Rattle.al_source.specs.declared.tokens.Mark.TheVariants as mark;
+ghost use Rattle.al_source.specs.declared.tokens.TokenKind.TheVariants as token;
 ghost use Rattle.al_print.specs.Tables as tables;
 ghost use Rattle.al_print.specs.Tokens as spec;
 ghost use Rattle.al_print.specs.Writing.{all_written, written};
 
-use crate::expressions::{UNARY, after_commas, expression, with_commas};
+use crate::expressions::{UNARY, expression, values};
 use crate::tables::update_mark;
 use crate::types::declared;
 use crate::writer::Writer;
@@ -20,7 +22,7 @@ use std::alloc::AllocError;
 // ---- annotations
 
 fn policy_word(policy: Policy) -> &'static [u8]
-    ensures { spec.Word result.now ≡ tables.policy_word policy }
+    ensures { token.Word result.now ≡ tables.policy_word policy }
 {
     match policy {
         Policy::Full => b"FULL",
@@ -31,7 +33,7 @@ fn policy_word(policy: Policy) -> &'static [u8]
 }
 
 fn order_word(order: CommitOrder) -> &'static [u8]
-    ensures { spec.Word result.now ≡ tables.order_word order }
+    ensures { token.Word result.now ≡ tables.order_word order }
 {
     match order {
         CommitOrder::InOrder => b"InOrder",
@@ -146,7 +148,7 @@ fn call(w: &mut Writer, name: &[u8], xs: &[Expr], alone: bool) -> Result<(), All
 {
     w.word(name)?;
     w.mark(Mark::LeftParen)?;
-    with_commas(w, xs)?;
+    values(w, false, xs)?;
     w.mark(Mark::RightParen)?;
     end(w, alone)
 }
@@ -157,7 +159,7 @@ fn print(w: &mut Writer, format: &[Piece], xs: &[Expr], alone: bool) -> Result<(
     w.key(Key::Printf)?;
     w.mark(Mark::LeftParen)?;
     w.format(format)?;
-    after_commas(w, xs)?;
+    values(w, true, xs)?;
     w.mark(Mark::RightParen)?;
     end(w, alone)
 }
@@ -168,6 +170,14 @@ fn jump(w: &mut Writer, key: Key, x: &Option<Expr>, alone: bool) -> Result<(), A
     w.key(key)?;
     optional_value(w, x)?;
     end(w, alone)
+}
+
+/// The test in the head of a `for`.
+fn test_part(w: &mut Writer, test: &Option<Expr>) -> Result<(), AllocError>
+    ensures { OnOk result (w.new ≡ all_written w.old (token.Mark mark.Semicolon ∷ spec.optional_value test.now)) }
+{
+    w.mark(Mark::Semicolon)?;
+    optional_value(w, test)
 }
 
 fn condition(w: &mut Writer, key: Key, x: &Expr) -> Result<(), AllocError>
@@ -213,7 +223,9 @@ fn statement_kind(w: &mut Writer, k: &StmtKind, alone: bool) -> Result<(), Alloc
         }
         StmtKind::For(first, test, third, x, n) => {
             note(w, n)?;
-            head(w, first, test, third)?;
+            first_part(w, first)?;
+            test_part(w, test)?;
+            third_part(w, third)?;
             statement(w, x.get(), true)
         }
         StmtKind::Block(ss) => {
@@ -227,20 +239,21 @@ fn statement_kind(w: &mut Writer, k: &StmtKind, alone: bool) -> Result<(), Alloc
     }
 }
 
+/// The head of a `for` up to its first part.
 #[cycle(statements)]
-fn head(
-    w: &mut Writer,
-    first: &Option<Boxed<Stmt>>,
-    test: &Option<Expr>,
-    third: &Option<Boxed<Stmt>>,
-) -> Result<(), AllocError>
-    ensures { OnOk result (w.new ≡ all_written w.old (spec.head (spec.part_of first.now) test.now (spec.part_of third.now))) }
+fn first_part(w: &mut Writer, first: &Option<Boxed<Stmt>>) -> Result<(), AllocError>
+    ensures { OnOk result (w.new ≡ all_written w.old (token.Key key.For ∷ token.Mark mark.LeftParen ∷ spec.part_of first.now)) }
 {
     w.key(Key::For)?;
     w.mark(Mark::LeftParen)?;
-    part(w, first)?;
-    w.mark(Mark::Semicolon)?;
-    optional_value(w, test)?;
+    part(w, first)
+}
+
+/// The third part, up to the end of the head.
+#[cycle(statements)]
+fn third_part(w: &mut Writer, third: &Option<Boxed<Stmt>>) -> Result<(), AllocError>
+    ensures { OnOk result (w.new ≡ all_written w.old (token.Mark mark.Semicolon ∷ spec.part_of third.now ++ token.Mark mark.RightParen ∷ [])) }
+{
     w.mark(Mark::Semicolon)?;
     part(w, third)?;
     w.mark(Mark::RightParen)
@@ -273,10 +286,8 @@ fn otherwise(w: &mut Writer, s: &Option<Boxed<Stmt>>) -> Result<(), AllocError>
 pub fn statements(w: &mut Writer, ss: &[Stmt]) -> Result<(), AllocError>
     ensures { OnOk result (w.new ≡ all_written w.old (spec.statements ss.now)) }
 {
-    let mut left = ss;
-    while let [s, rest @ ..] = left {
+    for s in ss {
         statement(w, s, true)?;
-        left = rest;
     }
     Ok(())
 }

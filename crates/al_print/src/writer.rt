@@ -142,13 +142,22 @@ impl Writer {
         self.ended(b"\"", false)
     }
 
+    /// A line feed, where no line begins.
+    fn line(&mut self) -> Result<(), AllocError>
+        ensures { OnOk result (self.new ≡ appended self.old (spec.front_text token.Alter self.old.begins)) }
+    {
+        if self.begins {
+            Ok(())
+        } else {
+            self.bytes(b"\n")
+        }
+    }
+
     /// The front of an annotation, which begins a line.
     pub fn alter(&mut self) -> Result<(), AllocError>
         ensures { OnOk result (self.new ≡ written self.old token.Alter) }
     {
-        if !self.begins {
-            self.bytes(b"\n")?;
-        }
+        self.line()?;
         self.ended(b"#pragma alter", false)
     }
 
