@@ -1,4 +1,5 @@
 pub mod Cases
+pub mod HeadWritten
 pub mod TextLemmas
 pub mod Front
 pub mod Plain
@@ -9,3 +10,5 @@ pub mod Unlined
 pub mod PrintedSimple
 pub mod NoElse
 pub mod PrintedStatements
+pub mod PrintedProgram
+pub mod Writable
