@@ -12,3 +12,7 @@ pub mod NoElse
 pub mod PrintedStatements
 pub mod PrintedProgram
 pub mod Writable
+pub mod Lexed
+pub mod LexedText
+pub mod SpelledText
+pub mod ReadBack

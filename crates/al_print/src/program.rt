@@ -1,6 +1,7 @@
 //! Items and whole programs.
 
 ghost use Rattle.std.specs.Prelude.{◌≡◌, OnOk, IfOk};
+ghost use Rattle.al_print.specs.ReadingBack.{HasSource, ReadsBack};
 ghost use Rattle.al_print.specs.Text.{text_of};
 ghost use Rattle.al_print.specs.Tokens as spec;
 ghost use Rattle.al_print.specs.Tokens.{tokens_of};
@@ -139,10 +140,13 @@ fn items(w: &mut Writer, items: &[Item]) -> Result<(), AllocError>
 }
 
 /// The canonical text of a program: its tokens with parentheses only where they are needed, each followed by a blank
-/// or a line feed.
+/// or by a line feed. Want of memory is the only error.
 #[tactic(auto, using(crate::proofs::TextLemmas::text_written))]
 pub fn print_program(alloc: Global, program: &Program) -> Result<Bytes, AllocError>
-    ensures { IfOk result (λ text. text ≡ text_of (tokens_of program.now)) }
+    // The text is that of the program's tokens.
+    ensures text { IfOk result (λ text. text ≡ text_of (tokens_of program.now)) }
+    // The text of a program that some source is spells tokens again, and these derive the program but for its lines.
+    ensures read_back { HasSource program.now → IfOk result (ReadsBack program.now) }
 {
     let mut w = Writer::new(alloc);
     items(&mut w, program.items.as_slice())?;
