@@ -15,12 +15,12 @@ written_twice w xs ys zs = fold-append written w (xs ++ ys) zs ∙ ap (λ (v : W
 head_written : (w : Writer) (a : Kinds) (test : Option Expr) (c : Kinds)
     → all_written w (head a test c) ≡ all_written (all_written (all_written w (Key key.For ∷ Mark m.LeftParen ∷ a)) (Mark m.Semicolon ∷ optional_value test)) (Mark m.Semicolon ∷ c ++ Mark m.RightParen ∷ [])
 head_written w a test c =
-  written_twice w (Key key.For ∷ Mark m.LeftParen ∷ a ++ Mark m.Semicolon ∷ optional_value test) (Mark m.Semicolon ∷ c) (Mark m.RightParen ∷ [])
-  ∙ ap (λ (v : Writer). all_written v (Mark m.Semicolon ∷ c ++ Mark m.RightParen ∷ [])) (fold-append written w (Key key.For ∷ Mark m.LeftParen ∷ a) (Mark m.Semicolon ∷ optional_value test))
+    written_twice w (Key key.For ∷ Mark m.LeftParen ∷ a ++ Mark m.Semicolon ∷ optional_value test) (Mark m.Semicolon ∷ c) (Mark m.RightParen ∷ [])
+    ∙ ap (λ (v : Writer). all_written v (Mark m.Semicolon ∷ c ++ Mark m.RightParen ∷ [])) (fold-append written w (Key key.For ∷ Mark m.LeftParen ∷ a) (Mark m.Semicolon ∷ optional_value test))
 
 pub for_written : (w : Writer) (n a : Kinds) (test : Option Expr) (c x : Kinds)
     → all_written w (n ++ head a test c ++ x)
-      ≡ all_written (all_written (all_written (all_written (all_written w n) (Key key.For ∷ Mark m.LeftParen ∷ a)) (Mark m.Semicolon ∷ optional_value test)) (Mark m.Semicolon ∷ c ++ Mark m.RightParen ∷ [])) x
+    ≡ all_written (all_written (all_written (all_written (all_written w n) (Key key.For ∷ Mark m.LeftParen ∷ a)) (Mark m.Semicolon ∷ optional_value test)) (Mark m.Semicolon ∷ c ++ Mark m.RightParen ∷ [])) x
 for_written w n a test c x =
-  fold-append written w (n ++ head a test c) x
-  ∙ ap (λ (v : Writer). all_written v x) (fold-append written w n (head a test c) ∙ head_written (all_written w n) a test c)
+    fold-append written w (n ++ head a test c) x
+    ∙ ap (λ (v : Writer). all_written v x) (fold-append written w n (head a test c) ∙ head_written (all_written w n) a test c)

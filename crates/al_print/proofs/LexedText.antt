@@ -64,8 +64,8 @@ apart false a b c e = absurd cc
 plain_unit : (b : ℕ) (y : Bytes) → is_plain b ≡ true → unit_at (b ∷ y) ≡ Some (1, Some b)
 unfolding unit_at
 plain_unit b y e =
-  let (q, p, s) = apart _ (b == 34) (b == 37) (b == 92) e in
-  skip (b == 92) _ _ s ∙ skip (b == 37) _ _ p ∙ pick (is_plain b) _ _ e
+    let (q, p, s) = apart _ (b == 34) (b == 37) (b == 92) e in
+    skip (b == 92) _ _ s ∙ skip (b == 37) _ _ p ∙ pick (is_plain b) _ _ e
 
 abbrev from_unit : Bytes → Option TextUnit → List Piece
 from_unit y None = format_from 0 y
@@ -76,11 +76,11 @@ inside_unit y o = option_and_then (λ u. option_map suc (inside_from (u.0 - 1) y
 
 itself : (b : ℕ) (y : Bytes) → is_plain b ≡ true → IsUnit (b ∷ []) (Some b) y
 itself b y e =
-  let (q, p, s) = apart _ (b == 34) (b == 37) (b == 92) e in
-  record {
-    inside = skip (b == 34) _ _ q ∙ ap (inside_unit y) (plain_unit b y e) ∙ once (inside_from 0 y);
-    format = ap (from_unit y) (plain_unit b y e);
-  }
+    let (q, p, s) = apart _ (b == 34) (b == 37) (b == 92) e in
+    record {
+      inside = skip (b == 34) _ _ q ∙ ap (inside_unit y) (plain_unit b y e) ∙ once (inside_from 0 y);
+      format = ap (from_unit y) (plain_unit b y e);
+    }
 
 only_plain : (a b c d e : Bool) → (a || (b || (c || (d || e)))) ≡ true → b ≡ false → c ≡ false → d ≡ false → e ≡ false → a ≡ true
 only_plain true b c d e h p q r s = refl
@@ -98,8 +98,8 @@ byte_unit b y h = by₁ (b == 10) refl
     by₅ : (t : Bool) → b == 37 ≡ t → b == 10 ≡ false → b == 9 ≡ false → b == 92 ≡ false → b == 34 ≡ false → IsUnit (byte_text b) (Some b) y
     by₅ true e p q r s = is 37 e (percent y)
     by₅ false e p q r s =
-      let text : byte_text b ≡ b ∷ [] = skip (b == 10) _ _ p ∙ skip (b == 9) _ _ q ∙ skip (b == 92) _ _ r ∙ skip (b == 34) _ _ s ∙ skip (b == 37) _ _ e in
-      subst (λ (u : Bytes). IsUnit u (Some b) y) (sym text) (itself b y (only_plain (is_plain b) (b == 10) (b == 34) (b == 37) (b == 92) h p s e r))
+        let text : byte_text b ≡ b ∷ [] = skip (b == 10) _ _ p ∙ skip (b == 9) _ _ q ∙ skip (b == 92) _ _ r ∙ skip (b == 34) _ _ s ∙ skip (b == 37) _ _ e in
+        subst (λ (u : Bytes). IsUnit u (Some b) y) (sym text) (itself b y (only_plain (is_plain b) (b == 10) (b == 34) (b == 37) (b == 92) h p s e r))
 
     by₄ : (t : Bool) → b == 34 ≡ t → b == 10 ≡ false → b == 9 ≡ false → b == 92 ≡ false → IsUnit (byte_text b) (Some b) y
     by₄ true e p q r = is 34 e (quote y)
@@ -130,8 +130,8 @@ bytes_inside [] y h = same (inside_from 0 y)
     same None = refl
     same (Some n) = ap Some (omega arith)
 bytes_inside (b ∷ bs) y h =
-  let u = byte_unit b (bytes_text bs ++ y) h.0 in
-  ap (inside_from 0) (append_assoc (byte_text b) (bytes_text bs) y) ∙ u.inside
+    let u = byte_unit b (bytes_text bs ++ y) h.0 in
+    ap (inside_from 0) (append_assoc (byte_text b) (bytes_text bs) y) ∙ u.inside
     ∙ ap (option_map (λ n. length (byte_text b) + n)) (bytes_inside bs y h.1) ∙ map_add (byte_text b) (bytes_text bs) (inside_from 0 y)
 
 abbrev before_bytes : Bytes → List Piece → List Piece
@@ -141,8 +141,8 @@ before_bytes (b ∷ bs) ps = before_byte b (before_bytes bs ps)
 bytes_format : (bs y : Bytes) → AllMeant bs → format_from 0 (bytes_text bs ++ y) ≡ before_bytes bs (format_from 0 y)
 bytes_format [] y h = refl
 bytes_format (b ∷ bs) y h =
-  let u = byte_unit b (bytes_text bs ++ y) h.0 in
-  ap (format_from 0) (append_assoc (byte_text b) (bytes_text bs) y) ∙ u.format ∙ ap (before_byte b) (bytes_format bs y h.1)
+    let u = byte_unit b (bytes_text bs ++ y) h.0 in
+    ap (format_from 0) (append_assoc (byte_text b) (bytes_text bs) y) ∙ u.format ∙ ap (before_byte b) (bytes_format bs y h.1)
 
 -- bytes before a format that begins with no bytes are one piece
 one_piece : (b : ℕ) (bs : Bytes) (ps : List Piece) → IsFormat true ps → before_bytes (b ∷ bs) ps ≡ piece.Plain (b ∷ bs) ∷ ps
@@ -157,16 +157,16 @@ format_again after (piece.Number ∷ ps) h = (number (format_text ps)).format �
 format_again true (piece.Plain bs ∷ ps) h = absurd h
 format_again false (piece.Plain [] ∷ ps) h = absurd h
 format_again false (piece.Plain (b ∷ bs) ∷ ps) h =
-  bytes_format (b ∷ bs) (format_text ps) (h.0, h.1) ∙ ap (before_bytes (b ∷ bs)) (format_again true ps h.2) ∙ one_piece b bs ps h.2
+    bytes_format (b ∷ bs) (format_text ps) (h.0, h.1) ∙ ap (before_bytes (b ∷ bs)) (format_again true ps h.2) ∙ one_piece b bs ps h.2
 
 pieces_inside : (after : Bool) (ps : List Piece) (y : Bytes) → IsFormat after ps → inside_from 0 (format_text ps ++ y) ≡ option_map (λ n. length (format_text ps) + n) (inside_from 0 y)
 pieces_inside after [] y h = bytes_inside [] y tt
 pieces_inside after (piece.Number ∷ ps) y h =
-  (number (format_text ps ++ y)).inside ∙ ap (option_map (λ n. 3 + n)) (pieces_inside false ps y h) ∙ map_add (37 ∷ 108 ∷ 100 ∷ []) (format_text ps) (inside_from 0 y)
+    (number (format_text ps ++ y)).inside ∙ ap (option_map (λ n. 3 + n)) (pieces_inside false ps y h) ∙ map_add (37 ∷ 108 ∷ 100 ∷ []) (format_text ps) (inside_from 0 y)
 pieces_inside true (piece.Plain bs ∷ ps) y h = absurd h
 pieces_inside false (piece.Plain [] ∷ ps) y h = absurd h
 pieces_inside false (piece.Plain (b ∷ bs) ∷ ps) y h =
-  ap (inside_from 0) (append_assoc (bytes_text (b ∷ bs)) (format_text ps) y) ∙ bytes_inside (b ∷ bs) (format_text ps ++ y) (h.0, h.1)
+    ap (inside_from 0) (append_assoc (bytes_text (b ∷ bs)) (format_text ps) y) ∙ bytes_inside (b ∷ bs) (format_text ps ++ y) (h.0, h.1)
     ∙ ap (option_map (λ n. length (bytes_text (b ∷ bs)) + n)) (pieces_inside true ps y h.2) ∙ map_add (bytes_text (b ∷ bs)) (format_text ps) (inside_from 0 y)
 
 -- ---- the whole token
@@ -182,8 +182,8 @@ format_is f h = format_again false f h
 pub text_lexeme : (line : ℕ) (f : List Piece) (z : Bytes) → IsFormat false f → lexeme line (34 ∷ (format_text f ++ 34 ∷ z)) ≡ Ok (kind.Text f, length (format_text f) + 2)
 unfolding lexeme
 text_lexeme line f z h =
-  let y : Bytes = 34 ∷ (format_text f ++ 34 ∷ z) in
-  let len : ℕ = length (format_text f) in
-  let back : len + 1 - 1 ≡ len = omega arith in
-  let within : slice_range y 1 (len + 1) ≡ format_text f = ap (λ (k : ℕ). take k (format_text f ++ 34 ∷ z)) back ∙ take-append_seam (format_text f) (34 ∷ z) in
-  ap (quoted line y) (inside_quotes f z h) ∙ ap (λ (v : Bytes). Ok (kind.Text (format_of v), len + 2)) within ∙ ap (λ (g : List Piece). Ok (kind.Text g, len + 2)) (format_is f h)
+    let y : Bytes = 34 ∷ (format_text f ++ 34 ∷ z) in
+    let len : ℕ = length (format_text f) in
+    let back : len + 1 - 1 ≡ len = omega arith in
+    let within : slice_range y 1 (len + 1) ≡ format_text f = ap (λ (k : ℕ). take k (format_text f ++ 34 ∷ z)) back ∙ take-append_seam (format_text f) (34 ∷ z) in
+    ap (quoted line y) (inside_quotes f z h) ∙ ap (λ (v : Bytes). Ok (kind.Text (format_of v), len + 2)) within ∙ ap (λ (g : List Piece). Ok (kind.Text g, len + 2)) (format_is f h)

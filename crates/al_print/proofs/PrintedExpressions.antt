@@ -36,20 +36,20 @@ place l = cond (nat_lt l 10) (level l) (cond (nat_lt l 11) unary postfix)
 
 loosen_at : {s s' : State} {x : Expr} (l : ℕ) (p q : Bool) → nat_lt l 9 ≡ p → nat_lt l 10 ≡ q → l ≤ 10 → Reads (place (suc l)) s x s' → Reads (place l) s x s'
 loosen_at {s} {s'} {x} l true q d e le r =
-  let lt : l < 9 = ltb-true _ _ d in
-  let here : nat_lt l 10 ≡ true = lt-ltb _ _ (omega arith) in
-  let next : nat_lt (suc l) 10 ≡ true = lt-ltb _ _ (omega arith) in
-  subst (λ (c : Bool). Reads (cond c (level l) (cond (nat_lt l 11) unary postfix)) s x s') (sym here)
+    let lt : l < 9 = ltb-true _ _ d in
+    let here : nat_lt l 10 ≡ true = lt-ltb _ _ (omega arith) in
+    let next : nat_lt (suc l) 10 ≡ true = lt-ltb _ _ (omega arith) in
+    subst (λ (c : Bool). Reads (cond c (level l) (cond (nat_lt l 11) unary postfix)) s x s') (sym here)
     (g.tighter (omega arith) (subst (λ (c : Bool). Reads (cond c (level (suc l)) (cond (nat_lt (suc l) 11) unary postfix)) s x s') next r))
 loosen_at {s} {s'} {x} l false true d e le r =
-  let ge : 9 ≤ l = ltb-false _ _ d in
-  let lt : l < 10 = ltb-true _ _ e in
-  let is : 9 ≡ l = omega arith in
-  subst (λ (k : ℕ). Reads (place (suc k)) s x s' → Reads (place k) s x s') is (λ q. g.tighter (omega arith) (g.operand q)) r
+    let ge : 9 ≤ l = ltb-false _ _ d in
+    let lt : l < 10 = ltb-true _ _ e in
+    let is : 9 ≡ l = omega arith in
+    subst (λ (k : ℕ). Reads (place (suc k)) s x s' → Reads (place k) s x s') is (λ q. g.tighter (omega arith) (g.operand q)) r
 loosen_at {s} {s'} {x} l false false d e le r =
-  let ge : 10 ≤ l = ltb-false _ _ e in
-  let is : 10 ≡ l = omega arith in
-  subst (λ (k : ℕ). Reads (place (suc k)) s x s' → Reads (place k) s x s') is (λ q. g.plain q) r
+    let ge : 10 ≤ l = ltb-false _ _ e in
+    let is : 10 ≡ l = omega arith in
+    subst (λ (k : ℕ). Reads (place (suc k)) s x s' → Reads (place k) s x s') is (λ q. g.plain q) r
 
 loosen : {s s' : State} {x : Expr} (l : ℕ) → l ≤ 10 → Reads (place (suc l)) s x s' → Reads (place l) s x s'
 loosen l le r = loosen_at l (nat_lt l 9) (nat_lt l 10) refl refl le r
@@ -62,9 +62,9 @@ raise (suc k) l h d le r = loosen l (omega arith) (raise k (suc l) h (omega arit
 to_level_at : {s s' : State} {x : Expr} (l : ℕ) (p : Bool) → nat_lt l 10 ≡ p → l ≤ 10 → Reads (place l) s x s' → Reads (level l) s x s'
 to_level_at {s} {s'} {x} l true d le r = subst (λ (c : Bool). Reads (cond c (level l) (cond (nat_lt l 11) unary postfix)) s x s') d r
 to_level_at {s} {s'} {x} l false d le r =
-  let ge : 10 ≤ l = ltb-false _ _ d in
-  let is : 10 ≡ l = omega arith in
-  subst (λ (k : ℕ). Reads (place k) s x s' → Reads (level k) s x s') is (λ q. g.operand q) r
+    let ge : 10 ≤ l = ltb-false _ _ d in
+    let is : 10 ≡ l = omega arith in
+    subst (λ (k : ℕ). Reads (place k) s x s' → Reads (level k) s x s') is (λ q. g.operand q) r
 
 to_level : {s s' : State} {x : Expr} (l : ℕ) → l ≤ 10 → Reads (place l) s x s' → Reads (level l) s x s'
 to_level l le r = to_level_at l (nat_lt l 10) refl le r
@@ -90,14 +90,14 @@ pub record Printed (x : Expr) (c : ℕ) : Type 0 where
 -- at a place of some level, with the parentheses that it needs
 at_place : {x : Expr} {c : ℕ} (p : Printed x c) (l : ℕ) → l ≤ 11 → (b : Bool) → nat_lt p.head l ≡ b → (n k : ℕ) (vs ws : Tokens) → n ≡ (c + cost b) + k → Has (expression x l) vs ws → Reads (place l) (n, vs) x (k, ws)
 at_place {x} {c} p l le true e n k vs ws room h =
-  let (m₁, a₁, h₁) = first (given (p.is l le ∙ ap (λ (b : Bool). grouped b p.core) e) h) in
-  let (m₂, h₂, h₃) = split p.core h₁ in
-  let inner : Reads (level 0) (c + k, m₁) x (k, m₂) = raise p.head 0 p.head (omega arith) p.top (p.reads (c + k) k m₁ m₂ refl h₂) in
-  let is : suc (c + k) ≡ n = omega arith in
-  subst (λ (q : ℕ). Reads (place l) (q, vs) x (k, ws)) is (raise (11 - l) l 11 (omega arith) (omega arith) (g.bare (g.group a₁ inner (only h₃))))
+    let (m₁, a₁, h₁) = first (given (p.is l le ∙ ap (λ (b : Bool). grouped b p.core) e) h) in
+    let (m₂, h₂, h₃) = split p.core h₁ in
+    let inner : Reads (level 0) (c + k, m₁) x (k, m₂) = raise p.head 0 p.head (omega arith) p.top (p.reads (c + k) k m₁ m₂ refl h₂) in
+    let is : suc (c + k) ≡ n = omega arith in
+    subst (λ (q : ℕ). Reads (place l) (q, vs) x (k, ws)) is (raise (11 - l) l 11 (omega arith) (omega arith) (g.bare (g.group a₁ inner (only h₃))))
 at_place {x} {c} p l le false e n k vs ws room h =
-  let least : l ≤ p.head = ltb-false _ _ e in
-  raise (p.head - l) l p.head (omega arith) p.top (p.reads n k vs ws (omega arith) (whole p.core (given (p.is l le ∙ ap (λ (b : Bool). grouped b p.core) e) h)))
+    let least : l ≤ p.head = ltb-false _ _ e in
+    raise (p.head - l) l p.head (omega arith) p.top (p.reads n k vs ws (omega arith) (whole p.core (given (p.is l le ∙ ap (λ (b : Bool). grouped b p.core) e) h)))
 
 tidy_grouped : (b : Bool) (core : Kinds) → Orderly false core → Orderly false (grouped b core)
 tidy_grouped true core h = orderly false core _ h tt
@@ -202,12 +202,12 @@ law_joined {p} {n} {s} {s'} {x} {y} {op} {k} lt d j a b = record {
     top = omega arith;
     is = λ l le. j.is x y l;
     reads = λ i o vs ws room h.
-      let (m₁, h₁, h₂) = split (expression x p) h in
-      let (m₂, t, h₃) = first h₂ in
-      from_level p lt
+        let (m₁, h₁, h₂) = split (expression x p) h in
+        let (m₂, t, h₃) = first h₂ in
+        from_level p lt
         (g.joined (to_level p (omega arith) (reads_at a (omega arith) i (suc (all_of b (suc p) + o)) vs m₁ (omega arith) h₁))
-          (means_again (ap infix_of (sym j.kind) ∙ d) t)
-          (to_level (suc p) (omega arith) (reads_at b (omega arith) (all_of b (suc p) + o) o m₂ ws refl h₃)));
+        (means_again (ap infix_of (sym j.kind) ∙ d) t)
+        (to_level (suc p) (omega arith) (reads_at b (omega arith) (all_of b (suc p) + o) o m₂ ws refl h₃)));
     tidy = orderly false (expression x p) _ (tidy_at a.printed p (omega arith)) (tidy_at b.printed (suc p) (omega arith));
   };
   fits = joined_fits (all_of a p) (all_of b (suc p)) p n s.0 s'.0 (fits_at a) (fits_at b);
@@ -223,9 +223,9 @@ law_prefixed {n} {s'} {x} {op} {k} d j a = record {
     top = omega arith;
     is = λ l le. j.is x l;
     reads = λ i o vs ws room h.
-      let (m₁, t, h₁) = first h in
-      let is : suc (all_of a 10 + o) ≡ i = omega arith in
-      subst (λ (q : ℕ). Reads unary (q, vs) (apply op x) (o, ws)) is
+        let (m₁, t, h₁) = first h in
+        let is : suc (all_of a 10 + o) ≡ i = omega arith in
+        subst (λ (q : ℕ). Reads unary (q, vs) (apply op x) (o, ws)) is
         (g.prefixed (means_again (ap prefix_of (sym j.kind) ∙ d) t) (reads_at a (omega arith) (all_of a 10 + o) o m₁ ws refl h₁));
     tidy = tidy_at a.printed 10 (omega arith);
   };
@@ -314,12 +314,12 @@ law_allocation {n} {k} {x} {a} b c z r = let q = size z (left c b.rest) in law_t
   core = Key key.Calloc ∷ Mark m.LeftParen ∷ value x ++ Mark m.Comma ∷ size_of a ++ Mark m.RightParen ∷ [];
   is = tokens-Calloc x a;
   reads = λ i o vs ws room h.
-    let (m₁, a₁, h₁) = first h in
-    let (m₂, a₂, h₂) = first h₁ in
-    let (m₃, m₅, h₃, h₄, h₇) = split3 (value x) (Mark m.Comma ∷ size_of a) h₂ in
-    let (m₄, a₃, h₆) = first h₄ in
-    let same : suc (suc (all_of b 0 + o)) ≡ i = omega arith in
-    subst (λ (q : ℕ). Reads postfix (q, vs) (e.Calloc x a) (o, ws)) same
+      let (m₁, a₁, h₁) = first h in
+      let (m₂, a₂, h₂) = first h₁ in
+      let (m₃, m₅, h₃, h₄, h₇) = split3 (value x) (Mark m.Comma ∷ size_of a) h₂ in
+      let (m₄, a₃, h₆) = first h₄ in
+      let same : suc (suc (all_of b 0 + o)) ≡ i = omega arith in
+      subst (λ (q : ℕ). Reads postfix (q, vs) (e.Calloc x a) (o, ws)) same
       (g.bare (g.allocation a₁ a₂ (to_level 0 (omega arith) (reads_at b (omega arith) (all_of b 0 + o) o m₂ m₃ refl h₃)) a₃ (q.reads m₄ m₅ h₆) (only h₇)));
   tidy = orderly3 (value x) (Mark m.Comma ∷ size_of a) _ (tidy_at b.printed 0 (omega arith)) q.tidy tt;
   fits = let f = fits_at b in omega arith;
@@ -332,9 +332,9 @@ law_index {n} {k} {s} {x} {i} a b r = law_tight (record {
   core = expression x 11 ++ Mark m.LeftBracket ∷ value i ++ Mark m.RightBracket ∷ [];
   is = tokens-Index x i;
   reads = λ p o vs ws room h.
-    let (m₁, m₃, h₁, h₂, h₅) = split3 (expression x 11) (Mark m.LeftBracket ∷ value i) h in
-    let (m₂, a₁, h₄) = first h₂ in
-    g.index (reads_at a (omega arith) p (suc (all_of b 0 + o)) vs m₁ (omega arith) h₁) a₁ (to_level 0 (omega arith) (reads_at b (omega arith) (all_of b 0 + o) o m₂ m₃ refl h₄)) (only h₅);
+      let (m₁, m₃, h₁, h₂, h₅) = split3 (expression x 11) (Mark m.LeftBracket ∷ value i) h in
+      let (m₂, a₁, h₄) = first h₂ in
+      g.index (reads_at a (omega arith) p (suc (all_of b 0 + o)) vs m₁ (omega arith) h₁) a₁ (to_level 0 (omega arith) (reads_at b (omega arith) (all_of b 0 + o) o m₂ m₃ refl h₄)) (only h₅);
   tidy = orderly3 (expression x 11) (Mark m.LeftBracket ∷ value i) _ (tidy_at a.printed 11 (omega arith)) (tidy_at b.printed 0 (omega arith)) tt;
   fits = let f = fits_at a in let h = fits_at b in omega arith;
   rest = left r b.rest;
@@ -346,9 +346,9 @@ law_dot {n} {s} {x} {w} a t r = law_tight (record {
   core = expression x 11 ++ Mark m.Dot ∷ Word w ∷ [];
   is = tokens-Dot x w;
   reads = λ p o vs ws room h.
-    let (m₁, h₁, h₂) = split (expression x 11) h in
-    let (m₂, a₁, h₃) = first h₂ in
-    g.dot (reads_at a (omega arith) p (suc o) vs m₁ (omega arith) h₁) a₁ (only h₃);
+      let (m₁, h₁, h₂) = split (expression x 11) h in
+      let (m₂, a₁, h₃) = first h₂ in
+      g.dot (reads_at a (omega arith) p (suc o) vs m₁ (omega arith) h₁) a₁ (only h₃);
   tidy = orderly false (expression x 11) _ (tidy_at a.printed 11 (omega arith)) (taken r (left t a.rest), tt);
   fits = let f = fits_at a in omega arith;
   rest = left r (left t a.rest);
@@ -360,9 +360,9 @@ law_arrow {n} {s} {x} {w} a t r = law_tight (record {
   core = expression x 11 ++ Mark m.Arrow ∷ Word w ∷ [];
   is = tokens-Arrow x w;
   reads = λ p o vs ws room h.
-    let (m₁, h₁, h₂) = split (expression x 11) h in
-    let (m₂, a₁, h₃) = first h₂ in
-    g.arrow (reads_at a (omega arith) p (suc o) vs m₁ (omega arith) h₁) a₁ (only h₃);
+      let (m₁, h₁, h₂) = split (expression x 11) h in
+      let (m₂, a₁, h₃) = first h₂ in
+      g.arrow (reads_at a (omega arith) p (suc o) vs m₁ (omega arith) h₁) a₁ (only h₃);
   tidy = orderly false (expression x 11) _ (tidy_at a.printed 11 (omega arith)) (taken r (left t a.rest), tt);
   fits = let f = fits_at a in omega arith;
   rest = left r (left t a.rest);
@@ -404,9 +404,9 @@ more_again {x = x} a b = record {
   c = all_of a 0 + b.c;
   commas = refl;
   reads = λ n k vs ms ws room h r.
-    let (m₁, h₁, h₂) = split (value x) h in
-    let (m₂, a₁, h₃) = first (given b.commas h₂) in
-    g.more (to_level 0 (omega arith) (reads_at a (omega arith) n (b.c + k) vs m₁ (omega arith) h₁)) a₁ (b.reads (b.c + k) k m₂ ms ws refl h₃ r);
+      let (m₁, h₁, h₂) = split (value x) h in
+      let (m₂, a₁, h₃) = first (given b.commas h₂) in
+      g.more (to_level 0 (omega arith) (reads_at a (omega arith) n (b.c + k) vs m₁ (omega arith) h₁)) a₁ (b.reads (b.c + k) k m₂ ms ws refl h₃ r);
   tidy = orderly false (value x) _ (tidy_at a.printed 0 (omega arith)) (tidied b.commas b.tidy);
   fits = let f = fits_at a in let h = b.fits in omega arith;
   rest = b.rest;
@@ -418,11 +418,11 @@ law_call {n} {w} {xs} {s'} named a = law_tight (record {
   core = Word w ∷ Mark m.LeftParen ∷ with_commas (values xs) ++ Mark m.RightParen ∷ [];
   is = tokens-Call w xs;
   reads = λ i o vs ws room h.
-    let (m₁, a₁, h₁) = first h in
-    let (m₂, a₂, h₂) = first h₁ in
-    let (m₃, h₃, h₄) = split (with_commas (values xs)) h₂ in
-    let same : suc (a.c + o) ≡ i = omega arith in
-    subst (λ (q : ℕ). Reads postfix (q, vs) (e.Call w xs) (o, ws)) same (g.bare (g.call a₁ a₂ (a.reads (a.c + o) o m₂ m₃ ws refl h₃ (only h₄))));
+      let (m₁, a₁, h₁) = first h in
+      let (m₂, a₂, h₂) = first h₁ in
+      let (m₃, h₃, h₄) = split (with_commas (values xs)) h₂ in
+      let same : suc (a.c + o) ≡ i = omega arith in
+      subst (λ (q : ℕ). Reads postfix (q, vs) (e.Call w xs) (o, ws)) same (g.bare (g.call a₁ a₂ (a.reads (a.c + o) o m₂ m₃ ws refl h₃ (only h₄))));
   tidy = (named, orderly false (with_commas (values xs)) _ a.tidy tt);
   fits = let f = a.fits in omega arith;
   rest = a.rest;
@@ -449,9 +449,9 @@ found (means {t = t} d) = record { kind = t.kind; is = d }
 mutual
   pub law : {j : Sort} {s s' : State} {x : Expr} → Reads j s x s' → AllWritable s.1 → Law (place_of j) s x s'
   law (g.joined {p = p} {op = op} r t q) h =
-    let a = law r h in
-    let f = found t in
-    law_joined (infix_level f.kind p op f.is) f.is (joins f.kind (p, op) f.is) a (law q (means_left t a.rest))
+      let a = law r h in
+      let f = found t in
+      law_joined (infix_level f.kind p op f.is) f.is (joins f.kind (p, op) f.is) a (law q (means_left t a.rest))
   law (g.tighter lt r) h = law_looser (law r h)
   law (g.operand r) h = law r h
   law (g.prefixed {op = op} t r) h = let f = found t in law_prefixed f.is (prefixes f.kind op f.is) (law r (means_left t h))
@@ -480,23 +480,23 @@ mutual
 
 pub whole_expression : {ts us : Tokens} {x : Expr} → Expression ts x us → AllWritable ts → Again (λ vs ws. Expression vs x ws) (value x) us
 whole_expression {x = x} q h =
-  let a = law q.reads h in
-  let f = fits_at a in
-  record {
-    reads = λ vs ws k. record { left = 128 - all_of a 0; reads = to_level 0 (omega arith) (reads_at a (omega arith) 128 (128 - all_of a 0) vs ws (omega arith) k) };
-    tidy = tidy_at a.printed 0 (omega arith);
-    left = a.rest;
-  }
+    let a = law q.reads h in
+    let f = fits_at a in
+    record {
+      reads = λ vs ws k. record { left = 128 - all_of a 0; reads = to_level 0 (omega arith) (reads_at a (omega arith) 128 (128 - all_of a 0) vs ws (omega arith) k) };
+      tidy = tidy_at a.printed 0 (omega arith);
+      left = a.rest;
+    }
 
 pub place_again : {ts us : Tokens} {x : Expr} → Place ts x us → AllWritable ts → Again (λ vs ws. Place vs x ws) (expression x 10) us
 place_again {x = x} q h =
-  let a = law q.reads h in
-  let f = fits_at a in
-  record {
-    reads = λ vs ws k. record { left = 128 - all_of a 10; reads = reads_at a (omega arith) 128 (128 - all_of a 10) vs ws (omega arith) k };
-    tidy = tidy_at a.printed 10 (omega arith);
-    left = a.rest;
-  }
+    let a = law q.reads h in
+    let f = fits_at a in
+    record {
+      reads = λ vs ws k. record { left = 128 - all_of a 10; reads = reads_at a (omega arith) 128 (128 - all_of a 10) vs ws (omega arith) k };
+      tidy = tidy_at a.printed 10 (omega arith);
+      left = a.rest;
+    }
 
 pub literal : {v : ℤ} {vs ws : Tokens} → Takes (Number v) vs ws → Expression vs (e.Number v) ws
 literal t = record { left = 128; reads = to_level 0 (omega arith) (raise 11 0 11 (omega arith) (omega arith) (g.bare (g.number t))) }

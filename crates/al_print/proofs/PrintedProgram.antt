@@ -47,39 +47,39 @@ join_fields {ts} {us} {vs} {gs = gs} (g.more {fs = fs} {gs = hs} b n r) k = subs
 -- the fields of one line, each on its own
 field_names : {a : CType} {ts us bs : Tokens} {fs : List Field} → FieldNames a ts fs us → BaseAgain a bs → AllWritable ts → Again (λ vs ws. Fields vs fs ws) (fields fs) us
 field_names (g.last {f = f} d t) p h =
-  let c = declarator d p.flat h in
-  record {
-    reads = λ vs ws k.
-      let (m₁, k₁, k₂) = split (declared f.ty f.name) (whole (field f) k) in
-      let (m₂, k₃, e) = c.reads vs m₁ k₁ in
-      g.last (p.again.reads vs m₂ k₃) (g.last e (only k₂));
-    tidy = orderly false (field f) _ (orderly false (declared f.ty f.name) _ (c.tidy p.again.tidy) tt) tt;
-    left = left t c.left;
-  }
+    let c = declarator d p.flat h in
+    record {
+      reads = λ vs ws k.
+          let (m₁, k₁, k₂) = split (declared f.ty f.name) (whole (field f) k) in
+          let (m₂, k₃, e) = c.reads vs m₁ k₁ in
+          g.last (p.again.reads vs m₂ k₃) (g.last e (only k₂));
+      tidy = orderly false (field f) _ (orderly false (declared f.ty f.name) _ (c.tidy p.again.tidy) tt) tt;
+      left = left t c.left;
+    }
 field_names (g.more {f = f} {fs = fs} d t r) p h =
-  let c = declarator d p.flat h in
-  let b = field_names r p (left t c.left) in
-  record {
-    reads = λ vs ws k.
-      let (m₁, k₁, k₂) = split (field f) k in
-      let (m₂, k₃, k₄) = split (declared f.ty f.name) k₁ in
-      let (m₃, k₅, e) = c.reads vs m₂ k₃ in
-      g.more (p.again.reads vs m₃ k₅) (g.last e (only k₄)) (b.reads m₁ ws k₂);
-    tidy = orderly false (field f) _ (orderly false (declared f.ty f.name) _ (c.tidy p.again.tidy) tt) b.tidy;
-    left = b.left;
-  }
+    let c = declarator d p.flat h in
+    let b = field_names r p (left t c.left) in
+    record {
+      reads = λ vs ws k.
+          let (m₁, k₁, k₂) = split (field f) k in
+          let (m₂, k₃, k₄) = split (declared f.ty f.name) k₁ in
+          let (m₃, k₅, e) = c.reads vs m₂ k₃ in
+          g.more (p.again.reads vs m₃ k₅) (g.last e (only k₄)) (b.reads m₁ ws k₂);
+      tidy = orderly false (field f) _ (orderly false (declared f.ty f.name) _ (c.tidy p.again.tidy) tt) b.tidy;
+      left = b.left;
+    }
 
 all_fields : {ts us : Tokens} {fs : List Field} → Fields ts fs us → AllWritable ts → Again (λ vs ws. Fields vs fs ws) (fields fs) us
 all_fields (g.last b n) h = let p = base b h in field_names n p p.again.left
 all_fields (g.more {fs = fs} {gs = gs} b n r) h =
-  let p = base b h in
-  let c = field_names n p p.again.left in
-  let d = all_fields r c.left in
-  record {
-    reads = λ vs ws k. let (m₁, k₁, k₂) = split (fields fs) (given (fields-append fs gs) k) in join_fields (c.reads vs m₁ k₁) (d.reads m₁ ws k₂);
-    tidy = tidied (fields-append fs gs) (orderly false (fields fs) _ c.tidy d.tidy);
-    left = d.left;
-  }
+    let p = base b h in
+    let c = field_names n p p.again.left in
+    let d = all_fields r c.left in
+    record {
+      reads = λ vs ws k. let (m₁, k₁, k₂) = split (fields fs) (given (fields-append fs gs) k) in join_fields (c.reads vs m₁ k₁) (d.reads m₁ ws k₂);
+      tidy = tidied (fields-append fs gs) (orderly false (fields fs) _ c.tidy d.tidy);
+      left = d.left;
+    }
 
 -- ---- globals
 
@@ -119,36 +119,35 @@ items-append : (is js : List Item) → items_tokens (is ++ js) ≡ items_tokens 
 items-append [] js = refl
 items-append (i ∷ is) js = ap (λ (ks : Kinds). item_tokens i ++ ks) (items-append is js) ∙ sym (append_assoc (item_tokens i) (items_tokens is) (items_tokens js))
 
-
 one_global : {a : CType} {bs us : Tokens} (l : ℕ) (f : Field) (s : Start) → BaseAgain a bs → DeclaredAgain a f us
     → ((vs ws : Tokens) → Has (start_value s) vs ws → Starts vs s ws)
     → (vs ws : Tokens) → Has (item_tokens (global l f s)) vs ws → Items vs (global (line_at vs) f s ∷ []) ws
 one_global l f s p c r vs ws k =
-  let (m₁, m₂, k₁, k₂, k₃) = split3 (declared f.ty f.name) (start_value s) k in
-  let (m₃, k₄, e) = c.reads vs m₁ k₁ in
-  g.globals (p.again.reads vs m₃ k₄) (g.last e (r m₁ m₂ k₂) (only k₃))
+    let (m₁, m₂, k₁, k₂, k₃) = split3 (declared f.ty f.name) (start_value s) k in
+    let (m₃, k₄, e) = c.reads vs m₁ k₁ in
+    g.globals (p.again.reads vs m₃ k₄) (g.last e (r m₁ m₂ k₂) (only k₃))
 
 globals : {l : ℕ} {a : CType} {ts us bs : Tokens} {is : List Item} → Globals l a ts is us → BaseAgain a bs → AllWritable ts → ItemsAgain is us
 globals {l} (g.last {f = f} {s = s} d r t) p h =
-  let c = declarator d p.flat h in
-  let v = starts r c.left in
-  record {
-    reads = λ vs ws qs k q. (global (line_at vs) f s ∷ [], g.next (one_global l f s p c v.reads vs ws (whole (item_tokens (global l f s)) k)) q, record { is = refl });
-    tidy = orderly false (item_tokens (global l f s)) _ (orderly3 (declared f.ty f.name) (start_value s) _ (c.tidy p.again.tidy) v.tidy tt) tt;
-    left = left t v.left;
-  }
+    let c = declarator d p.flat h in
+    let v = starts r c.left in
+    record {
+      reads = λ vs ws qs k q. (global (line_at vs) f s ∷ [], g.next (one_global l f s p c v.reads vs ws (whole (item_tokens (global l f s)) k)) q, record { is = refl });
+      tidy = orderly false (item_tokens (global l f s)) _ (orderly3 (declared f.ty f.name) (start_value s) _ (c.tidy p.again.tidy) v.tidy tt) tt;
+      left = left t v.left;
+    }
 globals {l} (g.more {f = f} {s = s} d r t n) p h =
-  let c = declarator d p.flat h in
-  let v = starts r c.left in
-  let b = globals n p (left t v.left) in
-  record {
-    reads = λ vs ws qs k q.
-      let (m₁, k₁, k₂) = split (item_tokens (global l f s)) k in
-      let (js, o, z) = b.reads m₁ ws qs k₂ q in
-      (global (line_at vs) f s ∷ js, g.next (one_global l f s p c v.reads vs m₁ k₁) o, record { is = ap (λ (xs : List Item). global 0 f s ∷ xs) z.is });
-    tidy = orderly false (item_tokens (global l f s)) _ (orderly3 (declared f.ty f.name) (start_value s) _ (c.tidy p.again.tidy) v.tidy tt) b.tidy;
-    left = b.left;
-  }
+    let c = declarator d p.flat h in
+    let v = starts r c.left in
+    let b = globals n p (left t v.left) in
+    record {
+      reads = λ vs ws qs k q.
+          let (m₁, k₁, k₂) = split (item_tokens (global l f s)) k in
+          let (js, o, z) = b.reads m₁ ws qs k₂ q in
+          (global (line_at vs) f s ∷ js, g.next (one_global l f s p c v.reads vs m₁ k₁) o, record { is = ap (λ (xs : List Item). global 0 f s ∷ xs) z.is });
+      tidy = orderly false (item_tokens (global l f s)) _ (orderly3 (declared f.ty f.name) (start_value s) _ (c.tidy p.again.tidy) v.tidy tt) b.tidy;
+      left = b.left;
+    }
 
 -- ---- functions
 
@@ -161,18 +160,18 @@ result_base (g.void t) h = record { again = record { reads = λ vs ws k. g.void 
 
 param : {ts us : Tokens} {f : Field} → Param ts f us → AllWritable ts → Again (λ vs ws. Param vs f ws) (parameter f) us
 param (g.param {a = a} {b = b} {w = w} x s t) h =
-  let p = base x h in
-  let q = stars s p.again.left in
-  let flat : dimensions b ≡ [] = q.flat ∙ p.flat in
-  let is : parameter (record { name = w; ty = b }) ≡ (type_front a ++ q.marks) ++ Word w ∷ [] =
+    let p = base x h in
+    let q = stars s p.again.left in
+    let flat : dimensions b ≡ [] = q.flat ∙ p.flat in
+    let is : parameter (record { name = w; ty = b }) ≡ (type_front a ++ q.marks) ++ Word w ∷ [] =
     ap (λ (ks : Kinds). type_front b ++ Word w ∷ ks) flat ∙ ap (λ (ks : Kinds). ks ++ Word w ∷ []) q.front in
-  record {
-    reads = λ vs ws k.
-      let (m₁, m₂, k₁, k₂, k₃) = split3 (type_front a) q.marks (given is k) in
-      g.param (p.again.reads vs m₁ k₁) (q.again.reads m₁ m₂ k₂) (only k₃);
-    tidy = tidied is (orderly3 (type_front a) q.marks _ p.again.tidy q.again.tidy (taken t q.again.left, tt));
-    left = left t q.again.left;
-  }
+    record {
+      reads = λ vs ws k.
+          let (m₁, m₂, k₁, k₂, k₃) = split3 (type_front a) q.marks (given is k) in
+          g.param (p.again.reads vs m₁ k₁) (q.again.reads m₁ m₂ k₂) (only k₃);
+      tidy = tidied is (orderly3 (type_front a) q.marks _ p.again.tidy q.again.tidy (taken t q.again.left, tt));
+      left = left t q.again.left;
+    }
 
 -- parameters before the `)`
 record ParamsAgain (fs : List Field) (us : Tokens) : Type 0 where
@@ -191,9 +190,9 @@ param_list (g.last {f = f} x t) h = let a = param x h in record {
 param_list (g.more {f = f} x t n) h = let a = param x h in let b = param_list n (left t a.left) in record {
   commas = refl;
   reads = λ vs ms ws k r.
-    let (m₁, k₁, k₂) = split (parameter f) k in
-    let (m₂, a₁, k₃) = first (given b.commas k₂) in
-    g.more (a.reads vs m₁ k₁) a₁ (b.reads m₂ ms ws k₃ r);
+      let (m₁, k₁, k₂) = split (parameter f) k in
+      let (m₂, a₁, k₃) = first (given b.commas k₂) in
+      g.more (a.reads vs m₁ k₁) a₁ (b.reads m₂ ms ws k₃ r);
   tidy = orderly false (parameter f) _ a.tidy (tidied b.commas b.tidy);
   left = b.left;
 }
@@ -215,44 +214,45 @@ all_params (g.some q) h = let a = param_list q h in record { reads = λ vs ms ws
 
 items : {ts us : Tokens} {is : List Item} → Items ts is us → AllWritable ts → ItemsAgain is us
 items (g.structure {t₀ = t₀} {w = w} {fs = fs} t u v q x y) h =
-  let a = all_fields q (left v (left u (left t h))) in
-  let s : StructDef = record { name = w; fields = fs; line = line_at t₀ } in
-  record {
-    reads = λ vs ws qs k q.
-      let (m₁, a₁, k₁) = first (whole (structure s) k) in
-      let (m₂, a₂, k₂) = first k₁ in
-      let (m₃, a₃, k₃) = first k₂ in
-      let (m₄, k₄, k₅) = split (fields fs) k₃ in
-      let (m₅, a₄, k₆) = first k₅ in
-      (item.Struct (record { name = w; fields = fs; line = line_at vs }) ∷ [], g.next (g.structure a₁ a₂ a₃ (a.reads m₃ m₄ k₄) a₄ (only k₆)) q, record { is = refl });
-    tidy = orderly false (structure s) _ (taken u (left t h), orderly false (fields fs) _ a.tidy tt) tt;
-    left = left y (left x a.left);
-  }
+    let a = all_fields q (left v (left u (left t h))) in
+    let s : StructDef = record { name = w; fields = fs; line = line_at t₀ } in
+    record {
+      reads = λ vs ws qs k q.
+          let (m₁, a₁, k₁) = first (whole (structure s) k) in
+          let (m₂, a₂, k₂) = first k₁ in
+          let (m₃, a₃, k₃) = first k₂ in
+          let (m₄, k₄, k₅) = split (fields fs) k₃ in
+          let (m₅, a₄, k₆) = first k₅ in
+          (item.Struct (record { name = w; fields = fs; line = line_at vs }) ∷ [], g.next (g.structure a₁ a₂ a₃ (a.reads m₃ m₄ k₄) a₄ (only k₆)) q, record { is = refl });
+      tidy = orderly false (structure s) _ (taken u (left t h), orderly false (fields fs) _ a.tidy tt) tt;
+      left = left y (left x a.left);
+    }
 items (g.globals b n) h = let p = base b h in globals n p p.again.left
 items (g.function {t₀ = t₀} {a = a} {b = b} {w = w} {fs = fs} {ss = ss} x s t u p v q y) h =
-  let c = result_base x h in
-  let d = stars s c.again.left in
-  let e = all_params p (left u (left t d.again.left)) in
-  let i = inners_again q (left v e.left) in
-  let f : Func = record { name = w; result = b; params = fs; body = ss; line = line_at t₀ } in
-  record {
-    reads = λ vs ws qs k q.
-      let (m₁, m₂, k₁, k₂, k₃) = split3 (signature f) (Mark m.LeftBrace ∷ statements ss) (whole (function f) k) in
-      let (m₃, m₄, k₄, k₅, k₆) = split3 (type_front b) (Word w ∷ Mark m.LeftParen ∷ parameters fs) k₁ in
-      let (m₅, k₇, k₈) = split (type_front a) (given d.front k₄) in
-      let (m₆, a₁, k₉) = first k₅ in
-      let (m₇, a₂, k₁₀) = first k₉ in
-      let (m₈, a₃, k₁₁) = first k₂ in
-      let a₄ = only k₃ in
-      let (rs, n, z) = i.reads m₈ m₂ (takes_other a₄ refl) k₁₁ in
-      (item.Func (record { name = w; result = b; params = fs; body = rs; line = line_at vs }) ∷ [],
-        g.next (g.function (c.again.reads vs m₅ k₇) (d.again.reads m₅ m₃ k₈) a₁ a₂ (e.reads m₇ m₄ m₁ k₁₀ (only k₆)) a₃ n a₄) q,
-        record { is = ap (λ (xs : List Stmt). item.Func (record { name = w; result = b; params = fs; body = xs; line = 0 }) ∷ []) z.is });
-    tidy = orderly false (function f) _
-      (orderly3 (signature f) (Mark m.LeftBrace ∷ statements ss) _
-        (orderly3 (type_front b) (Word w ∷ Mark m.LeftParen ∷ parameters fs) _ (tidied d.front (orderly false (type_front a) _ c.again.tidy d.again.tidy)) (taken t d.again.left, e.tidy) tt) i.tidy tt) tt;
-    left = left y i.left;
-  }
+    let c = result_base x h in
+    let d = stars s c.again.left in
+    let e = all_params p (left u (left t d.again.left)) in
+    let i = inners_again q (left v e.left) in
+    let f : Func = record { name = w; result = b; params = fs; body = ss; line = line_at t₀ } in
+    record {
+      reads = λ vs ws qs k q.
+          let (m₁, m₂, k₁, k₂, k₃) = split3 (signature f) (Mark m.LeftBrace ∷ statements ss) (whole (function f) k) in
+          let (m₃, m₄, k₄, k₅, k₆) = split3 (type_front b) (Word w ∷ Mark m.LeftParen ∷ parameters fs) k₁ in
+          let (m₅, k₇, k₈) = split (type_front a) (given d.front k₄) in
+          let (m₆, a₁, k₉) = first k₅ in
+          let (m₇, a₂, k₁₀) = first k₉ in
+          let (m₈, a₃, k₁₁) = first k₂ in
+          let a₄ = only k₃ in
+          let (rs, n, z) = i.reads m₈ m₂ (takes_other a₄ refl) k₁₁ in (
+            item.Func (record { name = w; result = b; params = fs; body = rs; line = line_at vs }) ∷ [],
+            g.next (g.function (c.again.reads vs m₅ k₇) (d.again.reads m₅ m₃ k₈) a₁ a₂ (e.reads m₇ m₄ m₁ k₁₀ (only k₆)) a₃ n a₄) q,
+            record { is = ap (λ (xs : List Stmt). item.Func (record { name = w; result = b; params = fs; body = xs; line = 0 }) ∷ []) z.is },
+          );
+      tidy = orderly false (function f) _
+          (orderly3 (signature f) (Mark m.LeftBrace ∷ statements ss) _
+          (orderly3 (type_front b) (Word w ∷ Mark m.LeftParen ∷ parameters fs) _ (tidied d.front (orderly false (type_front a) _ c.again.tidy d.again.tidy)) (taken t d.again.left, e.tidy) tt) i.tidy tt) tt;
+      left = left y i.left;
+    }
 
 -- what is printed of a whole program
 pub record ProgramAgain (is : List Item) : Type 0 where
@@ -265,13 +265,13 @@ at_end none = ([], g.end, refl)
 pub program : {ts : Tokens} {is : List Item} → AllItems ts is → AllWritable ts → ProgramAgain is
 program g.end h = record { reads = λ vs k. at_end k; tidy = tt }
 program (g.next {is = is} {js = js} q r) h =
-  let a = items q h in
-  let b = program r a.left in
-  record {
-    reads = λ vs k.
-      let (m₁, k₁, k₂) = split (items_tokens is) (given (items-append is js) k) in
-      let (ys, o, z) = b.reads m₁ k₂ in
-      let (xs, p, w) = a.reads vs m₁ ys k₁ o in
-      (xs ++ ys, p, map-append unlined_item xs ys ∙ ap (λ (l : List Item). l ++ map unlined_item ys) w.is ∙ ap (λ (l : List Item). map unlined_item is ++ l) z ∙ sym (map-append unlined_item is js));
-    tidy = tidied (items-append is js) (orderly false (items_tokens is) _ a.tidy b.tidy);
-  }
+    let a = items q h in
+    let b = program r a.left in
+    record {
+      reads = λ vs k.
+          let (m₁, k₁, k₂) = split (items_tokens is) (given (items-append is js) k) in
+          let (ys, o, z) = b.reads m₁ k₂ in
+          let (xs, p, w) = a.reads vs m₁ ys k₁ o in
+          (xs ++ ys, p, map-append unlined_item xs ys ∙ ap (λ (l : List Item). l ++ map unlined_item ys) w.is ∙ ap (λ (l : List Item). map unlined_item is ++ l) z ∙ sym (map-append unlined_item is js));
+      tidy = tidied (items-append is js) (orderly false (items_tokens is) _ a.tidy b.tidy);
+    }

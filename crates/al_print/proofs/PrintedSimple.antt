@@ -61,9 +61,9 @@ all_values (g.last {x = x} q t) h = let a = whole_expression q h in record {
 all_values (g.more {x = x} q t r) h = let a = whole_expression q h in let b = all_values r (left t a.left) in record {
   commas = refl;
   reads = λ vs ms ws k r.
-    let (m₁, k₁, k₂) = split (value x) k in
-    let (m₂, a₁, k₃) = first (given b.commas k₂) in
-    g.more (a.reads vs m₁ k₁) a₁ (b.reads m₂ ms ws k₃ r);
+      let (m₁, k₁, k₂) = split (value x) k in
+      let (m₂, a₁, k₃) = first (given b.commas k₂) in
+      g.more (a.reads vs m₁ k₁) a₁ (b.reads m₂ ms ws k₃ r);
   tidy = orderly false (value x) _ a.tidy (tidied b.commas b.tidy);
   left = b.left;
 }
@@ -131,9 +131,9 @@ step_again {x} {op} u a h = record {
   is = kind-Update op x one;
   again = record {
     reads = λ vs ws k.
-      let (m₁, k₁, k₂) = split (expression x 10) k in
-      let (m₂, a₁, k₃) = first k₂ in
-      g.update (a.reads vs m₁ k₁) (means_again u.is a₁) (literal (only (given (tokens-Number (pos 1) 0) k₃)));
+        let (m₁, k₁, k₂) = split (expression x 10) k in
+        let (m₂, a₁, k₃) = first k₂ in
+        g.update (a.reads vs m₁ k₁) (means_again u.is a₁) (literal (only (given (tokens-Number (pos 1) 0) k₃)));
     tidy = orderly false (expression x 10) _ a.tidy (tidied (tokens-Number (pos 1) 0) (omega arith, tt));
     left = h;
   };
@@ -141,70 +141,70 @@ step_again {x} {op} u a h = record {
 
 pub simple : {ts us : Tokens} {k : StmtKind} → Simple ts k us → AllWritable ts → SimpleAgain k us
 simple (g.assign {x = x} {y = y} p t q) h =
-  let a = place_again p h in
-  let b = whole_expression q (left t a.left) in
-  record {
-    core = expression x 10 ++ Mark m.Assign ∷ value y;
-    is = kind-Assign x y;
-    again = record {
-      reads = λ vs ws k.
-        let (m₁, k₁, k₂) = split (expression x 10) k in
-        let (m₂, a₁, k₃) = first k₂ in
-        g.assign (a.reads vs m₁ k₁) a₁ (b.reads m₂ ws k₃);
-      tidy = orderly false (expression x 10) _ a.tidy b.tidy;
-      left = b.left;
-    };
-  }
+    let a = place_again p h in
+    let b = whole_expression q (left t a.left) in
+    record {
+      core = expression x 10 ++ Mark m.Assign ∷ value y;
+      is = kind-Assign x y;
+      again = record {
+        reads = λ vs ws k.
+            let (m₁, k₁, k₂) = split (expression x 10) k in
+            let (m₂, a₁, k₃) = first k₂ in
+            g.assign (a.reads vs m₁ k₁) a₁ (b.reads m₂ ws k₃);
+        tidy = orderly false (expression x 10) _ a.tidy b.tidy;
+        left = b.left;
+      };
+    }
 simple (g.update {x = x} {y = y} {op = op} p t q) h =
-  let a = place_again p h in
-  let b = whole_expression q (means_left t a.left) in
-  let f = found t in
-  let u = updates f.kind op f.is in
-  record {
-    core = expression x 10 ++ Mark (update_mark op) ∷ value y;
-    is = kind-Update op x y;
-    again = record {
-      reads = λ vs ws k.
-        let (m₁, k₁, k₂) = split (expression x 10) k in
-        let (m₂, a₁, k₃) = first k₂ in
-        g.update (a.reads vs m₁ k₁) (means_again u.is a₁) (b.reads m₂ ws k₃);
-      tidy = orderly false (expression x 10) _ a.tidy b.tidy;
-      left = b.left;
-    };
-  }
+    let a = place_again p h in
+    let b = whole_expression q (means_left t a.left) in
+    let f = found t in
+    let u = updates f.kind op f.is in
+    record {
+      core = expression x 10 ++ Mark (update_mark op) ∷ value y;
+      is = kind-Update op x y;
+      again = record {
+        reads = λ vs ws k.
+            let (m₁, k₁, k₂) = split (expression x 10) k in
+            let (m₂, a₁, k₃) = first k₂ in
+            g.update (a.reads vs m₁ k₁) (means_again u.is a₁) (b.reads m₂ ws k₃);
+        tidy = orderly false (expression x 10) _ a.tidy b.tidy;
+        left = b.left;
+      };
+    }
 simple (g.step_after {op = op} p t) h = let a = place_again p h in let f = found t in step_again (steps f.kind op f.is) a (means_left t a.left)
 simple (g.step_before {op = op} t p) h = let a = place_again p (means_left t h) in let f = found t in step_again (steps f.kind op f.is) a a.left
 simple (g.call {w = w} {xs = xs} t u q) h =
-  let a = call_values q (left u (left t h)) in
-  record {
-    core = Word w ∷ Mark m.LeftParen ∷ with_commas (values xs) ++ Mark m.RightParen ∷ [];
-    is = λ b. kind-Call w xs b ∙ sym (append_assoc (Word w ∷ Mark m.LeftParen ∷ with_commas (values xs)) (Mark m.RightParen ∷ []) (end b));
-    again = record {
-      reads = λ vs ws k.
-        let (m₁, a₁, k₁) = first k in
-        let (m₂, a₂, k₂) = first k₁ in
-        let (m₃, k₃, k₄) = split (with_commas (values xs)) k₂ in
-        g.call a₁ a₂ (a.reads m₂ m₃ ws k₃ (only k₄));
-      tidy = (taken t h, orderly false (with_commas (values xs)) _ a.tidy tt);
-      left = a.left;
-    };
-  }
+    let a = call_values q (left u (left t h)) in
+    record {
+      core = Word w ∷ Mark m.LeftParen ∷ with_commas (values xs) ++ Mark m.RightParen ∷ [];
+      is = λ b. kind-Call w xs b ∙ sym (append_assoc (Word w ∷ Mark m.LeftParen ∷ with_commas (values xs)) (Mark m.RightParen ∷ []) (end b));
+      again = record {
+        reads = λ vs ws k.
+            let (m₁, a₁, k₁) = first k in
+            let (m₂, a₂, k₂) = first k₁ in
+            let (m₃, k₃, k₄) = split (with_commas (values xs)) k₂ in
+            g.call a₁ a₂ (a.reads m₂ m₃ ws k₃ (only k₄));
+        tidy = (taken t h, orderly false (with_commas (values xs)) _ a.tidy tt);
+        left = a.left;
+      };
+    }
 simple (g.print {f = f} {xs = xs} t u x q) h =
-  let a = print_values q (left x (left u (left t h))) in
-  record {
-    core = Key key.Printf ∷ Mark m.LeftParen ∷ Text f ∷ after_commas (values xs) ++ Mark m.RightParen ∷ [];
-    is = λ b. kind-Print f xs b ∙ sym (append_assoc (Key key.Printf ∷ Mark m.LeftParen ∷ Text f ∷ after_commas (values xs)) (Mark m.RightParen ∷ []) (end b));
-    again = record {
-      reads = λ vs ws k.
-        let (m₁, a₁, k₁) = first k in
-        let (m₂, a₂, k₂) = first k₁ in
-        let (m₃, a₃, k₃) = first k₂ in
-        let (m₄, k₄, k₅) = split (after_commas (values xs)) k₃ in
-        g.print a₁ a₂ a₃ (a.reads m₃ m₄ ws k₄ (only k₅));
-      tidy = (taken x (left u (left t h)), orderly false (after_commas (values xs)) _ a.tidy tt);
-      left = a.left;
-    };
-  }
+    let a = print_values q (left x (left u (left t h))) in
+    record {
+      core = Key key.Printf ∷ Mark m.LeftParen ∷ Text f ∷ after_commas (values xs) ++ Mark m.RightParen ∷ [];
+      is = λ b. kind-Print f xs b ∙ sym (append_assoc (Key key.Printf ∷ Mark m.LeftParen ∷ Text f ∷ after_commas (values xs)) (Mark m.RightParen ∷ []) (end b));
+      again = record {
+        reads = λ vs ws k.
+            let (m₁, a₁, k₁) = first k in
+            let (m₂, a₂, k₂) = first k₁ in
+            let (m₃, a₃, k₃) = first k₂ in
+            let (m₄, k₄, k₅) = split (after_commas (values xs)) k₃ in
+            g.print a₁ a₂ a₃ (a.reads m₃ m₄ ws k₄ (only k₅));
+        tidy = (taken x (left u (left t h)), orderly false (after_commas (values xs)) _ a.tidy tt);
+        left = a.left;
+      };
+    }
 
 -- ---- annotations
 
@@ -260,13 +260,13 @@ no_reductions none = g.none
 reductions : (rs : List NamedRed) {vs ws : Tokens} → Has (all_reduced rs) vs ws → Reductions vs rs ws
 reductions [] k = no_reductions k
 reductions (r ∷ rs) k =
-  let (m₁, a₁, k₁) = first k in
-  let (m₂, a₂, k₂) = first k₁ in
-  let (m₃, a₃, k₃) = first k₂ in
-  let (m₄, a₄, k₄) = first k₃ in
-  let (m₅, a₅, k₅) = first k₄ in
-  let (m₆, a₆, k₆) = first k₅ in
-  g.reduce (means_again refl a₁) a₂ (means_again (operator_means r.op) a₃) a₄ (g.last a₅ a₆) (reductions rs k₆)
+    let (m₁, a₁, k₁) = first k in
+    let (m₂, a₂, k₂) = first k₁ in
+    let (m₃, a₃, k₃) = first k₂ in
+    let (m₄, a₄, k₄) = first k₃ in
+    let (m₅, a₅, k₅) = first k₄ in
+    let (m₆, a₆, k₆) = first k₅ in
+    g.reduce (means_again refl a₁) a₂ (means_again (operator_means r.op) a₃) a₄ (g.last a₅ a₆) (reductions rs k₆)
 
 abbrev AllNamed : List NamedRed → Type 0
 AllNamed [] = Unit {0}
@@ -283,9 +283,9 @@ reduced_names (g.more t u q) h = let a = reduced_names q (left u (left t h)) in 
 reduction_names : {ts us : Tokens} {rs : List NamedRed} → Reductions ts rs us → AllWritable ts → AllNamed rs × AllWritable us
 reduction_names g.none h = (tt, h)
 reduction_names (g.reduce {ns = ns} t u o c n q) h =
-  let a = reduced_names n (left c (means_left o (left u (means_left t h)))) in
-  let b = reduction_names q a.1 in
-  (all_named ns _ a.0 b.0, b.1)
+    let a = reduced_names n (left c (means_left o (left u (means_left t h)))) in
+    let b = reduction_names q a.1 in
+    (all_named ns _ a.0 b.0, b.1)
 
 reduced_tidy : (rs : List NamedRed) (ks : Kinds) → AllNamed rs → Orderly true ks → Orderly true (all_reduced rs ++ ks)
 reduced_tidy [] ks h k = k
@@ -307,17 +307,17 @@ pub record NoteAgain (n : LoopNote) (us : Tokens) : Type 0 where
 
 pub whole_note : {ts us : Tokens} {n : LoopNote} → Note ts n us → AllWritable ts → NoteAgain n us
 whole_note (g.note {p = p} {o = o} {rs = rs} a b c) h =
-  let q = reduction_names c (left_order b (left_policy a h)) in
-  record {
-    reads = λ vs ws k.
-      let (m₁, a₁, k₁) = first k in
-      let (m₂, a₂, k₂) = first k₁ in
-      let (m₃, a₃, k₃) = first k₂ in
-      let (m₄, k₄, k₅) = split (all_reduced rs) k₃ in
-      (m₁, m₄, a₁, g.note (g.written (means_again (policy_means p) a₂)) (g.written (means_again (order_means o) a₃)) (reductions rs k₄), only k₅);
-    tidy = policy_tidy p _ (order_tidy o _ (reduced_tidy rs (EndAlter ∷ []) q.0 tt));
-    left = q.1;
-  }
+    let q = reduction_names c (left_order b (left_policy a h)) in
+    record {
+      reads = λ vs ws k.
+          let (m₁, a₁, k₁) = first k in
+          let (m₂, a₂, k₂) = first k₁ in
+          let (m₃, a₃, k₃) = first k₂ in
+          let (m₄, k₄, k₅) = split (all_reduced rs) k₃ in
+          (m₁, m₄, a₁, g.note (g.written (means_again (policy_means p) a₂)) (g.written (means_again (order_means o) a₃)) (reductions rs k₄), only k₅);
+      tidy = policy_tidy p _ (order_tidy o _ (reduced_tidy rs (EndAlter ∷ []) q.0 tt));
+      left = q.1;
+    }
 
 -- ---- the head of a loop
 
@@ -358,20 +358,20 @@ no_third none = g.nothing
 first_part : {ts us : Tokens} {x : Option Stmt} → First ts x us → AllWritable ts → PartAgain First x us
 first_part g.nothing h = record { reads = λ vs ws k. (None, no_first k, same_none); tidy = tt; left = h }
 first_part (g.declares {ts = ts} {a = a} {f = f} {x = x} b d t q) h =
-  let p = base b h in
-  let c = declarator d p.flat p.again.left in
-  let v = whole_expression q (left t c.left) in
-  let is : part_of (Some (at ts (kind.Declare f.ty f.name (Some x)))) ≡ declared f.ty f.name ++ Mark m.Assign ∷ value x =
+    let p = base b h in
+    let c = declarator d p.flat p.again.left in
+    let v = whole_expression q (left t c.left) in
+    let is : part_of (Some (at ts (kind.Declare f.ty f.name (Some x)))) ≡ declared f.ty f.name ++ Mark m.Assign ∷ value x =
     statement_is (at ts (kind.Declare f.ty f.name (Some x))) false ∙ kind-Declare f.ty f.name (Some x) false ∙ append-nil (declared f.ty f.name ++ Mark m.Assign ∷ value x) in
-  record {
-    reads = λ vs ws k.
-      let (m₁, k₁, k₂) = split (declared f.ty f.name) (given is k) in
-      let (m₂, k₃, e) = c.reads vs m₁ k₁ in
-      let (m₃, a₁, k₄) = first k₂ in
-      (Some (at vs (kind.Declare f.ty f.name (Some x))), g.declares (p.again.reads vs m₂ k₃) e a₁ (v.reads m₃ ws k₄), same_some (same_line (line_at vs) (line_at ts) (kind.Declare f.ty f.name (Some x))));
-    tidy = tidied is (orderly false (declared f.ty f.name) _ (c.tidy p.again.tidy) v.tidy);
-    left = v.left;
-  }
+    record {
+      reads = λ vs ws k.
+          let (m₁, k₁, k₂) = split (declared f.ty f.name) (given is k) in
+          let (m₂, k₃, e) = c.reads vs m₁ k₁ in
+          let (m₃, a₁, k₄) = first k₂ in
+          (Some (at vs (kind.Declare f.ty f.name (Some x))), g.declares (p.again.reads vs m₂ k₃) e a₁ (v.reads m₃ ws k₄), same_some (same_line (line_at vs) (line_at ts) (kind.Declare f.ty f.name (Some x))));
+      tidy = tidied is (orderly false (declared f.ty f.name) _ (c.tidy p.again.tidy) v.tidy);
+      left = v.left;
+    }
 first_part (g.simple {ts = ts} {k = k} q) h = let a = simple q h in record {
   reads = λ vs ws i. (Some (at vs k), g.simple (a.again.reads vs ws (given (part_is (line_at ts) a) i)), same_some (same_line (line_at vs) (line_at ts) k));
   tidy = tidied (part_is (line_at ts) a) a.again.tidy;
@@ -393,23 +393,23 @@ pub record HeadAgain (x : Option Stmt) (test : Option Expr) (y : Option Stmt) (u
 
 pub head_again : {ts us : Tokens} {x y : Option Stmt} {test : Option Expr} → Head ts x test y us → AllWritable ts → HeadAgain x test y us
 head_again (g.head {first = x} {third = y} {test = test} t₁ t₂ p t₃ q t₄ r t₅) h =
-  let a = first_part p (left t₂ (left t₁ h)) in
-  let b = maybe q (left t₃ a.left) in
-  let c = third_part r (left t₄ b.left) in
-  record {
-    reads = λ vs ws k.
-      let (m₁, a₁, k₁) = first k in
-      let (m₂, a₂, k₂) = first k₁ in
-      let (m₃, m₄, m₅, k₃, k₄, k₅, k₆) = split4 (part_of x) (Mark m.Semicolon ∷ optional_value test) (Mark m.Semicolon ∷ part_of y) k₂ in
-      let (m₆, a₃, k₇) = first k₄ in
-      let (m₇, a₄, k₈) = first k₅ in
-      let (v, dv, sv) = a.reads m₂ m₃ k₃ in
-      let (w, dw, sw) = c.reads m₇ m₅ k₈ in
-      (v, w, g.head a₁ a₂ dv a₃ (b.reads m₆ m₄ k₇) a₄ dw (only k₆), sv, sw);
-    tidy = orderly false (part_of x ++ Mark m.Semicolon ∷ optional_value test ++ Mark m.Semicolon ∷ part_of y) _
-      (orderly3 (part_of x) (Mark m.Semicolon ∷ optional_value test) (Mark m.Semicolon ∷ part_of y) a.tidy b.tidy c.tidy) tt;
-    left = left t₅ c.left;
-  }
+    let a = first_part p (left t₂ (left t₁ h)) in
+    let b = maybe q (left t₃ a.left) in
+    let c = third_part r (left t₄ b.left) in
+    record {
+      reads = λ vs ws k.
+          let (m₁, a₁, k₁) = first k in
+          let (m₂, a₂, k₂) = first k₁ in
+          let (m₃, m₄, m₅, k₃, k₄, k₅, k₆) = split4 (part_of x) (Mark m.Semicolon ∷ optional_value test) (Mark m.Semicolon ∷ part_of y) k₂ in
+          let (m₆, a₃, k₇) = first k₄ in
+          let (m₇, a₄, k₈) = first k₅ in
+          let (v, dv, sv) = a.reads m₂ m₃ k₃ in
+          let (w, dw, sw) = c.reads m₇ m₅ k₈ in
+          (v, w, g.head a₁ a₂ dv a₃ (b.reads m₆ m₄ k₇) a₄ dw (only k₆), sv, sw);
+      tidy = orderly false (part_of x ++ Mark m.Semicolon ∷ optional_value test ++ Mark m.Semicolon ∷ part_of y) _
+          (orderly3 (part_of x) (Mark m.Semicolon ∷ optional_value test) (Mark m.Semicolon ∷ part_of y) a.tidy b.tidy c.tidy) tt;
+      left = left t₅ c.left;
+    }
 
 -- a reserved word with its condition
 pub record ConditionAgain (k : the_key.Key) (c : Expr) (us : Tokens) : Type 0 where
@@ -420,10 +420,10 @@ pub record ConditionAgain (k : the_key.Key) (c : Expr) (us : Tokens) : Type 0 wh
 pub condition_again : {ts us : Tokens} {c : Expr} (k : the_key.Key) → Condition ts c us → AllWritable ts → ConditionAgain k c us
 condition_again k (g.condition {x = x} t q u) h = let a = whole_expression q (left t h) in record {
   reads = λ vs ws i.
-    let (m₁, a₁, k₁) = first i in
-    let (m₂, a₂, k₂) = first k₁ in
-    let (m₃, k₃, k₄) = split (value x) k₂ in
-    (m₁, a₁, g.condition a₂ (a.reads m₂ m₃ k₃) (only k₄));
+      let (m₁, a₁, k₁) = first i in
+      let (m₂, a₂, k₂) = first k₁ in
+      let (m₃, k₃, k₄) = split (value x) k₂ in
+      (m₁, a₁, g.condition a₂ (a.reads m₂ m₃ k₃) (only k₄));
   tidy = orderly false (value x) _ a.tidy tt;
   left = left u a.left;
 }

@@ -88,10 +88,10 @@ all_dimensions (g.dimension {l = l} {b = b} t u least most v r) flat h = let q =
   front = front-Array b l ∙ q.front;
   again = record {
     reads = λ vs ws k.
-      let (m₁, a₁, k₁) = first (given (dimensions-Array b l) k) in
-      let (m₂, a₂, k₂) = first k₁ in
-      let (m₃, a₃, k₃) = first k₂ in
-      g.dimension a₁ a₂ least most a₃ (q.again.reads m₃ ws k₃);
+        let (m₁, a₁, k₁) = first (given (dimensions-Array b l) k) in
+        let (m₂, a₂, k₂) = first k₁ in
+        let (m₃, a₃, k₃) = first k₂ in
+        g.dimension a₁ a₂ least most a₃ (q.again.reads m₃ ws k₃);
     tidy = tidied (dimensions-Array b l) (omega arith, q.again.tidy);
     left = q.again.left;
   };
@@ -107,30 +107,30 @@ pub record DeclaredAgain (a : CType) (f : Field) (us : Tokens) : Type 0 where
 
 pub declarator : {a : CType} {f : Field} {ts us : Tokens} → Declarator a ts f us → dimensions a ≡ [] → AllWritable ts → DeclaredAgain a f us
 declarator {a} (g.declarator {b = b} {c = c} {w = w} s t d) flat h =
-  let q = stars s h in
-  let r = all_dimensions d (q.flat ∙ flat) (left t q.again.left) in
-  let front : type_front c ≡ type_front a ++ q.marks = r.front ∙ q.front in
-  record {
-    reads = λ vs ws k.
-      let (m₁, k₁, k₂) = split (type_front c) k in
-      let (m₂, k₃, k₄) = split (type_front a) (given front k₁) in
-      let (m₃, a₁, k₅) = first k₂ in
-      (m₂, k₃, g.declarator (q.again.reads m₂ m₁ k₄) a₁ (r.again.reads m₃ ws k₅));
-    tidy = λ o. orderly false (type_front c) _ (tidied front (orderly false (type_front a) _ o q.again.tidy)) (taken t q.again.left, r.again.tidy);
-    left = r.again.left;
-  }
+    let q = stars s h in
+    let r = all_dimensions d (q.flat ∙ flat) (left t q.again.left) in
+    let front : type_front c ≡ type_front a ++ q.marks = r.front ∙ q.front in
+    record {
+      reads = λ vs ws k.
+          let (m₁, k₁, k₂) = split (type_front c) k in
+          let (m₂, k₃, k₄) = split (type_front a) (given front k₁) in
+          let (m₃, a₁, k₅) = first k₂ in
+          (m₂, k₃, g.declarator (q.again.reads m₂ m₁ k₄) a₁ (r.again.reads m₃ ws k₅));
+      tidy = λ o. orderly false (type_front c) _ (tidied front (orderly false (type_front a) _ o q.again.tidy)) (taken t q.again.left, r.again.tidy);
+      left = r.again.left;
+    }
 
 pub size : {a : CType} {ts us : Tokens} → SizeOf ts a us → AllWritable ts → Again (λ vs ws. SizeOf vs a ws) (size_of a) us
 size (g.size_of {a = a} {b = b} t u x s v) h =
-  let p = base x (left u (left t h)) in
-  let q = stars s p.again.left in
-  record {
-    reads = λ vs ws k.
-      let (m₁, a₁, k₁) = first k in
-      let (m₂, a₂, k₂) = first k₁ in
-      let (m₃, k₃, k₄) = split (type_front b) k₂ in
-      let (m₄, k₅, k₆) = split (type_front a) (given q.front k₃) in
-      g.size_of a₁ a₂ (p.again.reads m₂ m₄ k₅) (q.again.reads m₄ m₃ k₆) (only k₄);
-    tidy = orderly false (type_front b) _ (tidied q.front (orderly false (type_front a) _ p.again.tidy q.again.tidy)) tt;
-    left = left v q.again.left;
-  }
+    let p = base x (left u (left t h)) in
+    let q = stars s p.again.left in
+    record {
+      reads = λ vs ws k.
+          let (m₁, a₁, k₁) = first k in
+          let (m₂, a₂, k₂) = first k₁ in
+          let (m₃, k₃, k₄) = split (type_front b) k₂ in
+          let (m₄, k₅, k₆) = split (type_front a) (given q.front k₃) in
+          g.size_of a₁ a₂ (p.again.reads m₂ m₄ k₅) (q.again.reads m₄ m₃ k₆) (only k₄);
+      tidy = orderly false (type_front b) _ (tidied q.front (orderly false (type_front a) _ p.again.tidy q.again.tidy)) tt;
+      left = left v q.again.left;
+    }

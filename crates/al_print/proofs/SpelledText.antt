@@ -48,9 +48,9 @@ step : (s : Spot) (w z : Bytes) (n : Next) (ts : Tokens) → 0 < length w → n.
     → SpellsFrom (spot_after s (w ++ z) n) z ts → SpellsFrom s (w ++ z) (option_to_list n.token ++ ts)
 step s [] z n ts full len e r = absurd (omega arith)
 step s (b ∷ w) z n ts full len e r =
-  let less : n.len - 1 ≡ length w = omega arith in
-  let rest : drop (n.len - 1) (w ++ z) ≡ z = ap (λ (k : ℕ). drop k (w ++ z)) less ∙ drop-append_seam w z in
-  goes e (subst (λ (y : Bytes). SpellsFrom (spot_after s (b ∷ w ++ z) n) y ts) (sym rest) r)
+    let less : n.len - 1 ≡ length w = omega arith in
+    let rest : drop (n.len - 1) (w ++ z) ≡ z = ap (λ (k : ℕ). drop k (w ++ z)) less ∙ drop-append_seam w z in
+    goes e (subst (λ (y : Bytes). SpellsFrom (spot_after s (b ∷ w ++ z) n) y ts) (sym rest) r)
 
 -- what stands next where a token does
 abbrev token_next : ℕ → ℕ → ℕ → TokenKind → Place → Next
@@ -58,21 +58,21 @@ token_next at line len k place = record { len = len; token = Some (token_from at
 
 over_token : (p q : Place) (k : TokenKind) (w z : Bytes) (ks : Kinds) → 0 < length w → ((at line : ℕ) → next (spot at line p) (w ++ z) ≡ Ok (token_next at line (length w) k q)) → After q z ks → After p (w ++ z) (k ∷ ks)
 over_token p q k w z ks full e r at line =
-  let n = token_next at line (length w) k q in
-  let s = r (at + length w) (line + line_feeds (take (length w) (w ++ z))) in
-  record {
-    tokens = token_from at line (at + length w) k ∷ s.tokens;
-    spells = step (spot at line p) w z n s.tokens full refl (e at line) s.spells;
-    has = some (takes refl) s.has;
-  }
+    let n = token_next at line (length w) k q in
+    let s = r (at + length w) (line + line_feeds (take (length w) (w ++ z))) in
+    record {
+      tokens = token_from at line (at + length w) k ∷ s.tokens;
+      spells = step (spot at line p) w z n s.tokens full refl (e at line) s.spells;
+      has = some (takes refl) s.has;
+    }
 
 abbrev gap_next : Place → Next
 gap_next place = record { len = 1; token = None; place = place }
 
 over_gap : (p q : Place) (b : ℕ) (z : Bytes) (ks : Kinds) → ((at line : ℕ) → next (spot at line p) (b ∷ z) ≡ Ok (gap_next q)) → After q z ks → After p (b ∷ z) ks
 over_gap p q b z ks e r at line =
-  let s = r (at + 1) (line + line_feeds (take 1 (b ∷ z))) in
-  record { tokens = s.tokens; spells = step (spot at line p) (b ∷ []) z (gap_next q) s.tokens (omega arith) refl (e at line) s.spells; has = s.has }
+    let s = r (at + 1) (line + line_feeds (take 1 (b ∷ z))) in
+    record { tokens = s.tokens; spells = step (spot at line p) (b ∷ []) z (gap_next q) s.tokens (omega arith) refl (e at line) s.spells; has = s.has }
 
 over_blank : (p : Place) (z : Bytes) (ks : Kinds) → After p z ks → After p (32 ∷ z) ks
 unfolding next
@@ -86,13 +86,13 @@ over_line z ks r = over_gap Inside Fresh 10 z ks (λ at line. refl) r
 over_end : (z : Bytes) (ks : Kinds) → After Fresh z ks → After Note (10 ∷ z) (EndAlter ∷ ks)
 unfolding next
 over_end z ks r at line =
-  let s = r (at + 1) (line + line_feeds (take 1 (10 ∷ z))) in
-  let t : Token = note_end (spot at line Note) in
-  record {
-    tokens = t ∷ s.tokens;
-    spells = step (spot at line Note) (10 ∷ []) z (record { len = 1; token = Some t; place = Fresh }) s.tokens (omega arith) refl refl s.spells;
-    has = some (takes refl) s.has;
-  }
+    let s = r (at + 1) (line + line_feeds (take 1 (10 ∷ z))) in
+    let t : Token = note_end (spot at line Note) in
+    record {
+      tokens = t ∷ s.tokens;
+      spells = step (spot at line Note) (10 ∷ []) z (record { len = 1; token = Some t; place = Fresh }) s.tokens (omega arith) refl refl s.spells;
+      has = some (takes refl) s.has;
+    }
 
 -- ---- the front of an annotation
 
@@ -100,27 +100,27 @@ over_end z ks r at line =
 hash : (z : Bytes) (ks : Kinds) → ((start line : ℕ) → After (Hash start line) z ks) → After Fresh (35 ∷ z) ks
 unfolding next
 hash z ks r at line =
-  let s = r at line (at + 1) (line + line_feeds (take 1 (35 ∷ z))) in
-  record { tokens = s.tokens; spells = step (spot at line Fresh) (35 ∷ []) z (gap_next (Hash at line)) s.tokens (omega arith) refl refl s.spells; has = s.has }
+    let s = r at line (at + 1) (line + line_feeds (take 1 (35 ∷ z))) in
+    record { tokens = s.tokens; spells = step (spot at line Fresh) (35 ∷ []) z (gap_next (Hash at line)) s.tokens (omega arith) refl refl s.spells; has = s.has }
 
 pragma_name : (start line : ℕ) (z : Bytes) (ks : Kinds) → After (Pragma start line) (32 ∷ z) ks → After (Hash start line) (codes "pragma" ++ 32 ∷ z) ks
 unfolding next
 pragma_name start line z ks r at l =
-  let s = r (at + 6) (l + line_feeds (take 6 (codes "pragma" ++ 32 ∷ z))) in
-  record { tokens = s.tokens; spells = step (spot at l (Hash start line)) (codes "pragma") (32 ∷ z) (record { len = 6; token = None; place = Pragma start line }) s.tokens (omega arith) refl refl s.spells; has = s.has }
+    let s = r (at + 6) (l + line_feeds (take 6 (codes "pragma" ++ 32 ∷ z))) in
+    record { tokens = s.tokens; spells = step (spot at l (Hash start line)) (codes "pragma") (32 ∷ z) (record { len = 6; token = None; place = Pragma start line }) s.tokens (omega arith) refl refl s.spells; has = s.has }
 
 alter_name : (start line : ℕ) (z : Bytes) (ks : Kinds) → After Note (32 ∷ z) ks → After (Pragma start line) (codes "alter" ++ 32 ∷ z) (Alter ∷ ks)
 unfolding next
 alter_name start line z ks r at l =
-  let s = r (at + 5) (l + line_feeds (take 5 (codes "alter" ++ 32 ∷ z))) in
-  let t : Token = token_from start line (at + 5) Alter in
-  record { tokens = t ∷ s.tokens; spells = step (spot at l (Pragma start line)) (codes "alter") (32 ∷ z) (record { len = 5; token = Some t; place = Note }) s.tokens (omega arith) refl refl s.spells; has = some (takes refl) s.has }
+    let s = r (at + 5) (l + line_feeds (take 5 (codes "alter" ++ 32 ∷ z))) in
+    let t : Token = token_from start line (at + 5) Alter in
+    record { tokens = t ∷ s.tokens; spells = step (spot at l (Pragma start line)) (codes "alter") (32 ∷ z) (record { len = 5; token = Some t; place = Note }) s.tokens (omega arith) refl refl s.spells; has = some (takes refl) s.has }
 
 over_front : (z : Bytes) (ks : Kinds) → After Note z ks → After Fresh (codes "#pragma alter" ++ 32 ∷ z) (Alter ∷ ks)
 over_front z ks r =
-  hash (codes "pragma alter" ++ 32 ∷ z) (Alter ∷ ks) (λ start line.
+    hash (codes "pragma alter" ++ 32 ∷ z) (Alter ∷ ks) (λ start line.
     pragma_name start line (codes "alter" ++ 32 ∷ z) (Alter ∷ ks)
-      (over_blank (Pragma start line) (codes "alter" ++ 32 ∷ z) (Alter ∷ ks) (alter_name start line z ks (over_blank Note z ks r))))
+    (over_blank (Pragma start line) (codes "alter" ++ 32 ∷ z) (Alter ∷ ks) (alter_name start line z ks (over_blank Note z ks r))))
 
 -- ---- tokens at the places where they may stand
 
@@ -145,9 +145,9 @@ ready_matter Skipped h s b z e = absurd h
 
 not_blank : (b : ℕ) → 48 ≤ b → is_blank b ≡ false
 not_blank b h =
-  let space : nat_eq b 32 ≡ false = ne_eqb b 32 (λ e. omega arith) in
-  let low : nat_le b 13 ≡ false = lt-leb b 13 (omega arith) in
-  rw (space, low) (no (nat_le 9 b))
+    let space : nat_eq b 32 ≡ false = ne_eqb b 32 (λ e. omega arith) in
+    let low : nat_le b 13 ≡ false = lt-leb b 13 (omega arith) in
+    rw (space, low) (no (nat_le 9 b))
   where
     no : (t : Bool) → (t && false) ≡ false
     no true = refl
@@ -156,8 +156,8 @@ not_blank b h =
 high_matter : (s : Spot) (b : ℕ) (z : Bytes) → 48 ≤ b → b == 47 ≡ false → next s (b ∷ z) ≡ matter_at s.place s (b ∷ z)
 unfolding next
 high_matter s b z h e =
-  let line : nat_eq b 10 ≡ false = ne_eqb b 10 (λ i. omega arith) in
-  skip (b == 10) _ _ line ∙ skip (is_blank b) _ _ (not_blank b h)
+    let line : nat_eq b 10 ≡ false = ne_eqb b 10 (λ i. omega arith) in
+    skip (b == 10) _ _ line ∙ skip (is_blank b) _ _ (not_blank b h)
     ∙ skip (begins_line_comment (b ∷ z)) _ _ (ap (λ (t : Bool). t && slice_index (b ∷ z) 1 == 47) e)
     ∙ skip (begins_block_comment (b ∷ z)) _ _ (ap (λ (t : Bool). t && slice_index (b ∷ z) 1 == 42) e)
 
@@ -166,7 +166,7 @@ high_token : (p : Place) → IsReady p → (k : TokenKind) (w z : Bytes) (ks : K
     → ((line : ℕ) → lexeme line (w ++ 32 ∷ z) ≡ Ok (k, length w)) → After (follow p) (32 ∷ z) ks → After p (w ++ 32 ∷ z) (k ∷ ks)
 high_token p ready k [] z ks full high e r = absurd (omega arith)
 high_token p ready k (b ∷ w) z ks full high e r =
-  over_token p (follow p) k (b ∷ w) (32 ∷ z) ks full
+    over_token p (follow p) k (b ∷ w) (32 ∷ z) ks full
     (λ at line. high_matter (spot at line p) b (w ++ 32 ∷ z) high (ne_eqb b 47 (λ i. omega arith)) ∙ ready_matter p ready (spot at line p) b (w ++ 32 ∷ z) (ne_eqb b 35 (λ i. omega arith)) ∙ ap (token_at (spot at line p) (follow p)) (e line))
     r
 
@@ -176,12 +176,12 @@ letter_high b e = by (nat_le 48 b) refl
     by : (t : Bool) → nat_le 48 b ≡ t → 48 ≤ b
     by true d = leb-true _ _ d
     by false d =
-      let low : b < 48 = leb-false 48 b d in
-      let x : nat_le 65 b ≡ false = lt-leb 65 b (omega arith) in
-      let y : nat_le 97 b ≡ false = lt-leb 97 b (omega arith) in
-      let z : nat_eq b 95 ≡ false = ne_eqb b 95 (λ i. omega arith) in
-      let none : is_letter b ≡ false = rw (x, y, z) in
-      absurd (let both : true ≡ false = sym e ∙ none in cc)
+        let low : b < 48 = leb-false 48 b d in
+        let x : nat_le 65 b ≡ false = lt-leb 65 b (omega arith) in
+        let y : nat_le 97 b ≡ false = lt-leb 97 b (omega arith) in
+        let z : nat_eq b 95 ≡ false = ne_eqb b 95 (λ i. omega arith) in
+        let none : is_letter b ≡ false = rw (x, y, z) in
+        absurd (let both : true ≡ false = sym e ∙ none in cc)
 
 full_name : (w : Bytes) → is_letter (slice_index w 0) ≡ true → 0 < length w
 full_name [] e = absurd cc
@@ -189,17 +189,17 @@ full_name (b ∷ w) e = omega arith
 
 over_name : (p : Place) → IsReady p → (w z : Bytes) (ks : Kinds) → IsName w → After (follow p) z ks → After p (w ++ 32 ∷ z) (Word w ∷ ks)
 over_name p ready w z ks h r =
-  high_token p ready (Word w) w z ks (full_name w h.letter) (letter_high _ h.letter)
+    high_token p ready (Word w) w z ks (full_name w h.letter) (letter_high _ h.letter)
     (λ line. word_lexeme line w z h.letter h.whole ∙ ap (λ (o : Option the_key.Key). Ok (named w o, length w)) h.free)
     (over_blank (follow p) z ks r)
 
 over_key : (k : the_key.Key) (p : Place) → IsReady p → (z : Bytes) (ks : Kinds) → After (follow p) z ks → After p (key_text k ++ 32 ∷ z) (Key k ∷ ks)
 over_key k p ready z ks r =
-  high_token p ready (Key k) (key_text k) z ks (full_name (key_text k) (key_letter k)) (letter_high _ (key_letter k)) (λ line. key_lexeme line k z) (over_blank (follow p) z ks r)
+    high_token p ready (Key k) (key_text k) z ks (full_name (key_text k) (key_letter k)) (letter_high _ (key_letter k)) (λ line. key_lexeme line k z) (over_blank (follow p) z ks r)
 
 over_number : (n : ℕ) (p : Place) → IsReady p → (z : Bytes) (ks : Kinds) → n ≤ 9223372036854775807 → After (follow p) z ks → After p (decimal n ++ 32 ∷ z) (Number (pos n) ∷ ks)
 over_number n p ready z ks small r =
-  high_token p ready (Number (pos n)) (decimal n) z ks (decimal_nonempty n (omega arith)) (decimal_high n small) (λ line. number_lexeme line n z small) (over_blank (follow p) z ks r)
+    high_token p ready (Number (pos n)) (decimal n) z ks (decimal_nonempty n (omega arith)) (decimal_high n small) (λ line. number_lexeme line n z small) (over_blank (follow p) z ks r)
 
 -- a text, whose first byte is its quote
 quote_next : (p : Place) → IsReady p → (at line : ℕ) (z : Bytes) → next (spot at line p) (34 ∷ z) ≡ token_at (spot at line p) (follow p) (lexeme line (34 ∷ z))
@@ -208,16 +208,16 @@ quote_next p ready at line z = ready_matter p ready (spot at line p) 34 z refl
 
 over_text : (f : _) (p : Place) → IsReady p → (z : Bytes) (ks : Kinds) → IsFormat false f → After (follow p) z ks → After p (34 ∷ (format_text f ++ 34 ∷ 32 ∷ z)) (Text f ∷ ks)
 over_text f p ready z ks h r =
-  let w : Bytes = 34 ∷ (format_text f ++ 34 ∷ []) in
-  let whole : w ++ 32 ∷ z ≡ 34 ∷ (format_text f ++ 34 ∷ 32 ∷ z) = ap (λ (y : Bytes). 34 ∷ y) (append_assoc (format_text f) (34 ∷ []) (32 ∷ z)) in
-  let long : length (format_text f) + 2 ≡ length w = omega (arith, length-append (format_text f) (34 ∷ [])) in
-  subst (λ (y : Bytes). After p y (Text f ∷ ks)) whole
+    let w : Bytes = 34 ∷ (format_text f ++ 34 ∷ []) in
+    let whole : w ++ 32 ∷ z ≡ 34 ∷ (format_text f ++ 34 ∷ 32 ∷ z) = ap (λ (y : Bytes). 34 ∷ y) (append_assoc (format_text f) (34 ∷ []) (32 ∷ z)) in
+    let long : length (format_text f) + 2 ≡ length w = omega (arith, length-append (format_text f) (34 ∷ [])) in
+    subst (λ (y : Bytes). After p y (Text f ∷ ks)) whole
     (over_token p (follow p) (Text f) w (32 ∷ z) ks (omega arith)
-      (λ at line.
-        ap (next (spot at line p)) whole ∙ quote_next p ready at line (format_text f ++ 34 ∷ 32 ∷ z)
-        ∙ ap (token_at (spot at line p) (follow p)) (text_lexeme line f (32 ∷ z) h)
-        ∙ ap (λ (n : ℕ). Ok (token_next at line n (Text f) (follow p))) long)
-      (over_blank (follow p) z ks r))
+    (λ at line.
+    ap (next (spot at line p)) whole ∙ quote_next p ready at line (format_text f ++ 34 ∷ 32 ∷ z)
+    ∙ ap (token_at (spot at line p) (follow p)) (text_lexeme line f (32 ∷ z) h)
+    ∙ ap (λ (n : ℕ). Ok (token_next at line n (Text f) (follow p))) long)
+    (over_blank (follow p) z ks r))
 
 -- ---- marks, by their bytes and the end after them
 
@@ -287,7 +287,7 @@ spelled false b (Key k ∷ ks) h = parts (outside b) (key_text k) (32 ∷ []) (t
 spelled false b (Number (pos v) ∷ ks) h = parts (outside b) (decimal v) (32 ∷ []) (text_from false ks) (Number (pos v) ∷ ks) (over_number v (outside b) (outside_ready b) (text_from false ks) ks h.0 (outside_follow b (spelled false false ks h.1)))
 spelled false b (Number (negsuc v) ∷ ks) h = absurd h.0
 spelled false b (Text f ∷ ks) h =
-  subst (λ (y : Bytes). After (outside b) y (Text f ∷ ks))
+    subst (λ (y : Bytes). After (outside b) y (Text f ∷ ks))
     (ap (λ (y : Bytes). 34 ∷ y) (sym (append_assoc (format_text f ++ 34 ∷ []) (32 ∷ []) (text_from false ks) ∙ append_assoc (format_text f) (34 ∷ []) (32 ∷ text_from false ks))))
     (over_text f (outside b) (outside_ready b) (text_from false ks) ks h.0 (outside_follow b (spelled false false ks h.1)))
 spelled false b (Mark k ∷ ks) h = parts (outside b) (mark_text k) (end_text (ends_line (Mark k))) (text_from (ends_line (Mark k)) ks) (Mark k ∷ ks) (over_mark k b (text_from (ends_line (Mark k)) ks) ks (spelled false (ends_line (Mark k)) ks h))
@@ -295,10 +295,10 @@ spelled false b (Alter ∷ ks) h = over_alter b (text_from false ks) ks (spelled
 spelled false b (EndAlter ∷ ks) h = absurd h
 spelled true b (Word w ∷ ks) h = parts Note w (32 ∷ []) (text_from false ks) (Word w ∷ ks) (over_name Note tt w (text_from false ks) ks h.0 (spelled true false ks h.1))
 spelled true b (Mark k ∷ ks) h =
-  let rest : After Note (text_from (ends_line (Mark k)) ks) ks = subst (λ (t : Bool). After Note (text_from t ks) ks) (sym h.0) (spelled true false ks h.1) in
-  let ended : After Note (end_text (ends_line (Mark k)) ++ text_from (ends_line (Mark k)) ks) ks =
+    let rest : After Note (text_from (ends_line (Mark k)) ks) ks = subst (λ (t : Bool). After Note (text_from t ks) ks) (sym h.0) (spelled true false ks h.1) in
+    let ended : After Note (end_text (ends_line (Mark k)) ++ text_from (ends_line (Mark k)) ks) ks =
     subst (λ (t : Bool). After Note (end_text t ++ text_from (ends_line (Mark k)) ks) ks) (sym h.0) (over_blank Note (text_from (ends_line (Mark k)) ks) ks rest) in
-  parts Note (mark_text k) (end_text (ends_line (Mark k))) (text_from (ends_line (Mark k)) ks) (Mark k ∷ ks)
+    parts Note (mark_text k) (end_text (ends_line (Mark k))) (text_from (ends_line (Mark k)) ks) (Mark k ∷ ks)
     (over_token Note Note (Mark k) (mark_text k) (end_text (ends_line (Mark k)) ++ text_from (ends_line (Mark k)) ks) ks (mark_full k) (λ at line. mark_note k at line (text_from (ends_line (Mark k)) ks)) ended)
 spelled true b (EndAlter ∷ ks) h = over_end (text_from true ks) ks (spelled false true ks h)
 spelled true b (Key k ∷ ks) h = absurd h

@@ -68,7 +68,7 @@ same_while i j {c} {x} {x'} p = same_kind i j (unlined-While c x ∙ ap (k.While
 
 pub same_for : (i j : ℕ) {b : Option Expr} {n : Option LoopNote} {a a' c c' : Option Stmt} {x x' : Stmt} → SamePart a a' → SamePart c c' → Same x x' → Same (statement_of i (k.For a b c x n)) (statement_of j (k.For a' b c' x' n))
 same_for i j {b} {n} {a} {a'} {c} {c'} {x} {x'} p q r = same_kind i j
-  (unlined-For a b c x n ∙ ap (λ (o : Option Stmt). k.For o b (part c) (unlined x) n) p.is ∙ ap (λ (o : Option Stmt). k.For (part a') b o (unlined x) n) q.is
+    (unlined-For a b c x n ∙ ap (λ (o : Option Stmt). k.For o b (part c) (unlined x) n) p.is ∙ ap (λ (o : Option Stmt). k.For (part a') b o (unlined x) n) q.is
     ∙ ap (λ (s : Stmt). k.For (part a') b (part c') s n) r.is ∙ sym (unlined-For a' b c' x' n))
 
 pub same_block : (i j : ℕ) {ss rs : List Stmt} → SameList ss rs → Same (statement_of i (k.Block ss)) (statement_of j (k.Block rs))

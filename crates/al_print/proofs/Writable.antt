@@ -31,8 +31,8 @@ use Rattle.al_print.proofs.Plain.{IsName, IsNumber, is_meant, AllMeant, IsFormat
 prefix_step : (p : ℕ → Bool) (b : ℕ) (z : Bytes) (t : Bool) → p b ≡ t → prefix_len p (take (prefix_len p z) z) ≡ length (take (prefix_len p z) z)
     → prefix_len p (take (cond t (1 + prefix_len p z) 0) (b ∷ z)) ≡ length (take (cond t (1 + prefix_len p z) 0) (b ∷ z))
 prefix_step p b z true e h =
-  let one : 1 + prefix_len p z ≡ suc (prefix_len p z) = omega arith in
-  subst (λ (n : ℕ). prefix_len p (take n (b ∷ z)) ≡ length (take n (b ∷ z))) (sym one)
+    let one : 1 + prefix_len p z ≡ suc (prefix_len p z) = omega arith in
+    subst (λ (n : ℕ). prefix_len p (take n (b ∷ z)) ≡ length (take n (b ∷ z))) (sym one)
     (ap (λ (t : Bool). cond t (1 + prefix_len p (take (prefix_len p z) z)) 0) e ∙ ap (λ (n : ℕ). 1 + n) h ∙ omega arith)
 prefix_step p b z false e h = refl
 
@@ -48,8 +48,8 @@ or_true false b e = absurd cc
 first_at : (b : ℕ) (z : Bytes) (t : Bool) → t ≡ true → is_letter b ≡ true → is_letter (slice_index (take (cond t (1 + name_len z) 0) (b ∷ z)) 0) ≡ true
 first_at b z false d e = absurd cc
 first_at b z true d e =
-  let one : 1 + name_len z ≡ suc (name_len z) = omega arith in
-  subst (λ (n : ℕ). is_letter (slice_index (take n (b ∷ z)) 0) ≡ true) (sym one) e
+    let one : 1 + name_len z ≡ suc (name_len z) = omega arith in
+    subst (λ (n : ℕ). is_letter (slice_index (take n (b ∷ z)) 0) ≡ true) (sym one) e
 
 first_taken : (z : Bytes) → is_letter (slice_index z 0) ≡ true → is_letter (slice_index (take (name_len z) z) 0) ≡ true
 first_taken [] e = e
@@ -116,10 +116,10 @@ either_unit false x y h k = k
 unit_means : (z : Bytes) → Means (unit_at z)
 unfolding unit_at
 unit_means z =
-  let a = slice_index z 1 in let b = slice_index z 2 in let c = slice_index z 3 in
-  either_unit (slice_index z 0 == 92) _ _ (meant_escape (a == 110) (a == 116) (a == 92) (a == 34))
+    let a = slice_index z 1 in let b = slice_index z 2 in let c = slice_index z 3 in
+    either_unit (slice_index z 0 == 92) _ _ (meant_escape (a == 110) (a == 116) (a == 92) (a == 34))
     (either_unit (slice_index z 0 == 37) _ _ (meant_conversion (a == 37) (a == 100) (a == 108 && b == 100) (a == 108 && b == 108 && c == 100))
-      (meant_plain (slice_index z 0) (is_plain (slice_index z 0)) refl))
+    (meant_plain (slice_index z 0) (is_plain (slice_index z 0)) refl))
 
 byte_before : (b : ℕ) (ps : List Piece) → is_meant b ≡ true → IsFormat false ps → IsFormat false (before_byte b ps)
 byte_before b [] e h = (e, tt, tt)
@@ -177,9 +177,9 @@ either false x y h k = k
 good_lexeme : (line : ℕ) (z : Bytes) → IsGood (lexeme line z)
 unfolding lexeme
 good_lexeme line z =
-  good_name z (is_letter (slice_index z 0)) _ refl
+    good_name z (is_letter (slice_index z 0)) _ refl
     (either (is_ascii_digit (slice_index z 0)) _ _ (good_number line (number_at z) (small z))
-      (either (slice_index z 0 == 34) _ _ (good_text line z (inside_len (drop 1 z))) (good_mark line (mark_at z))))
+    (either (slice_index z 0 == 34) _ _ (good_text line z (inside_len (drop 1 z))) (good_mark line (mark_at z))))
 
 -- ---- what stands next
 
@@ -222,10 +222,10 @@ good_matter Note s z = good_token s Note (lexeme s.line z) (good_lexeme s.line z
 good_next : (s : Spot) (z : Bytes) → IsGoodNext (next s z)
 unfolding next
 good_next s z =
-  either_next (slice_index z 0 == 10) _ _ (good_line_end s.place s)
+    either_next (slice_index z 0 == 10) _ _ (good_line_end s.place s)
     (either_next (is_blank (slice_index z 0)) _ _ tt
-      (either_next (begins_line_comment z) _ _ tt
-        (either_next (begins_block_comment z) _ _ (good_closed s (block_comment_len z)) (good_matter s.place s z))))
+    (either_next (begins_line_comment z) _ _ tt
+    (either_next (begins_block_comment z) _ _ (good_closed s (block_comment_len z)) (good_matter s.place s z))))
 
 -- ---- the whole
 

@@ -131,11 +131,7 @@ fn right_operand(w: &mut Writer, level: u8, op: (u8, Mark), y: &Expr) -> Result<
 fn comma(w: &mut Writer, needed: bool) -> Result<(), AllocError>
     ensures { OnOk result (w.new ≡ all_written w.old (spec.comma needed)) }
 {
-    if needed {
-        w.mark(Mark::Comma)
-    } else {
-        Ok(())
-    }
+    if needed { w.mark(Mark::Comma) } else { Ok(()) }
 }
 
 /// Values with commas between them, and one before them where they go on.

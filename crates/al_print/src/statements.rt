@@ -126,7 +126,13 @@ fn initializer(w: &mut Writer, x: &Option<Expr>) -> Result<(), AllocError>
     }
 }
 
-fn declaration(w: &mut Writer, ty: &CType, name: &[u8], x: &Option<Expr>, alone: bool) -> Result<(), AllocError>
+fn declaration(
+    w: &mut Writer,
+    ty: &CType,
+    name: &[u8],
+    x: &Option<Expr>,
+    alone: bool,
+) -> Result<(), AllocError>
     ensures { OnOk result (w.new ≡ all_written w.old (spec.declaration ty.now name.now x.now alone)) }
 {
     declared(w, ty, name)?;
