@@ -1,5 +1,5 @@
 -- Typing as a relation: which items and programs are well typed.
-use Rattle.std.specs.Prelude.{◌≡◌, ◌≤◌, false, List, [], ◌∷◌, ◌++◌, codes, Some, None, pos, ℤ, All}
+use Rattle.std.specs.Prelude.{◌≡◌, ◌≤◌, false, List, [], ◌∷◌, ◌++◌, codes, Some, None, pos, ℤ}
 use Rattle.std.specs.List.{sum}
 use Rattle.al_source.specs.declared.source_tree.CType.{CType}
 use Rattle.al_source.specs.declared.source_tree.CType.TheVariants as type
@@ -12,7 +12,7 @@ use Rattle.al_source.specs.declared.source_tree.Item.{Item}
 use Rattle.al_source.specs.declared.source_tree.Item.TheVariants as item
 use Rattle.al_source.specs.declared.source_tree.StructDef.{StructDef}
 use Rattle.al_source.specs.declared.source_tree.Program.{Program}
-use Rattle.al_rules.specs.Names.{Name}
+use Rattle.al_rules.specs.Names.{Name, AllOf}
 use Rattle.al_rules.specs.Layouts.{most_words, no_layout, with_items, words_of_fields, sizes}
 use Rattle.al_rules.specs.Scopes.{built_in, is_struct, structs_in, globals_in, funcs_in}
 use Rattle.al_rules.specs.ExpressionRules.{Names, named, Scalar, Held, Result}
@@ -85,4 +85,4 @@ pub record WellTyped (p : Program) : Type 0 where
   pub items : ItemsTyped p.items [] p.items
   pub small : sum (sizes p).globals ≤ most_words
   pub main : HasMain (funcs_in p.items)
-  pub bodies : All (BodyTyped p.items) (funcs_in p.items)
+  pub bodies : AllOf (BodyTyped p.items) (funcs_in p.items)

@@ -1,5 +1,5 @@
 -- Typing as a relation: which statements are well typed.
-use Rattle.std.specs.Prelude.{◌≡◌, ℕ, Bool, true, List, [], ◌∷◌, ◌++◌, length, Option, Some, None, All}
+use Rattle.std.specs.Prelude.{◌≡◌, ℕ, Bool, true, List, [], ◌∷◌, ◌++◌, length, Option, Some, None}
 use Rattle.al_source.specs.declared.annotations.LoopNote.{LoopNote}
 use Rattle.al_source.specs.declared.annotations.NamedRed.{NamedRed}
 use Rattle.al_source.specs.declared.operators.BinOp.{BinOp}
@@ -13,7 +13,7 @@ use Rattle.al_source.specs.declared.source_tree.Expr.TheVariants as e
 use Rattle.al_source.specs.declared.source_tree.Stmt.{Stmt, roll-Stmt}
 use Rattle.al_source.specs.declared.source_tree.StmtKind.{StmtKind}
 use Rattle.al_source.specs.declared.source_tree.StmtKind.TheVariants as s
-use Rattle.al_rules.specs.Names.{Name}
+use Rattle.al_rules.specs.Names.{Name, AllOf}
 use Rattle.al_rules.specs.Statements.{may_update, numbers_in}
 use Rattle.al_rules.specs.ExpressionRules.{Names, named, is_known, Scalar, value, local, place, Has, Fits, Condition}
 
@@ -52,7 +52,7 @@ pub data Reduces (g : Names) (r : NamedRed) : Type 0 where
 
 pub data Noted (g : Names) : Option LoopNote → Type 0 where
   plain : Noted g None
-  annotated : {n : LoopNote} → All (Reduces g) n.reduce → Noted g (Some n)
+  annotated : {n : LoopNote} → AllOf (Reduces g) n.reduce → Noted g (Some n)
 
 pub data Tested (g : Names) : Option Expr → Type 0 where
   always : Tested g None
@@ -93,7 +93,7 @@ mutual
     call : {looped : Bool} {b : Block} {line : ℕ} {name : Name} {xs : List Expr} {a : CType}
         → Has (in_block g b) (e.Call name xs) value a → Statement g looped b (at line (s.Call name xs)) b
     print : {looped : Bool} {b : Block} {line : ℕ} {f : List Piece} {xs : List Expr}
-        → length xs ≡ numbers_in f → All (λ x. Has (in_block g b) x value type.Int) xs → Statement g looped b (at line (s.Print f xs)) b
+        → length xs ≡ numbers_in f → AllOf (λ x. Has (in_block g b) x value type.Int) xs → Statement g looped b (at line (s.Print f xs)) b
     choice : {looped : Bool} {b : Block} {line : ℕ} {c : Expr} {x : Stmt}
         → Condition (in_block g b) c → Branch g looped b x → Statement g looped b (at line (s.If c x None)) b
     choice_of_two : {looped : Bool} {b : Block} {line : ℕ} {c : Expr} {x y : Stmt}

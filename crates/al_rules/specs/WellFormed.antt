@@ -1,5 +1,5 @@
 -- Which typed trees are well formed: each number is in range, and each value of the kind that is wanted where it stands.
-use Rattle.std.specs.Prelude.{◌≡◌, ℕ, ◌+◌, ◌≤◌, max, Bool, true, false, ◌&&◌, ◌||◌, List, [], ◌∷◌, ◌++◌, map, length, take, Option, Some, None, slice_get, pos, All}
+use Rattle.std.specs.Prelude.{◌≡◌, ℕ, ◌+◌, ◌≤◌, max, Bool, true, false, ◌&&◌, ◌||◌, List, [], ◌∷◌, ◌++◌, map, length, take, Option, Some, None, slice_get, pos}
 use Rattle.std.specs.List.{list_all}
 use Rattle.std.specs.Ordering.{int_eq}
 use Rattle.al_source.specs.declared.operators.UnOp.{UnOp}
@@ -21,6 +21,7 @@ use Rattle.al_core.specs.declared.typed_tree.TGlobal.{TGlobal}
 use Rattle.al_core.specs.declared.typed_tree.TFunc.{TFunc}
 use Rattle.al_core.specs.declared.typed_tree.TNote.{TNote}
 use Rattle.al_core.specs.declared.typed_tree.Typed.{Typed}
+use Rattle.al_rules.specs.Names.{AllOf}
 
 -- ---- kinds
 
@@ -281,8 +282,8 @@ pub record IsWellFormed (typed : Typed) : Type 0 where
   pub results : List (Option Kind)
   pub as_many : length results ≡ length typed.funcs
   pub funcs : (n : ℕ) (f : TFunc) → slice_get typed.funcs n ≡ Some f → IsFormedFunc typed results n f
-  pub globals : All IsFormedGlobal typed.globals
+  pub globals : AllOf IsFormedGlobal typed.globals
   pub main : (f : TFunc) × (slice_get typed.funcs typed.main ≡ Some f) × (f.params ≡ 0) × (slice_get results typed.main ≡ Some (Some Int))
   -- each note says of its loop what holds where the loop stands
   pub loops : loops_from 0 typed.funcs ≡ notes_from 0 typed.loops
-  pub reductions : All (λ note. All (IsNoted typed note) note.own.reds) typed.loops
+  pub reductions : AllOf (λ note. AllOf (IsNoted typed note) note.own.reds) typed.loops

@@ -1,0 +1,4 @@
+pub mod LayoutFacts
+pub mod Logic
+pub mod SourceInduction
+pub mod TypeFacts
