@@ -2,3 +2,4 @@ pub mod LayoutFacts
 pub mod Logic
 pub mod SourceInduction
 pub mod TypeFacts
+pub mod NameFacts
