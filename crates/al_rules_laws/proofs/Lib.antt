@@ -3,3 +3,4 @@ pub mod Logic
 pub mod SourceInduction
 pub mod TypeFacts
 pub mod NameFacts
+pub mod ExpressionsSound

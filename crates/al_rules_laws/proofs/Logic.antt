@@ -45,3 +45,9 @@ some_ok None k a e = absurd cc
 pub or_ok : {A : Type 0} (r s : Checked A) (a : A) → or_else r s ≡ Ok a → (r ≡ Ok a) ⊎ (s ≡ Ok a)
 or_ok (Ok x) s a e = inl e
 or_ok (Err k) s a e = inr e
+
+pub ok_is : {A : Type 0} {a b : A} → ◌≡◌ {A = Checked A} (Ok a) (Ok b) → a ≡ b
+ok_is e = cc
+
+pub some_is : {A : Type 0} {a b : A} → Some a ≡ Some b → a ≡ b
+some_is e = cc
