@@ -4,3 +4,4 @@ pub mod SourceInduction
 pub mod TypeFacts
 pub mod NameFacts
 pub mod ExpressionsSound
+pub mod ExpressionsComplete
