@@ -457,9 +457,9 @@ module _ (known : Known) (scope : List Binding) where
   pub expression_is : (x : Expr) (p : Operand) → operand known scope x ≡ Ok p → Describes x p
   expression_is = expr_induct Reads cases
 
+  pub each_reads : (xs : List Expr) → AllOf Reads xs
+  each_reads [] = n.none
+  each_reads (x ∷ xs) = n.more (expression_is x) (each_reads xs)
+
   pub expressions_are : (xs : List Expr) (ps : List Operand) → operands known scope xs ≡ Ok ps → DescribeAll xs ps
   expressions_are xs = all_described (each_reads xs)
-    where
-      each_reads : (xs : List Expr) → AllOf Reads xs
-      each_reads [] = n.none
-      each_reads (x ∷ xs) = n.more (expression_is x) (each_reads xs)

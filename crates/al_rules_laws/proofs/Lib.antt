@@ -5,3 +5,5 @@ pub mod TypeFacts
 pub mod NameFacts
 pub mod ExpressionsSound
 pub mod ExpressionsComplete
+pub mod WalkFacts
+pub mod StatementsSound
