@@ -1,5 +1,5 @@
 -- What the walk answers of a statement, the rules say of it.
-use Rattle.std.proofs.Common.{◌≡◌, ℕ, ◌==◌, Bool, true, false, not, List, [], ◌∷◌, map, length, if◌then◌else◌, Option, Some, None, Ok, Err, bytes_eq, refl, sym, ap, ◌∙◌, subst, eqb-true, suc}
+use Rattle.std.proofs.Common.{◌≡◌, ℕ, ◌==◌, Bool, true, false, not, List, [], ◌∷◌, map, length, if◌then◌else◌, Option, Some, None, option_map, pos, Ok, Err, bytes_eq, refl, sym, ap, ◌∙◌, subst, eqb-true, suc}
 use Rattle.al_source.specs.declared.annotations.LoopNote.{LoopNote}
 use Rattle.al_source.specs.declared.annotations.NamedRed.{NamedRed}
 use Rattle.al_source.specs.declared.operators.BinOp.{BinOp}
@@ -43,7 +43,7 @@ use Rattle.al_rules_laws.proofs.SourceInduction.{StmtCases, stmt_induct, IfAny, 
 use Rattle.al_rules_laws.proofs.TypeFacts.{is_int_type, is_void_type, scalar_sound}
 use Rattle.al_rules_laws.proofs.NameFacts.{names, field_of_binding, local_found, new_name, find_map, VariableIs, is_local, is_global, is_no_variable, variable_is}
 use Rattle.al_rules_laws.proofs.ExpressionsSound as sound
-use Rattle.al_rules_laws.proofs.WalkFacts.{Ends, added, begun_loop, ended_loop, scoped, bind_ends, checks_ends, lift_ends, assoc, pure_ends, pure_is, check_is, add_ends, begin_ends, end_ends, within_ends, never_ends, block, map_append, block_nested}
+use Rattle.al_rules_laws.proofs.WalkFacts.{Ends, added, begun_loop, ended_loop, scoped, bind_ends, checks_ends, lift_ends, assoc, pure_ends, pure_is, bind_pure, check_is, add_ends, begin_ends, end_ends, within_ends, never_ends, block, map_append, block_nested}
 
 -- ---- types by their tests
 
@@ -300,3 +300,197 @@ module _ (known : Known) (func : ℕ) (result : CType) where
       let d = sym (assoc (end_loop n) (λ _. pure (q.1.0.0, Some n)) f q.1.0.1) ∙ q.1.2 in
       let g = sym (end_ends n (λ _. bind (pure (q.1.0.0, Some n)) f) q.1.0.1) ∙ d in
       (q.0, ((q.1.0.0, Some n), (ended_loop n q.1.0.1, q.1.1, sym (pure_ends (q.1.0.0, Some n) f (ended_loop n q.1.0.1)) ∙ g)))
+
+  -- ---- each kind of statement
+
+  starts_by : (line : ℕ) (a : CType) (v : Option Expr) (f : TExpr → Walk TKind) (s : Progress) (z : TKind × Progress) → Ends (bind (w.initial known func result line a v) f s) z → st.Starts (st.in_block setting (block s.scope)) a v × ((y : TExpr) × Ends (f y s) z)
+  starts_by line a None f s z e = (st.zeroed, (te.Number (pos 0), sym (pure_ends (te.Number (pos 0)) f s) ∙ e))
+  starts_by line a (Some v) f s z e =
+      let p = checks_ends line (λ scope. x.operand known (in_scope scope) v) (λ p. bind (lift line (o.fitting a p)) f) s z (sym (assoc (w.operand_of known func result line v) (λ p. lift line (o.fitting a p)) f s) ∙ e) in
+      let y = lift_ends line (o.fitting a p.0) f s z p.2 in
+      (st.by (into (λ n. r.Fits n v a) s.scope (sound.fitting_is known (in_scope s.scope) v p.0 a y.0 (describes s.scope v p.0 p.1) y.1)), (y.0, y.2))
+
+  declare_sound : (a : CType) (name : Name) (v : Option Expr) → KindSound (k.Declare a name v)
+  declare_sound a name v line looped s z e =
+      let rest : Unit {0} → Walk TKind = λ _. bind (add_local name a) (λ n. bind (w.initial known func result line a v) (λ y. pure (tk.SetLocal n y))) in
+      let new = λ (scope : Scope). ensure (not (is_declared name scope)) Twice in
+      let shaped = type_checked (is_struct known.structs) (is_struct known.structs) is_scalar a in
+      let d = by_walk (nodes.walks-Declare known func result a name v line looped) s z e in
+      let c = checks_ends line new (λ _. bind (lift line shaped) rest) s z (sym (assoc (checks line new) (λ _. lift line shaped) rest s) ∙ d) in
+      let l = lift_ends line shaped rest s z c.2 in
+      let i = starts_by line a v (λ y. pure (tk.SetLocal (length s.locals) y)) (added name a s) z (sym (add_ends name a (λ n. bind (w.initial known func result line a v) (λ y. pure (tk.SetLocal n y))) s) ∙ l.2) in
+      let p = pure_is (tk.SetLocal (length s.locals) i.1.0) (added name a s) z i.1.1 in
+      conclude p (st.declare
+        (local_found name s.scope.inner ∙ ap (λ m. option_map field_of_binding m) (new_name (λ b. bytes_eq b.name name) s.scope.inner (ensure_ok (not (is_declared name s.scope)) Twice c.0 c.1)))
+        (scalar_sound (is_struct known.structs) (is_struct known.structs) a l.0 l.1)
+        i.0)
+
+  assign_sound : (a b : Expr) → KindSound (k.Assign a b)
+  assign_sound a b line looped s z e =
+      let d = by_walk (nodes.walks-Assign known func result a b line looped) s z e in
+      let l = checks_ends line (λ scope. x.operand known (in_scope scope) a) (λ l. bind (lift line (ensure (w.is_place l) NotPlace)) (λ _. bind (w.operand_of known func result line b) (λ v. lift line (w.assigned l v)))) s z d in
+      let u = lift_ends line (ensure (w.is_place l.0) NotPlace) (λ _. bind (w.operand_of known func result line b) (λ v. lift line (w.assigned l.0 v))) s z l.2 in
+      let v = checks_ends line (λ scope. x.operand known (in_scope scope) b) (λ v. lift line (w.assigned l.0 v)) s z u.2 in
+      let q = check_is line (λ _. w.assigned l.0 v.0) s z v.2 in
+      let h = assigns_by s.scope a b l.0 v.0 z.0 (describes s.scope a l.0 l.1) (describes s.scope b v.0 v.1) q.0 in
+      subst (λ (p : Progress). st.Statement setting looped (block s.scope) (st.at line (k.Assign a b)) (block p.scope)) q.1
+        (st.assign (into (λ n. st.Assigns n a h.0) s.scope h.1) (into (λ n. r.Fits n b h.0) s.scope h.2))
+
+  update_sound : (op : BinOp) (a b : Expr) → KindSound (k.Update op a b)
+  update_sound op a b line looped s z e =
+      let d = by_walk (nodes.walks-Update known func result op a b line looped) s z e in
+      let m = lift_ends line (ensure (w.may_update op) Shape) (λ _. bind (w.operand_of known func result line a) (λ l. bind (lift line (ensure (w.is_place l) NotPlace)) (λ _. bind (w.operand_of known func result line b) (λ v. lift line (w.updated op l v))))) s z d in
+      let l = checks_ends line (λ scope. x.operand known (in_scope scope) a) (λ l. bind (lift line (ensure (w.is_place l) NotPlace)) (λ _. bind (w.operand_of known func result line b) (λ v. lift line (w.updated op l v)))) s z m.2 in
+      let u = lift_ends line (ensure (w.is_place l.0) NotPlace) (λ _. bind (w.operand_of known func result line b) (λ v. lift line (w.updated op l.0 v))) s z l.2 in
+      let v = checks_ends line (λ scope. x.operand known (in_scope scope) b) (λ v. lift line (w.updated op l.0 v)) s z u.2 in
+      let q = check_is line (λ _. w.updated op l.0 v.0) s z v.2 in
+      let h = updates_by s.scope op a b l.0 v.0 z.0 (describes s.scope a l.0 l.1) (describes s.scope b v.0 v.1) q.0 in
+      subst (λ (p : Progress). st.Statement setting looped (block s.scope) (st.at line (k.Update op a b)) (block p.scope)) q.1
+        (st.update (ensure_ok (w.may_update op) Shape m.0 m.1) (into (λ n. st.Assigns n a t.Int) s.scope h.0) (into (λ n. r.Has n b r.value t.Int) s.scope h.1))
+
+  call_sound : (name : Name) (xs : List Expr) → KindSound (k.Call name xs)
+  call_sound name xs line looped s z run =
+      let d = by_walk (nodes.walks-Call known func result name xs line looped) s z run in
+      let c = checks_ends line (λ scope. x.call known (in_scope scope) name (x.operands known (in_scope scope) xs)) (λ c. pure (tk.Call c.1)) s z d in
+      let h = sound.call_is known (in_scope s.scope) name xs c.0 (sound.each_reads known (in_scope s.scope) xs) c.1 in
+      conclude (pure_is (tk.Call c.0.1) s z c.2) (st.call (into (λ n. r.Has n (e.Call name xs) r.value c.0.0) s.scope h))
+
+  print_sound : (f : List Piece) (xs : List Expr) → KindSound (k.Print f xs)
+  print_sound f xs line looped s z e =
+      let d = by_walk (nodes.walks-Print known func result f xs line looped) s z e in
+      let p = checks_ends line (λ scope. x.operands known (in_scope scope) xs) (λ ps. bind (lift line (ensure (length ps == w.numbers_in f) Count)) (λ _. bind (lift line (each o.integer ps)) (λ ns. pure (tk.Print f ns)))) s z d in
+      let u = lift_ends line (ensure (length p.0 == w.numbers_in f) Count) (λ _. bind (lift line (each o.integer p.0)) (λ ns. pure (tk.Print f ns))) s z p.2 in
+      let v = lift_ends line (each o.integer p.0) (λ ns. pure (tk.Print f ns)) s z u.2 in
+      let h = sound.expressions_are known (in_scope s.scope) xs p.0 p.1 in
+      conclude (pure_is (tk.Print f v.0) s z v.2)
+        (st.print (as_many s.scope h ∙ eqb-true (length p.0) (w.numbers_in f) (ensure_ok (length p.0 == w.numbers_in f) Count u.0 u.1))
+          (into (λ n. AllOf (λ y. r.Has n y r.value t.Int) xs) s.scope (integers_all s.scope v.0 h v.1)))
+
+  -- in the end the same is in scope as before
+  same_end : {A : Type 0} {looped : Bool} {y : Stmt} (s s' : Progress) (a : A) (z : A × Progress) → block s.scope ≡ block s'.scope → (a, s') ≡ z → st.Statement setting looped (block s.scope) y (block s.scope) → st.Statement setting looped (block s.scope) y (block z.1.scope)
+  same_end {looped = looped} {y = y} s s' a z same p d = conclude p (subst (λ b. st.Statement setting looped (block s.scope) y b) same d)
+
+  choice_sound : (c : Expr) (a : Stmt) (b : Option Stmt) → Sound a → IfAny Sound b → KindSound (k.If c a b)
+  choice_sound c a None h i line looped s z e =
+      let d = by_walk (nodes.walks-If known func result c a None line looped) s z e in
+      let v = condition_ends line c (λ v. bind (w.part_if w.is_body (w.part known func result a) looped) (λ p. bind (pure None) (λ q. pure (tk.If v p q)))) s z d in
+      let p = branch_ends a looped (λ p. bind (pure None) (λ q. pure (tk.If v.1.0 p q))) s z h v.1.1 in
+      let g = sym (pure_ends None (λ q. pure (tk.If v.1.0 p.1.0.0 q)) p.1.0.1) ∙ p.1.2 in
+      same_end s p.1.0.1 (tk.If v.1.0 p.1.0.0 None) z p.1.1 (pure_is (tk.If v.1.0 p.1.0.0 None) p.1.0.1 z g) (st.choice v.0 p.0)
+  choice_sound c a (Some b) h (present i) line looped s z e =
+      let d = by_walk (nodes.walks-If known func result c a (Some b) line looped) s z e in
+      let v = condition_ends line c (λ v. bind (w.part_if w.is_body (w.part known func result a) looped) (λ p. bind (bind (w.part_if w.is_body (w.part known func result b) looped) (λ t. pure (Some t))) (λ q. pure (tk.If v p q)))) s z d in
+      let p = branch_ends a looped (λ p. bind (bind (w.part_if w.is_body (w.part known func result b) looped) (λ t. pure (Some t))) (λ q. pure (tk.If v.1.0 p q))) s z h v.1.1 in
+      let g = sym (assoc (w.part_if w.is_body (w.part known func result b) looped) (λ t. pure (Some t)) (λ q. pure (tk.If v.1.0 p.1.0.0 q)) p.1.0.1) ∙ p.1.2 in
+      let q = branch_ends b looped (λ t. bind (pure (Some t)) (λ q. pure (tk.If v.1.0 p.1.0.0 q))) p.1.0.1 z i g in
+      let j = sym (pure_ends (Some q.1.0.0) (λ q. pure (tk.If v.1.0 p.1.0.0 q)) q.1.0.1) ∙ q.1.2 in
+      same_end s q.1.0.1 (tk.If v.1.0 p.1.0.0 (Some q.1.0.0)) z (p.1.1 ∙ q.1.1) (pure_is (tk.If v.1.0 p.1.0.0 (Some q.1.0.0)) q.1.0.1 z j)
+        (st.choice_of_two v.0 p.0 (subst (λ n. st.Branch setting looped n b) (sym p.1.1) q.0))
+
+  while_sound : (c : Expr) (a : Stmt) → Sound a → KindSound (k.While c a)
+  while_sound c a h line looped s z e =
+      let d = by_walk (nodes.walks-While known func result c a line looped) s z e in
+      let v = condition_ends line c (λ v. bind (w.part_if w.is_body (w.part known func result a) true) (λ p. pure (tk.While v p))) s z d in
+      let p = branch_ends a true (λ p. pure (tk.While v.1.0 p)) s z h v.1.1 in
+      same_end s p.1.0.1 (tk.While v.1.0 p.1.0.0) z p.1.1 (pure_is (tk.While v.1.0 p.1.0.0) p.1.0.1 z p.1.2) (st.while_loop v.0 p.0)
+
+  for_sound : (first : Option Stmt) (test : Option Expr) (third : Option Stmt) (body : Stmt) (note : Option LoopNote) → IfAny Sound first → IfAny Sound third → Sound body → KindSound (k.For first test third body note)
+  for_sound first test third body note h i j line looped s z e =
+      let d = by_walk (nodes.walks-For known func result first test third body note line looped) s z e in
+      let n = choice_ends line note (w.for_loop known func result line looped (nodes.part_of known func result first) test (nodes.part_of known func result third) (w.part known func result body)) s z d in
+      let own = n.1.0 in
+      let s1 = scoped s (nested s.scope) in
+      let inside = bind (w.any_part w.is_first (nodes.part_of known func result first) looped) (λ a. bind (w.any_condition known func result line test) (λ c. bind (w.any_part w.is_third (nodes.part_of known func result third) looped) (λ u. bind (w.looped_body known func result line own (w.part known func result body)) (λ b. pure (tk.For a c u b.0 b.1))))) in
+      let q = within_ends inside s z n.1.1 in
+      let a = first_ends first looped (λ a. bind (w.any_condition known func result line test) (λ c. bind (w.any_part w.is_third (nodes.part_of known func result third) looped) (λ u. bind (w.looped_body known func result line own (w.part known func result body)) (λ b. pure (tk.For a c u b.0 b.1))))) s1 q.0 h q.1 in
+      let c = test_ends line test (λ c. bind (w.any_part w.is_third (nodes.part_of known func result third) looped) (λ u. bind (w.looped_body known func result line own (w.part known func result body)) (λ b. pure (tk.For a.0.0 c u b.0 b.1)))) a.0.1 q.0 a.2 in
+      let u = third_ends third looped (λ u. bind (w.looped_body known func result line own (w.part known func result body)) (λ b. pure (tk.For a.0.0 c.1.0 u b.0 b.1))) a.0.1 q.0 i c.1.1 in
+      let b = body_ends line own body (λ b. pure (tk.For a.0.0 c.1.0 u.0.0 b.0 b.1)) u.0.1 q.0 j u.2 in
+      conclude q.2 (st.for_loop n.0 (subst (λ m. st.First setting looped m first (block a.0.1.scope)) (block_nested s.scope) a.1) c.0 u.1 b.0)
+
+  statements_end : {B : Type 0} (ss : List Stmt) (looped : Bool) (f : List TStmt → Walk B) (s : Progress) (z : B × Progress) → AllOf Sound ss → Ends (bind (w.statements known func result looped ss) f s) z
+      → (q : List TStmt × Progress) × st.Statements setting looped (block s.scope) ss (block q.1.scope) × Ends (f q.0 q.1) z
+  statements_end [] looped f s z hs e = (([], s), st.done, sym (pure_ends [] f s) ∙ e)
+  statements_end (b ∷ ss) looped f s z (more h hs) e =
+      let d = sym (assoc ((w.part known func result b).walk looped) (λ t. bind (w.statements known func result looped ss) (λ ts. pure (t ∷ ts))) f s) ∙ e in
+      let p = bind_ends ((w.part known func result b).walk looped) (λ t. bind (bind (w.statements known func result looped ss) (λ ts. pure (t ∷ ts))) f) s z d in
+      let g = sym (assoc (w.statements known func result looped ss) (λ ts. pure (p.0.0 ∷ ts)) f p.0.1) ∙ p.2 in
+      let q = statements_end ss looped (λ ts. bind (pure (p.0.0 ∷ ts)) f) p.0.1 z hs g in
+      ((p.0.0 ∷ q.0.0, q.0.1), st.next (h looped s p.0 p.1) q.1, sym (pure_ends (p.0.0 ∷ q.0.0) f q.0.1) ∙ q.2)
+
+  block_sound : (ss : List Stmt) → AllOf Sound ss → KindSound (k.Block ss)
+  block_sound ss hs line looped s z e =
+      let d = by_walk (nodes.walks-Block known func result ss line looped) s z e in
+      let q = within_ends (bind (w.statements known func result looped ss) (λ ts. pure (tk.Block ts))) s z d in
+      let p = statements_end ss looped (λ ts. pure (tk.Block ts)) (scoped s (nested s.scope)) q.0 hs q.1 in
+      conclude q.2 (st.block (subst (λ m. st.Statements setting looped m ss (block p.0.1.scope)) (block_nested s.scope) p.1))
+
+  return_sound : (v : Option Expr) → KindSound (k.Return v)
+  return_sound None line looped s z e =
+      let d = by_walk (nodes.walks-Return known func result None line looped) s z e in
+      let u = lift_ends line (ensure (w.is_void result) Return) (λ _. pure (tk.Return None)) s z d in
+      conclude (pure_is (tk.Return None) s z u.2) (st.return_none (void_true result (ensure_ok (w.is_void result) Return u.0 u.1)))
+  return_sound (Some y) line looped s z e =
+      let d = by_walk (nodes.walks-Return known func result (Some y) line looped) s z e in
+      let p = checks_ends line (λ scope. x.operand known (in_scope scope) y) (λ p. bind (lift line (ensure (not (w.is_void result)) Return)) (λ _. bind (lift line (o.fitting result p)) (λ a. pure (tk.Return (Some a))))) s z d in
+      let u = lift_ends line (ensure (not (w.is_void result)) Return) (λ _. bind (lift line (o.fitting result p.0)) (λ a. pure (tk.Return (Some a)))) s z p.2 in
+      let v = lift_ends line (o.fitting result p.0) (λ a. pure (tk.Return (Some a))) s z u.2 in
+      conclude (pure_is (tk.Return (Some v.0)) s z v.2) (st.return_value (into (λ n. r.Fits n y result) s.scope (sound.fitting_is known (in_scope s.scope) y p.0 result v.0 (describes s.scope y p.0 p.1) v.1)))
+
+  break_sound : KindSound k.Break
+  break_sound line true s z e =
+      let d = by_walk (nodes.walks-Break known func result line true) s z e in
+      let u = lift_ends line (ensure true Outside) (λ _. pure tk.Break) s z d in conclude (pure_is tk.Break s z u.2) st.break_loop
+  break_sound line false s z e =
+      let d = by_walk (nodes.walks-Break known func result line false) s z e in
+      let u = lift_ends line (ensure false Outside) (λ _. pure tk.Break) s z d in
+      let no : false ≡ true = ensure_ok false Outside u.0 u.1 in absurd cc
+
+  continue_sound : KindSound k.Continue
+  continue_sound line true s z e =
+      let d = by_walk (nodes.walks-Continue known func result line true) s z e in
+      let u = lift_ends line (ensure true Outside) (λ _. pure tk.Continue) s z d in conclude (pure_is tk.Continue s z u.2) st.continue_loop
+  continue_sound line false s z e =
+      let d = by_walk (nodes.walks-Continue known func result line false) s z e in
+      let u = lift_ends line (ensure false Outside) (λ _. pure tk.Continue) s z d in
+      let no : false ≡ true = ensure_ok false Outside u.0 u.1 in absurd cc
+
+  empty_sound : KindSound k.Empty
+  empty_sound line looped s z e = conclude (pure_is tk.Empty s z (by_walk (nodes.walks-Empty known func result line looped) s z e)) st.empty
+
+  stmt_sound : (line : ℕ) (d : StmtKind) → KindSound d → Sound (st.at line d)
+  stmt_sound line d h looped s z e =
+      let p = by_walk (nodes.walks-stmt known func result (st.at line d) looped) s z e in
+      let q = sym (ap (λ (b : Stmt-F StmtKind Stmt). bind ((w.kind_part known func result b.kind).walk b.line looped) (λ d. pure (roll-TStmt (record { line = b.line; kind = d }))) s) (out-roll-Stmt (record { line = line; kind = d }))) ∙ p in
+      let a = bind_ends ((w.kind_part known func result d).walk line looped) (λ d. pure (roll-TStmt (record { line = line; kind = d }))) s z q in
+      conclude (pure_is (roll-TStmt (record { line = line; kind = a.0.0 })) a.0.1 z a.2) (h line looped s a.0 a.1)
+
+  sound_cases : StmtCases Sound KindSound
+  sound_cases = record {
+    stmt = stmt_sound;
+    empty = empty_sound;
+    declare = declare_sound;
+    assign = assign_sound;
+    update = update_sound;
+    call = call_sound;
+    print = print_sound;
+    choice = choice_sound;
+    while_loop = while_sound;
+    for_loop = for_sound;
+    block = block_sound;
+    returns = return_sound;
+    breaks = break_sound;
+    continues = continue_sound;
+  }
+
+  pub statement_is : (b : Stmt) → Sound b
+  statement_is = stmt_induct Sound KindSound sound_cases
+
+  all_sound : (ss : List Stmt) → AllOf Sound ss
+  all_sound [] = none
+  all_sound (b ∷ ss) = more (statement_is b) (all_sound ss)
+
+  pub statements_are : (ss : List Stmt) (looped : Bool) (s : Progress) (z : List TStmt × Progress) → Ends (w.statements known func result looped ss s) z → st.Statements setting looped (block s.scope) ss (block z.1.scope)
+  statements_are ss looped s z e =
+      let q = statements_end ss looped (λ ts. pure ts) s z (all_sound ss) (bind_pure (w.statements known func result looped ss) s ∙ e) in
+      subst (λ (q : List TStmt × Progress). st.Statements setting looped (block s.scope) ss (block q.1.scope)) (pure_is q.0.0 q.0.1 z q.2) q.1

@@ -75,6 +75,14 @@ module _ {A : Type 0} where
   unfolding pure
   pure_is a s r e = cc
 
+  pub bind_pure : (p : Walk A) (s : Progress) → bind p (λ a. pure a) s ≡ p s
+  unfolding bind pure
+  bind_pure p s = by (p s)
+    where
+      by : (t : Result (A × Progress) TypeFault) → and_then t (λ q. Ok (q.0, q.1)) ≡ t
+      by (Ok q) = refl
+      by (Err x) = refl
+
   pub check_is : (line : ℕ) (c : Scope → Checked A) (s : Progress) (r : A × Progress) → Ends (checks line c s) r → (c s.scope ≡ Ok r.0) × (s ≡ r.1)
   unfolding checks
   check_is line c s r e = by (c s.scope) refl e
