@@ -257,12 +257,12 @@ module _ (known : Known) (scope : List Binding) where
     pub terms : List TExpr
     pub fit : o.fitting_all fs operands_of ≡ Ok terms
 
-  variable_local : (name : Name) (f : Field) (m : Option Named) → VariableIs known scope name m → r.named (λ f. f.name) name g.locals ≡ Some f → (k : ℕ) × (m ≡ Some (named_local k f.ty))
+  pub variable_local : (name : Name) (f : Field) (m : Option Named) → VariableIs known scope name m → r.named (λ f. f.name) name g.locals ≡ Some f → (k : ℕ) × (m ≡ Some (named_local k f.ty))
   variable_local name f _ (is_local b found) e = (b.number, ap (λ h. Some (named_local b.number h.ty)) (some_is (sym found ∙ e)))
   variable_local name f _ (is_global k x l found) e = let d : None ≡ Some f = sym l ∙ e in absurd cc
   variable_local name f _ (is_no_variable h) e = let d : None ≡ Some f = sym h.no_local ∙ e in absurd cc
 
-  variable_global : (name : Name) (x : GlobalDef) (m : Option Named) → VariableIs known scope name m → r.named (λ f. f.name) name g.locals ≡ None → r.named (λ x. x.name) name g.globals ≡ Some x → (k : ℕ) × (m ≡ Some (named_global k x.ty))
+  pub variable_global : (name : Name) (x : GlobalDef) (m : Option Named) → VariableIs known scope name m → r.named (λ f. f.name) name g.locals ≡ None → r.named (λ x. x.name) name g.globals ≡ Some x → (k : ℕ) × (m ≡ Some (named_global k x.ty))
   variable_global name x _ (is_local b found) l e = let d : Some (field_of_binding b) ≡ None = sym found ∙ l in absurd cc
   variable_global name x _ (is_global k y m found) l e = (k, ap (λ h. Some (named_global k h.ty)) (some_is (sym found ∙ e)))
   variable_global name x _ (is_no_variable h) l e = let d : None ≡ Some x = sym h.no_global ∙ e in absurd cc

@@ -7,3 +7,4 @@ pub mod ExpressionsSound
 pub mod ExpressionsComplete
 pub mod WalkFacts
 pub mod StatementsSound
+pub mod StatementsComplete

@@ -124,6 +124,29 @@ module _ {A : Type 0} where
   unfolding checks
   never_ends line k s r e = cc
 
+-- ---- steps that are known to end
+
+module _ {A B : Type 0} where
+  pub bind_by : (p : Walk A) (f : A → Walk B) (s : Progress) (q : A × Progress) → Ends (p s) q → bind p f s ≡ f q.0 q.1
+  unfolding bind
+  bind_by p f s q e = ap (λ (t : Result (A × Progress) TypeFault). and_then t (λ q. f q.0 q.1)) e
+
+  pub checks_by : (line : ℕ) (c : Scope → Checked A) (f : A → Walk B) (s : Progress) (a : A) → c s.scope ≡ Ok a → bind (checks line c) f s ≡ f a s
+  unfolding bind checks
+  checks_by line c f s a e = ap (λ (t : Checked A). and_then {B = B × Progress} (and_then {B = A × Progress} (at_line line t) (λ a. Ok (a, s))) (λ q. f q.0 q.1)) e
+
+  pub lift_by : (line : ℕ) (c : Checked A) (f : A → Walk B) (s : Progress) (a : A) → c ≡ Ok a → bind (lift line c) f s ≡ f a s
+  lift_by line c f s a e = checks_by line (λ _. c) f s a e
+
+module _ {A : Type 0} where
+  pub check_end : (line : ℕ) (c : Scope → Checked A) (s : Progress) (a : A) → c s.scope ≡ Ok a → Ends (checks line c s) (a, s)
+  unfolding checks
+  check_end line c s a e = ap (λ (t : Checked A). and_then (at_line line t) (λ a. Ok (a, s))) e
+
+  pub pure_end : (a : A) (s : Progress) → Ends (pure a s) (a, s)
+  unfolding pure
+  pure_end a s = refl
+
 -- ---- scopes
 
 -- the locals in scope, as the rules have them
