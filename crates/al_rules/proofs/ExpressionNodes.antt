@@ -1,5 +1,5 @@
 -- What each kind of expression is.
-use Rattle.std.proofs.Common.{◌≡◌, ℕ, ◌*◌, List, [], ◌∷◌, map, Ok, refl, sym, ap, ◌∙◌}
+use Rattle.std.proofs.Common.{◌≡◌, ◌*◌, List, [], ◌∷◌, map, Ok, refl, sym, ap, ◌∙◌}
 use Rattle.std.specs.Prelude.{ℤ, pos}
 use Rattle.al_source.specs.declared.operators.UnOp.{UnOp}
 use Rattle.al_source.specs.declared.operators.BinOp.{BinOp}
@@ -16,7 +16,7 @@ use Rattle.al_rules.specs.Names.{Name}
 use Rattle.al_rules.specs.Scopes.{Binding, Known, size, variable_named}
 use Rattle.al_rules.specs.Operands.{integer, unary, binary, of_scalars, of_variable, indexed, member, member_behind, followed, address}
 use Rattle.al_rules.specs.Expressions.{sized, call, expr_case, operand, operands}
-use Rattle.al_rules.specs.Checks.{Checked, ◌>>=◌, ◌>>◌, all, each, some_or}
+use Rattle.al_rules.specs.Checks.{Checked, ◌>>=◌, ◌>>◌, all, some_or}
 
 module _ (known : Known) (scope : List Binding) where
   of_operand : (x : Expr-F Expr) (d : Expr) → roll-Expr x ≡ d → operand known scope d ≡ expr_case known scope (map-Expr Expr (Checked Operand) (operand known scope) x)
@@ -74,6 +74,20 @@ module _ (known : Known) (scope : List Binding) where
   pub operand-Calloc : (x : Expr) (a : CType) → operand known scope (s.Calloc x a) ≡ (operand known scope x >>= integer >>= (λ n. sized known scope a >> Ok (Value (type.Ptr a) (e.Calloc n (size known a)))))
   operand-Calloc x a = of_operand (Expr-F.Calloc x a) _ (s.rolls-Calloc x a)
 
-pub ruleset operand_nodes =
-    (operand-Number, operand-Null, operand-Var, operand-Unary, operand-Binary, operand-And, operand-Or, operand-Index, operand-Dot, operand-Arrow, operand-Deref,
-     operand-Address, operand-Call, operand-SizeOf, operand-Calloc)
+pub ruleset operand_nodes = (
+  operand-Number,
+  operand-Null,
+  operand-Var,
+  operand-Unary,
+  operand-Binary,
+  operand-And,
+  operand-Or,
+  operand-Index,
+  operand-Dot,
+  operand-Arrow,
+  operand-Deref,
+  operand-Address,
+  operand-Call,
+  operand-SizeOf,
+  operand-Calloc,
+)

@@ -1,5 +1,5 @@
 -- The walk over each kind of statement.
-use Rattle.std.proofs.Common.{◌≡◌, ℕ, Bool, true, false, not, List, [], ◌∷◌, map, length, Option, Some, None, refl, sym, ap, ◌∙◌}
+use Rattle.std.proofs.Common.{◌≡◌, ℕ, Bool, true, List, [], ◌∷◌, map, length, Option, Some, None, refl, sym, ap, ◌∙◌}
 use Rattle.std.specs.Prelude.{◌==◌}
 use Rattle.al_source.specs.declared.annotations.LoopNote.{LoopNote}
 use Rattle.al_source.specs.declared.operators.BinOp.{BinOp}
@@ -12,7 +12,6 @@ use Rattle.al_source.specs.declared.source_tree.StmtKind.TheViews.{roll-StmtKind
 use Rattle.al_source.specs.declared.source_tree.StmtKind.TheOpen.{StmtKind-F}
 use Rattle.al_source.specs.declared.source_tree.StmtKind.TheVariants as s
 use Rattle.al_core.specs.declared.typed_tree.TStmt.{TStmt, roll-TStmt}
-use Rattle.al_core.specs.declared.typed_tree.TKind.{TKind}
 use Rattle.al_core.specs.declared.typed_tree.TKind.TheVariants as k
 use Rattle.al_rules.specs.declared.faults.TypeKind.TheVariants.{Shape, NotPlace, Count}
 use Rattle.al_rules.specs.Names.{Name}
@@ -21,7 +20,7 @@ use Rattle.al_rules.specs.Scopes.{Known, in_scope}
 use Rattle.al_rules.specs.Operands.{integer}
 use Rattle.al_rules.specs.Expressions as x
 use Rattle.al_rules.specs.Walks.{Walk, pure, checks, lift, within, all_steps, ◌>>=◌, ◌>>◌}
-use Rattle.al_rules.specs.Statements.{Sort, Declares, Sets, Simple, Other, is_body, may_update, Part, KindPart, part_if, any_part, walks_of, numbers_in, assigned, updated, is_place, operand_of, operands_of, condition, declare, choice_of, returned, leave, for_loop, walk_case, sort_case, kind_case, stmt_case, part, kind_part, statements}
+use Rattle.al_rules.specs.Statements.{Declares, Sets, Simple, Other, is_body, may_update, Part, KindPart, part_if, any_part, walks_of, numbers_in, assigned, updated, is_place, operand_of, operands_of, condition, declare, choice_of, returned, leave, for_loop, walk_case, sort_case, kind_case, stmt_case, part, kind_part, statements}
 
 module _ (known : Known) (func : ℕ) (result : CType) where
   abbrev pub part_of : Option Stmt → Option Part
@@ -144,10 +143,38 @@ module _ (known : Known) (func : ℕ) (result : CType) where
   pub sort-Continue : (kind_part known func result s.Continue).sort ≡ Other
   sort-Continue = of_sort StmtKind-F.Continue _ s.rolls-Continue
 
-pub ruleset walk_nodes =
-    (walks-stmt, walks-Empty, walks-Declare, walks-Assign, walks-Update, walks-Call, walks-Print, walks-If, walks-While, walks-For, walks-Block, walks-Return,
-     walks-Break, walks-Continue)
+pub ruleset walk_nodes = (
+  walks-stmt,
+  walks-Empty,
+  walks-Declare,
+  walks-Assign,
+  walks-Update,
+  walks-Call,
+  walks-Print,
+  walks-If,
+  walks-While,
+  walks-For,
+  walks-Block,
+  walks-Return,
+  walks-Break,
+  walks-Continue,
+)
 
-pub ruleset sort_nodes =
-    (sort-stmt, line-stmt, sort-Declare, sort-Sets, sort-Assign, sort-Update, sort-Call, sort-Print, sort-Empty, sort-If, sort-While, sort-For, sort-Block,
-     sort-Return, sort-Break, sort-Continue)
+pub ruleset sort_nodes = (
+  sort-stmt,
+  line-stmt,
+  sort-Declare,
+  sort-Sets,
+  sort-Assign,
+  sort-Update,
+  sort-Call,
+  sort-Print,
+  sort-Empty,
+  sort-If,
+  sort-While,
+  sort-For,
+  sort-Block,
+  sort-Return,
+  sort-Break,
+  sort-Continue,
+)

@@ -1,11 +1,8 @@
 -- What is said of each kind of type.
-use Rattle.std.proofs.Common.{◌≡◌, ℕ, ◌*◌, Bool, true, false, ◌&&◌, List, Option, Some, None, refl, sym, ap, ◌∙◌}
-use Rattle.std.specs.Prelude.{◌==◌}
-use Rattle.std.specs.Str.{bytes_eq}
+use Rattle.std.proofs.Common.{◌≡◌, ℕ, Bool, true, false, Some, None, sym, ap, ◌∙◌}
 use Rattle.al_source.specs.declared.source_tree.CType.{CType, out-CType, roll-CType, map-CType, fold-CType, fold-roll-CType}
 use Rattle.al_source.specs.declared.source_tree.CType.TheOpen.{CType-F}
 use Rattle.al_source.specs.declared.source_tree.CType.TheVariants as t
-use Rattle.al_core.specs.declared.values.Kind.{Kind}
 use Rattle.al_core.specs.declared.values.Kind.TheVariants as kind
 use Rattle.al_rules.specs.Names.{Name}
 use Rattle.al_rules.specs.Types.{same_case, same_type, is_int_case, is_int, pointee_case, pointee, element_case, element, struct_case, struct_name, kind_case, kind_of, Form, Nothing, Scalar, Structure, pointer_form, array_form, form_case, form, known_case, are_known}
@@ -181,12 +178,33 @@ module _ (earlier anywhere : Name → Bool) where
 
 pub ruleset same_nodes = (same-Int, same-Void, same-Struct, same-Ptr, same-Array)
 
-pub ruleset part_nodes =
-    (int-Int, int-Void, int-Struct, int-Ptr, int-Array,
-     pointee-Int, pointee-Void, pointee-Struct, pointee-Ptr, pointee-Array,
-     element-Int, element-Void, element-Struct, element-Ptr, element-Array,
-     name-Int, name-Void, name-Struct, name-Ptr, name-Array,
-     kind-Int, kind-Void, kind-Struct, kind-Ptr, kind-Array)
+pub ruleset part_nodes = (
+  int-Int,
+  int-Void,
+  int-Struct,
+  int-Ptr,
+  int-Array,
+  pointee-Int,
+  pointee-Void,
+  pointee-Struct,
+  pointee-Ptr,
+  pointee-Array,
+  element-Int,
+  element-Void,
+  element-Struct,
+  element-Ptr,
+  element-Array,
+  name-Int,
+  name-Void,
+  name-Struct,
+  name-Ptr,
+  name-Array,
+  kind-Int,
+  kind-Void,
+  kind-Struct,
+  kind-Ptr,
+  kind-Array,
+)
 
 pub ruleset form_nodes = (form-Int, form-Void, form-Struct, form-Ptr, form-Array)
 

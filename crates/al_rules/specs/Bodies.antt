@@ -7,6 +7,7 @@ use Rattle.al_core.specs.declared.choices.Bound.TheVariants as bound
 use Rattle.al_core.specs.declared.typed_tree.TExpr.{out-TExpr}
 use Rattle.al_core.specs.declared.typed_tree.TPlace.{out-TPlace}
 use Rattle.al_core.specs.declared.typed_tree.TStmt.{TStmt, fold-TStmt}
+use Rattle.al_core.specs.declared.typed_tree.TKind.{TKind, fold-TKind}
 use Rattle.al_core.specs.declared.typed_tree.TKind.TheOpen.{TKind-F}
 use Rattle.al_core.specs.declared.typed_tree.TFunc.{TFunc}
 use Rattle.al_core.specs.declared.typed_tree.Typed.{Typed}
@@ -37,6 +38,9 @@ assigns_here n _ = false
 unfoldable pub assigns : ℕ → TStmt → Bool
 assigns n = fold-TStmt Bool Bool (any_case (assigns_here n)) (λ s. s.kind)
 
+unfoldable pub assigns_in : ℕ → TKind → Bool
+assigns_in n = fold-TKind Bool Bool (any_case (assigns_here n)) (λ s. s.kind)
+
 abbrev pub assigns_bound : Bound → TStmt → Bool
 assigns_bound (bound.Number n) s = false
 assigns_bound (bound.Local n) s = assigns n s
@@ -51,6 +55,9 @@ returns_here _ = false
 unfoldable pub has_return : TStmt → Bool
 has_return = fold-TStmt Bool Bool (any_case returns_here) (λ s. s.kind)
 
+unfoldable pub returns_in : TKind → Bool
+returns_in = fold-TKind Bool Bool (any_case returns_here) (λ s. s.kind)
+
 abbrev pub breaks_case : TKind-F Bool Bool → Bool
 breaks_case TKind-F.Break = true
 breaks_case (TKind-F.If e a b) = a || if_any b
@@ -60,6 +67,9 @@ breaks_case _ = false
 -- a `break` stands in it that is of no loop in it
 unfoldable pub has_break : TStmt → Bool
 has_break = fold-TStmt Bool Bool breaks_case (λ s. s.kind)
+
+unfoldable pub breaks_in : TKind → Bool
+breaks_in = fold-TKind Bool Bool breaks_case (λ s. s.kind)
 
 -- ---- which functions are reached
 
@@ -109,3 +119,6 @@ updates_here op a _ = false
 -- the variable is updated by the operator in it
 unfoldable pub has_update : RedOp → Addr → TStmt → Bool
 has_update op a = fold-TStmt Bool Bool (any_case (updates_here op a)) (λ s. s.kind)
+
+unfoldable pub updates_in : RedOp → Addr → TKind → Bool
+updates_in op a = fold-TKind Bool Bool (any_case (updates_here op a)) (λ s. s.kind)

@@ -13,6 +13,7 @@ use Rattle.al_core.specs.declared.typed_tree.TExpr.{TExpr, fold-TExpr}
 use Rattle.al_core.specs.declared.typed_tree.TPlace.{TPlace, fold-TPlace}
 use Rattle.al_core.specs.declared.typed_tree.TExpr.TheOpen.{TExpr-F, TPlace-F}
 use Rattle.al_core.specs.declared.typed_tree.TStmt.{TStmt, fold-TStmt}
+use Rattle.al_core.specs.declared.typed_tree.TKind.{fold-TKind, TKind}
 use Rattle.al_core.specs.declared.typed_tree.TKind.TheOpen.{TKind-F}
 use Rattle.al_core.specs.declared.typed_tree.TFunc.{TFunc}
 use Rattle.al_core.specs.declared.typed_tree.TGlobal.{TGlobal}
@@ -87,6 +88,9 @@ kind_names TKind-F.Continue = []
 
 unfoldable pub variables : TStmt → List Addr
 variables = fold-TStmt (List Addr) (List Addr) kind_names (λ s. s.kind)
+
+unfoldable pub variables_in : TKind → List Addr
+variables_in = fold-TKind (List Addr) (List Addr) kind_names (λ s. s.kind)
 
 -- each once, where it comes first
 abbrev pub firsts : List Addr → List Addr → List Addr

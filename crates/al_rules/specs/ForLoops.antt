@@ -9,10 +9,9 @@ use Rattle.al_core.specs.declared.values.Kind.TheVariants as kind
 use Rattle.al_core.specs.declared.typed_tree.TExpr.{TExpr, out-TExpr}
 use Rattle.al_core.specs.declared.typed_tree.TPlace.{TPlace}
 use Rattle.al_core.specs.declared.typed_tree.TExpr.TheOpen.{TExpr-F}
-use Rattle.al_core.specs.declared.typed_tree.TStmt.{TStmt, fold-TStmt, map-TStmt, out-TStmt}
-use Rattle.al_core.specs.declared.typed_tree.TKind.{TKind, map-TKind, out-TKind}
-use Rattle.al_core.specs.declared.typed_tree.TKind.TheOpen.{TStmt-F, TKind-F}
-use Rattle.al_core.specs.declared.typed_tree.TKind.TheViews.{roll-TStmt, roll-TKind}
+use Rattle.al_core.specs.declared.typed_tree.TStmt.{TStmt, para-TStmt, out-TStmt}
+use Rattle.al_core.specs.declared.typed_tree.TKind.{TKind, para-TKind, out-TKind}
+use Rattle.al_core.specs.declared.typed_tree.TKind.TheOpen.{TKind-F}
 use Rattle.al_core.specs.declared.typed_tree.TLocal.{TLocal}
 
 -- ---- the loops in a statement
@@ -26,48 +25,43 @@ pub record ForLoop : Type 0 where
   pub body : TStmt
 
 -- a statement, and the annotated loops in it
-pub record Found : Type 0 where
-  pub stmt : TStmt
-  pub loops : List ForLoop
+abbrev pub Seen : Type 0
+Seen = TStmt × List ForLoop
 
-pub record FoundKind : Type 0 where
-  pub kind : TKind
-  pub loops : List ForLoop
+abbrev pub SeenKind : Type 0
+SeenKind = TKind × List ForLoop
 
-abbrev pub all_loops : List Found → List ForLoop
+abbrev pub all_loops : List Seen → List ForLoop
 all_loops [] = []
-all_loops (s ∷ ss) = s.loops ++ all_loops ss
+all_loops (s ∷ ss) = s.1 ++ all_loops ss
 
-abbrev pub any_loops : Option Found → List ForLoop
-any_loops (Some s) = s.loops
+abbrev pub any_loops : Option Seen → List ForLoop
+any_loops (Some s) = s.1
 any_loops None = []
 
-abbrev pub any_stmt : Option Found → Option TStmt
-any_stmt (Some s) = Some s.stmt
+abbrev pub any_stmt : Option Seen → Option TStmt
+any_stmt (Some s) = Some s.0
 any_stmt None = None
 
-abbrev pub this_loop : Option Found → Option TExpr → Option Found → Found → Option ℕ → List ForLoop
+abbrev pub this_loop : Option Seen → Option TExpr → Option Seen → Seen → Option ℕ → List ForLoop
 this_loop first test third body None = []
 this_loop first test third body (Some n) =
-    record { number = n; first = any_stmt first; test = test; third = any_stmt third; body = body.stmt } ∷ []
+    record { number = n; first = any_stmt first; test = test; third = any_stmt third; body = body.0 } ∷ []
 
 -- A loop comes before those within it.
-abbrev pub loops_here : TKind-F FoundKind Found → List ForLoop
-loops_here (TKind-F.If e a b) = a.loops ++ any_loops b
-loops_here (TKind-F.While e a) = a.loops
+abbrev pub loops_here : TKind-F SeenKind Seen → List ForLoop
+loops_here (TKind-F.If e a b) = a.1 ++ any_loops b
+loops_here (TKind-F.While e a) = a.1
 loops_here (TKind-F.For first test third body number) =
-    this_loop first test third body number ++ any_loops first ++ any_loops third ++ body.loops
+    this_loop first test third body number ++ any_loops first ++ any_loops third ++ body.1
 loops_here (TKind-F.Block ss) = all_loops ss
 loops_here _ = []
 
-abbrev pub find_kind : TKind-F FoundKind Found → FoundKind
-find_kind d = record { kind = roll-TKind (map-TKind FoundKind Found TKind TStmt (λ d. d.kind) (λ s. s.stmt) d); loops = loops_here d }
-
-abbrev pub find_stmt : TStmt-F FoundKind Found → Found
-find_stmt s = record { stmt = roll-TStmt (map-TStmt FoundKind Found TKind TStmt (λ d. d.kind) (λ s. s.stmt) s); loops = s.kind.loops }
-
 unfoldable pub for_loops : TStmt → List ForLoop
-for_loops s = (fold-TStmt FoundKind Found find_kind find_stmt s).loops
+for_loops = para-TStmt (List ForLoop) (List ForLoop) loops_here (λ s. s.kind.1)
+
+unfoldable pub for_loops_of : TKind → List ForLoop
+for_loops_of = para-TKind (List ForLoop) (List ForLoop) loops_here (λ s. s.kind.1)
 
 abbrev pub for_loops_in : List TStmt → List ForLoop
 for_loops_in [] = []

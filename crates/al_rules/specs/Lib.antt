@@ -13,3 +13,7 @@ pub mod Bodies
 pub mod Notes
 pub mod Candidates
 pub mod Refusals
+pub mod ExpressionRules
+pub mod StatementRules
+pub mod ProgramRules
+pub mod WellFormed

@@ -1,5 +1,5 @@
 -- What names mean: the locals in scope, and the structs, globals and functions of a program.
-use Rattle.std.specs.Prelude.{ℕ, Bool, if◌then◌else◌, List, [], ◌∷◌, ◌++◌, codes, Option, Some, None, option_map, option_and_then, Ok, Err, slice_get, slice_index}
+use Rattle.std.specs.Prelude.{ℕ, Bool, if◌then◌else◌, List, [], ◌∷◌, ◌++◌, codes, Option, Some, None, option_map, option_and_then, Err, slice_get, slice_index}
 use Rattle.std.specs.List.{find}
 use Rattle.std.specs.Str.{bytes_eq}
 use Rattle.al_source.specs.declared.operators.RedOp.{RedOp}
@@ -85,10 +85,13 @@ size known a = words_of known.layout.structs a
 
 -- ---- fields
 
+abbrev pub offset_at : Option StructLayout → ℕ → ℕ
+offset_at None at = 0
+offset_at (Some l) at = slice_index l.offsets at
+
 -- the type and the offset of a field, from its place among the fields
 abbrev pub field_at : StructDef → Option StructLayout → ℕ → Option (CType × ℕ)
-field_at s None at = None
-field_at s (Some l) at = option_map (λ f. (f.ty, slice_index l.offsets at)) (slice_get s.fields at)
+field_at s l at = option_map (λ f. (f.ty, offset_at l at)) (slice_get s.fields at)
 
 abbrev pub field_in : Name → Option StructLayout → StructDef → Option (CType × ℕ)
 field_in field l s = option_and_then (field_at s l) (place_named (λ f. f.name) field s.fields)

@@ -1,0 +1,4 @@
+//! Laws over the static rules. A law stands on a function that does nothing.
+#![tactic(auto)]
+
+pub mod layouts;
