@@ -225,11 +225,12 @@ module _ (known : Known) where
       by None none = (tp.Elem (tp.At u) v (size known a), ap (λ m. o.indexed_by known m p i) none ∙ rw (is, f) refl)
       by (Some b) some =
           let w = used_pointer a d refl in
-          let same = array_pointee p b a w.0 some w.1 in
-          (tp.Elem b.1 v (size known b.0),
-           ap (λ m. o.indexed_by known m p i) some
-           ∙ ap (λ (c : Checked TExpr). c >>= (λ n. Ok (Place b.0 (tp.Elem b.1 n (size known b.0))))) f
-           ∙ ap (λ c. Ok (Place c (tp.Elem b.1 v (size known b.0)))) same)
+          let same = array_pointee p b a w.0 some w.1 in (
+            tp.Elem b.1 v (size known b.0),
+            ap (λ m. o.indexed_by known m p i) some
+                ∙ ap (λ (c : Checked TExpr). c >>= (λ n. Ok (Place b.0 (tp.Elem b.1 n (size known b.0))))) f
+                ∙ ap (λ c. Ok (Place c (tp.Elem b.1 v (size known b.0)))) same,
+          )
 
   field_placed : (a : CType) (name field : Name) (q : TPlace) (n : ℕ) → field_of known name field ≡ Some (a, n) → o.field_place known (t.Struct name) q field ≡ Ok (Place a (tp.Plus q n))
   field_placed a name field q n is = rw (name-Struct name, is) refl
@@ -269,6 +270,7 @@ module _ (known : Known) (scope : List Binding) where
 
   mutual
     unfolding o.used o.unary o.member o.member_behind o.followed o.address o.called
+
     pub has : {x : Expr} {st : r.Status} {a : CType} → r.Has g x st a → Answers x st a
     has (r.number {n = n}) = (Literal n, operand-Number known scope n, as_int (te.Number n) refl)
     has (r.local_variable {name = name} {f = f} e) =
@@ -288,10 +290,11 @@ module _ (known : Known) (scope : List Binding) where
     has (r.negation {x = x} d) =
         let p = condition d in (o.number (te.Unary Not p.2.0), rw (operand-Unary known scope Not x, p.1, p.2.1) refl, as_value (te.Unary Not p.2.0))
     has (r.binary {op = op} {x = x} {y = y} d h) =
-        let p = has d in let q = has h in let v = integer_at p.2 in let w = integer_at q.2 in
-        (o.number (te.Binary op v.0 w.0),
-         rw (operand-Binary known scope op x y, p.1, q.1) (binary_ok op p.0 q.0 (o.number (te.Binary op v.0 w.0)) (integers_ok op p.0 q.0 v.0 w.0 v.1 w.1)),
-         as_value (te.Binary op v.0 w.0))
+        let p = has d in let q = has h in let v = integer_at p.2 in let w = integer_at q.2 in (
+          o.number (te.Binary op v.0 w.0),
+          rw (operand-Binary known scope op x y, p.1, q.1) (binary_ok op p.0 q.0 (o.number (te.Binary op v.0 w.0)) (integers_ok op p.0 q.0 v.0 w.0 v.1 w.1)),
+          as_value (te.Binary op v.0 w.0),
+        )
     has (r.equal {x = x} {y = y} a d h) =
         let p = fits d in let q = fits h in
         let m = fits_pointer_at a p.2 refl in let n = fits_pointer_at a q.2 refl in
@@ -326,20 +329,22 @@ module _ (known : Known) (scope : List Binding) where
     has (r.address {x = x} {a = a} d is) =
         let p = has d in (Value (t.Ptr a) (te.Addr p.0), rw (operand-Address known scope x, p.1, is) refl, as_value (te.Addr p.0))
     has (r.call {name = name} {xs = xs} {f = f} nv found d) =
-        let h = fit_all d in let c = callee_function known scope name f nv found in
-        (Value f.result (te.Call c.0 h.terms),
-         rw (operand-Call known scope name xs, h.are, c.1, eq-eqb (length h.operands_of) (length f.params) h.as_many, h.fit) refl,
-         as_value (te.Call c.0 h.terms))
+        let h = fit_all d in let c = callee_function known scope name f nv found in (
+          Value f.result (te.Call c.0 h.terms),
+          rw (operand-Call known scope name xs, h.are, c.1, eq-eqb (length h.operands_of) (length f.params) h.as_many, h.fit) refl,
+          as_value (te.Call c.0 h.terms),
+        )
     has (r.call_input {name = name} {x = x} nv b d) =
         let p = has d in let v = integer_at p.2 in
         (o.number (te.Input v.0), rw (operand-Call known scope name (x ∷ []), p.1, callee_built_in known scope name Input nv b, v.1) refl, as_value (te.Input v.0))
     has (r.call_inputs {name = name} nv b) =
         (o.number te.Inputs, rw (operand-Call known scope name [], callee_built_in known scope name Inputs nv b) refl, as_value te.Inputs)
     has (r.call_choose {name = name} {op = op} {x = x} {y = y} nv b d h) =
-        let p = has d in let q = has h in let v = integer_at p.2 in let w = integer_at q.2 in
-        (o.number (te.Choose op v.0 w.0),
-         rw (operand-Call known scope name (x ∷ y ∷ []), p.1, q.1, callee_built_in known scope name (Choose op) nv b, v.1, w.1) refl,
-         as_value (te.Choose op v.0 w.0))
+        let p = has d in let q = has h in let v = integer_at p.2 in let w = integer_at q.2 in (
+          o.number (te.Choose op v.0 w.0),
+          rw (operand-Call known scope name (x ∷ y ∷ []), p.1, q.1, callee_built_in known scope name (Choose op) nv b, v.1, w.1) refl,
+          as_value (te.Choose op v.0 w.0),
+        )
     has (r.size {a = a} d) =
         (o.number (te.Number (pos (8 * size known a))), rw (operand-SizeOf known scope a, sized_complete (is_struct known.structs) d) refl, as_value (te.Number (pos (8 * size known a))))
     has (r.allocation {x = x} {a = a} d h) =

@@ -131,7 +131,7 @@ module _ (known : Known) (scope : List Binding) where
   literal_pointer : (x : Expr) (n : ℤ) (q : Option CType × TExpr) → x ≡ e.Number n → (c : Bool) → int_eq n (pos 0) ≡ c → (if c then Ok (None, te.Number (pos 0)) else Err Mismatch) ≡ Ok q → PointerAs x q.0
   literal_pointer x n q d true z is =
       subst (λ (p : Option CType × TExpr). PointerAs x p.0) (ok_is is)
-        (λ b. subst (λ y. r.Fits g y (t.Ptr b)) (sym (d ∙ ap e.Number ((Decides-int_eq n (pos 0)).0 z))) (r.zero_literal b))
+      (λ b. subst (λ y. r.Fits g y (t.Ptr b)) (sym (d ∙ ap e.Number ((Decides-int_eq n (pos 0)).0 z))) (r.zero_literal b))
   literal_pointer x n q d false z is = absurd cc
 
   pointer_is : (x : Expr) (p : Operand) (q : Option CType × TExpr) → Describes x p → o.pointer p ≡ Ok q → PointerAs x q.0
@@ -411,47 +411,47 @@ module _ (known : Known) (scope : List Binding) where
     null = λ p is. yields e.Null refl (sym (operand-Null known scope) ∙ is);
     variable = λ name p is. variable_by name (variable_named known scope name) (variable_is known scope name) p (sym (operand-Var known scope name) ∙ is);
     unary = λ op x h p is.
-      let a = then_ok (operand known scope x) (o.unary op) p (sym (operand-Unary known scope op x) ∙ is) in
-      unary_is op x a.0 p (h a.0 a.1) a.2;
+        let a = then_ok (operand known scope x) (o.unary op) p (sym (operand-Unary known scope op x) ∙ is) in
+        unary_is op x a.0 p (h a.0 a.1) a.2;
     binary = λ op x y h i p is.
-      let a = then_ok (operand known scope x) (λ a. operand known scope y >>= (λ b. o.binary op a b)) p (sym (operand-Binary known scope op x y) ∙ is) in
-      let b = then_ok (operand known scope y) (λ b. o.binary op a.0 b) p a.2 in
-      binary_is op x y a.0 b.0 p (h a.0 a.1) (i b.0 b.1) b.2;
+        let a = then_ok (operand known scope x) (λ a. operand known scope y >>= (λ b. o.binary op a b)) p (sym (operand-Binary known scope op x y) ∙ is) in
+        let b = then_ok (operand known scope y) (λ b. o.binary op a.0 b) p a.2 in
+        binary_is op x y a.0 b.0 p (h a.0 a.1) (i b.0 b.1) b.2;
     both = λ x y h i p is.
-      let a = then_ok (operand known scope x) (λ a. operand known scope y >>= (λ b. o.of_scalars te.And a b)) p (sym (operand-And known scope x y) ∙ is) in
-      let b = then_ok (operand known scope y) (λ b. o.of_scalars te.And a.0 b) p a.2 in
-      scalars_are te.And e.And (λ x y c d. r.both c d) x y a.0 b.0 p (h a.0 a.1) (i b.0 b.1) b.2;
+        let a = then_ok (operand known scope x) (λ a. operand known scope y >>= (λ b. o.of_scalars te.And a b)) p (sym (operand-And known scope x y) ∙ is) in
+        let b = then_ok (operand known scope y) (λ b. o.of_scalars te.And a.0 b) p a.2 in
+        scalars_are te.And e.And (λ x y c d. r.both c d) x y a.0 b.0 p (h a.0 a.1) (i b.0 b.1) b.2;
     either = λ x y h i p is.
-      let a = then_ok (operand known scope x) (λ a. operand known scope y >>= (λ b. o.of_scalars te.Or a b)) p (sym (operand-Or known scope x y) ∙ is) in
-      let b = then_ok (operand known scope y) (λ b. o.of_scalars te.Or a.0 b) p a.2 in
-      scalars_are te.Or e.Or (λ x y c d. r.either c d) x y a.0 b.0 p (h a.0 a.1) (i b.0 b.1) b.2;
+        let a = then_ok (operand known scope x) (λ a. operand known scope y >>= (λ b. o.of_scalars te.Or a b)) p (sym (operand-Or known scope x y) ∙ is) in
+        let b = then_ok (operand known scope y) (λ b. o.of_scalars te.Or a.0 b) p a.2 in
+        scalars_are te.Or e.Or (λ x y c d. r.either c d) x y a.0 b.0 p (h a.0 a.1) (i b.0 b.1) b.2;
     index = λ x y h i p is.
-      let a = then_ok (operand known scope x) (λ a. operand known scope y >>= (λ b. o.indexed known a b)) p (sym (operand-Index known scope x y) ∙ is) in
-      let b = then_ok (operand known scope y) (λ b. o.indexed known a.0 b) p a.2 in
-      indexed_is x y a.0 b.0 p (h a.0 a.1) (i b.0 b.1) b.2;
+        let a = then_ok (operand known scope x) (λ a. operand known scope y >>= (λ b. o.indexed known a b)) p (sym (operand-Index known scope x y) ∙ is) in
+        let b = then_ok (operand known scope y) (λ b. o.indexed known a.0 b) p a.2 in
+        indexed_is x y a.0 b.0 p (h a.0 a.1) (i b.0 b.1) b.2;
     dot = λ x field h p is.
-      let a = then_ok (operand known scope x) (λ a. o.member known a field) p (sym (operand-Dot known scope x field) ∙ is) in
-      member_is x field a.0 p (h a.0 a.1) a.2;
+        let a = then_ok (operand known scope x) (λ a. o.member known a field) p (sym (operand-Dot known scope x field) ∙ is) in
+        member_is x field a.0 p (h a.0 a.1) a.2;
     arrow = λ x field h p is.
-      let a = then_ok (operand known scope x) (λ a. o.member_behind known a field) p (sym (operand-Arrow known scope x field) ∙ is) in
-      member_behind_is x field a.0 p (h a.0 a.1) a.2;
+        let a = then_ok (operand known scope x) (λ a. o.member_behind known a field) p (sym (operand-Arrow known scope x field) ∙ is) in
+        member_behind_is x field a.0 p (h a.0 a.1) a.2;
     deref = λ x h p is.
-      let a = then_ok (operand known scope x) o.followed p (sym (operand-Deref known scope x) ∙ is) in
-      followed_is x a.0 p (h a.0 a.1) a.2;
+        let a = then_ok (operand known scope x) o.followed p (sym (operand-Deref known scope x) ∙ is) in
+        followed_is x a.0 p (h a.0 a.1) a.2;
     address = λ x h p is.
-      let a = then_ok (operand known scope x) o.address p (sym (operand-Address known scope x) ∙ is) in
-      address_is x a.0 p (h a.0 a.1) a.2;
+        let a = then_ok (operand known scope x) o.address p (sym (operand-Address known scope x) ∙ is) in
+        address_is x a.0 p (h a.0 a.1) a.2;
     call = λ name xs hs p is.
-      let c = then_ok (call known scope name (operands known scope xs)) (λ c. Ok (Value c.0 c.1)) p (sym (operand-Call known scope name xs) ∙ is) in
-      yields (e.Call name xs) (call_is name xs c.0 hs c.1) c.2;
+        let c = then_ok (call known scope name (operands known scope xs)) (λ c. Ok (Value c.0 c.1)) p (sym (operand-Call known scope name xs) ∙ is) in
+        yields (e.Call name xs) (call_is name xs c.0 hs c.1) c.2;
     size = λ a p is.
-      let u = then_ok (sized known scope a) (λ _. Ok (Value t.Int (te.Number (pos (8 * size known a))))) p (sym (operand-SizeOf known scope a) ∙ is) in
-      yields (e.SizeOf a) (r.size (sized_sound (is_struct known.structs) a u.0 u.1)) u.2;
+        let u = then_ok (sized known scope a) (λ _. Ok (Value t.Int (te.Number (pos (8 * size known a))))) p (sym (operand-SizeOf known scope a) ∙ is) in
+        yields (e.SizeOf a) (r.size (sized_sound (is_struct known.structs) a u.0 u.1)) u.2;
     allocation = λ x a h p is.
-      let n = then_ok (operand known scope x >>= o.integer) (λ n. sized known scope a >> Ok (Value (t.Ptr a) (te.Calloc n (size known a)))) p (sym (operand-Calloc known scope x a) ∙ is) in
-      let b = then_ok (operand known scope x) o.integer n.0 n.1 in
-      let u = then_ok (sized known scope a) (λ _. Ok (Value (t.Ptr a) (te.Calloc n.0 (size known a)))) p n.2 in
-      yields (e.Calloc x a) (r.allocation (integer_is x b.0 n.0 (h b.0 b.1) b.2) (sized_sound (is_struct known.structs) a u.0 u.1)) u.2;
+        let n = then_ok (operand known scope x >>= o.integer) (λ n. sized known scope a >> Ok (Value (t.Ptr a) (te.Calloc n (size known a)))) p (sym (operand-Calloc known scope x a) ∙ is) in
+        let b = then_ok (operand known scope x) o.integer n.0 n.1 in
+        let u = then_ok (sized known scope a) (λ _. Ok (Value (t.Ptr a) (te.Calloc n.0 (size known a)))) p n.2 in
+        yields (e.Calloc x a) (r.allocation (integer_is x b.0 n.0 (h b.0 b.1) b.2) (sized_sound (is_struct known.structs) a u.0 u.1)) u.2;
   }
 
   pub expression_is : (x : Expr) (p : Operand) → operand known scope x ≡ Ok p → Describes x p

@@ -130,11 +130,11 @@ module _ (known : Known) (scope : List Binding) (name : Name) where
   global_by : (o : Option GlobalDef) → find (λ x. bytes_eq x.name name) known.globals ≡ o → r.named (λ f. f.name) name (map field_of_binding scope) ≡ None → VariableIs known scope name (global_named name known.globals)
   global_by None e l =
       subst (λ p. VariableIs known scope name (option_and_then (λ k. option_map (λ g. Global k g.ty) (slice_get known.globals k)) p)) (sym (no_place (λ x. bytes_eq x.name name) known.globals e))
-        (is_no_variable (record { no_local = l; no_global = e }))
+      (is_no_variable (record { no_local = l; no_global = e }))
   global_by (Some x) e l =
       let p = place_found (λ x. bytes_eq x.name name) known.globals x e in
       subst (λ q. VariableIs known scope name (option_and_then (λ k. option_map (λ g. Global k g.ty) (slice_get known.globals k)) q)) (sym p.1)
-        (subst (λ q. VariableIs known scope name (option_map (λ g. Global p.0 g.ty) q)) (sym p.2) (is_global p.0 x l e))
+      (subst (λ q. VariableIs known scope name (option_map (λ g. Global p.0 g.ty) q)) (sym p.2) (is_global p.0 x l e))
 
   variable_by : (o : Option Binding) → find (λ b. bytes_eq b.name name) scope ≡ o → VariableIs known scope name (first_some (local_by o) (global_named name known.globals))
   variable_by (Some b) e = is_local b (locals_of (Some b) e)
@@ -224,9 +224,10 @@ module _ (known : Known) (scope : List Binding) (structure field : Name) where
   pub field_there : {a : CType} → r.HasField (names known scope) structure field a → (n : ℕ) × (field_of known structure field ≡ Some (a, n))
   field_there {a = a} h =
       let f = h.field_type.0 in
-      let q = place_found (λ f. bytes_eq f.name field) h.definition.fields f h.field_type.1 in
-      (offset_at layout_named q.0,
-       ap (option_and_then (field_in field layout_named)) h.defined
-       ∙ ap (option_and_then (field_at h.definition layout_named)) q.1
-       ∙ ap (option_map (λ f. (f.ty, offset_at layout_named q.0))) q.2
-       ∙ ap (λ b. Some (b, offset_at layout_named q.0)) h.field_type.2)
+      let q = place_found (λ f. bytes_eq f.name field) h.definition.fields f h.field_type.1 in (
+        offset_at layout_named q.0,
+        ap (option_and_then (field_in field layout_named)) h.defined
+            ∙ ap (option_and_then (field_at h.definition layout_named)) q.1
+            ∙ ap (option_map (λ f. (f.ty, offset_at layout_named q.0))) q.2
+            ∙ ap (λ b. Some (b, offset_at layout_named q.0)) h.field_type.2,
+      )

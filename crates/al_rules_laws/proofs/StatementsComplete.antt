@@ -112,10 +112,10 @@ module _ (known : Known) (func : ℕ) (result : CType) where
   walks_by line d looped s after q e same = record {
     end = (roll-TStmt (record { line = line; kind = q.0 }), q.1);
     ends =
-      ap (λ f. f s) (nodes.walks-stmt known func result (st.at line d) looped)
-      ∙ ap (λ (b : Stmt-F StmtKind Stmt). bind ((w.kind_part known func result b.kind).walk b.line looped) (λ d. pure (roll-TStmt (record { line = b.line; kind = d }))) s) (out-roll-Stmt (record { line = line; kind = d }))
-      ∙ bind_by ((w.kind_part known func result d).walk line looped) (λ d. pure (roll-TStmt (record { line = line; kind = d }))) s q e
-      ∙ pure_end (roll-TStmt (record { line = line; kind = q.0 })) q.1;
+        ap (λ f. f s) (nodes.walks-stmt known func result (st.at line d) looped)
+        ∙ ap (λ (b : Stmt-F StmtKind Stmt). bind ((w.kind_part known func result b.kind).walk b.line looped) (λ d. pure (roll-TStmt (record { line = b.line; kind = d }))) s) (out-roll-Stmt (record { line = line; kind = d }))
+        ∙ bind_by ((w.kind_part known func result d).walk line looped) (λ d. pure (roll-TStmt (record { line = line; kind = d }))) s q e
+        ∙ pure_end (roll-TStmt (record { line = line; kind = q.0 })) q.1;
     scope = same;
   }
 
@@ -126,11 +126,12 @@ module _ (known : Known) (func : ℕ) (result : CType) where
 
   condition_by : {B : Type 0} (line : ℕ) (c : Expr) (f : TExpr → Walk B) (s : Progress) → r.Condition (names known (in_scope s.scope)) c → (v : TExpr) × (bind (w.condition known func result line c) f s ≡ f v s)
   condition_by line c f s d =
-      let p = complete.condition known (in_scope s.scope) d in
-      (p.2.0,
-       assoc (w.operand_of known func result line c) (λ p. lift line (o.scalar p)) f s
-       ∙ operand_by line c (λ p. bind (lift line (o.scalar p)) f) s p.0 p.1
-       ∙ lift_by line (o.scalar p.0) f s p.2.0 p.2.1)
+      let p = complete.condition known (in_scope s.scope) d in (
+        p.2.0,
+        assoc (w.operand_of known func result line c) (λ p. lift line (o.scalar p)) f s
+            ∙ operand_by line c (λ p. bind (lift line (o.scalar p)) f) s p.0 p.1
+            ∙ lift_by line (o.scalar p.0) f s p.2.0 p.2.1,
+      )
 
   test_by : {B : Type 0} (line : ℕ) (test : Option Expr) (f : Option TExpr → Walk B) (s : Progress) → st.Tested (names known (in_scope s.scope)) test → (v : Option TExpr) × (bind (w.any_condition known func result line test) f s ≡ f v s)
   test_by line None f s st.always = (None, pure_ends None f s)
@@ -142,11 +143,12 @@ module _ (known : Known) (func : ℕ) (result : CType) where
   starts_by line a None f s st.zeroed = (te.Number (pos 0), pure_ends (te.Number (pos 0)) f s)
   starts_by line a (Some v) f s (st.by d) =
       let p = complete.fits known (in_scope s.scope) d in
-      let y = complete.fitting_at p.2 in
-      (y.0,
-       assoc (w.operand_of known func result line v) (λ p. lift line (o.fitting a p)) f s
-       ∙ operand_by line v (λ p. bind (lift line (o.fitting a p)) f) s p.0 p.1
-       ∙ lift_by line (o.fitting a p.0) f s y.0 y.1)
+      let y = complete.fitting_at p.2 in (
+        y.0,
+        assoc (w.operand_of known func result line v) (λ p. lift line (o.fitting a p)) f s
+            ∙ operand_by line v (λ p. bind (lift line (o.fitting a p)) f) s p.0 p.1
+            ∙ lift_by line (o.fitting a p.0) f s y.0 y.1,
+      )
 
   pub record Integers (sc : Scope) (xs : List Expr) : Type 0 where
     pub operands : List Operand
@@ -195,32 +197,35 @@ module _ (known : Known) (func : ℕ) (result : CType) where
 
   reduction_by : (sc : Scope) (red : NamedRed) → st.Reduces (names known (in_scope sc)) red → (at : Addr) × (and_then (some_or (variable_named known (in_scope sc) red.name) Unknown) w.variable_at ≡ Ok at)
   reduction_by sc red (st.of_local {f = f} found is) =
-      let v = complete.variable_local known (in_scope sc) red.name f (variable_named known (in_scope sc) red.name) (variable_is known (in_scope sc) red.name) found in
-      (addr.Local v.0,
-       ap (λ m. and_then (some_or m Unknown) w.variable_at) v.1
-       ∙ ap (λ a. and_then (ensure (is_int a) Mismatch) (λ _. Ok (addr.Local v.0))) is
-       ∙ ap (λ b. and_then (ensure b Mismatch) (λ _. Ok (addr.Local v.0))) int-Int)
+      let v = complete.variable_local known (in_scope sc) red.name f (variable_named known (in_scope sc) red.name) (variable_is known (in_scope sc) red.name) found in (
+        addr.Local v.0,
+        ap (λ m. and_then (some_or m Unknown) w.variable_at) v.1
+            ∙ ap (λ a. and_then (ensure (is_int a) Mismatch) (λ _. Ok (addr.Local v.0))) is
+            ∙ ap (λ b. and_then (ensure b Mismatch) (λ _. Ok (addr.Local v.0))) int-Int,
+      )
   reduction_by sc red (st.of_global {x = y} l found is) =
-      let v = complete.variable_global known (in_scope sc) red.name y (variable_named known (in_scope sc) red.name) (variable_is known (in_scope sc) red.name) l found in
-      (addr.Word (obj.Global v.0) 0,
-       ap (λ m. and_then (some_or m Unknown) w.variable_at) v.1
-       ∙ ap (λ a. and_then (ensure (is_int a) Mismatch) (λ _. Ok (addr.Word (obj.Global v.0) 0))) is
-       ∙ ap (λ b. and_then (ensure b Mismatch) (λ _. Ok (addr.Word (obj.Global v.0) 0))) int-Int)
+      let v = complete.variable_global known (in_scope sc) red.name y (variable_named known (in_scope sc) red.name) (variable_is known (in_scope sc) red.name) l found in (
+        addr.Word (obj.Global v.0) 0,
+        ap (λ m. and_then (some_or m Unknown) w.variable_at) v.1
+            ∙ ap (λ a. and_then (ensure (is_int a) Mismatch) (λ _. Ok (addr.Word (obj.Global v.0) 0))) is
+            ∙ ap (λ b. and_then (ensure b Mismatch) (λ _. Ok (addr.Word (obj.Global v.0) 0))) int-Int,
+      )
 
   reductions_by : {B : Type 0} (line : ℕ) (reds : List NamedRed) (f : List Red → Walk B) (s : Progress) → AllOf (st.Reduces (names known (in_scope s.scope))) reds → (v : List Red) × (bind (w.reductions known func result line reds) f s ≡ f v s)
   reductions_by line [] f s none = ([], pure_ends [] f s)
   reductions_by line (red ∷ reds) f s (more d ds) =
       let a = reduction_by s.scope red d in
       let one : Red = record { op = red.op; at = a.0 } in
-      let q = reductions_by line reds (λ as'. bind (pure (one ∷ as')) f) s ds in
-      (one ∷ q.0,
-       assoc (w.reduction known func result line red) (λ a. bind (w.reductions known func result line reds) (λ as'. pure (a ∷ as'))) f s
-       ∙ assoc (checks line (λ scope. and_then (some_or (variable_named known (in_scope scope) red.name) Unknown) w.variable_at)) (λ at. pure (record { op = red.op; at = at })) (λ a. bind (bind (w.reductions known func result line reds) (λ as'. pure (a ∷ as'))) f) s
-       ∙ checks_by line (λ scope. and_then (some_or (variable_named known (in_scope scope) red.name) Unknown) w.variable_at) (λ at. bind (pure (record { op = red.op; at = at })) (λ a. bind (bind (w.reductions known func result line reds) (λ as'. pure (a ∷ as'))) f)) s a.0 a.1
-       ∙ pure_ends one (λ a. bind (bind (w.reductions known func result line reds) (λ as'. pure (a ∷ as'))) f) s
-       ∙ assoc (w.reductions known func result line reds) (λ as'. pure (one ∷ as')) f s
-       ∙ q.1
-       ∙ pure_ends (one ∷ q.0) f s)
+      let q = reductions_by line reds (λ as'. bind (pure (one ∷ as')) f) s ds in (
+        one ∷ q.0,
+        assoc (w.reduction known func result line red) (λ a. bind (w.reductions known func result line reds) (λ as'. pure (a ∷ as'))) f s
+            ∙ assoc (checks line (λ scope. and_then (some_or (variable_named known (in_scope scope) red.name) Unknown) w.variable_at)) (λ at. pure (record { op = red.op; at = at })) (λ a. bind (bind (w.reductions known func result line reds) (λ as'. pure (a ∷ as'))) f) s
+            ∙ checks_by line (λ scope. and_then (some_or (variable_named known (in_scope scope) red.name) Unknown) w.variable_at) (λ at. bind (pure (record { op = red.op; at = at })) (λ a. bind (bind (w.reductions known func result line reds) (λ as'. pure (a ∷ as'))) f)) s a.0 a.1
+            ∙ pure_ends one (λ a. bind (bind (w.reductions known func result line reds) (λ as'. pure (a ∷ as'))) f) s
+            ∙ assoc (w.reductions known func result line reds) (λ as'. pure (one ∷ as')) f s
+            ∙ q.1
+            ∙ pure_ends (one ∷ q.0) f s,
+      )
 
   choice_by : {B : Type 0} (line : ℕ) (note : Option LoopNote) (f : Option Choice → Walk B) (s : Progress) → st.Noted (names known (in_scope s.scope)) note → (v : Option Choice) × (bind (w.choice_of known func result line note) f s ≡ f v s)
   choice_by line None f s st.plain = (None, pure_ends None f s)
@@ -300,20 +305,20 @@ module _ (known : Known) (func : ℕ) (result : CType) where
   body_by None body line s h = record {
     end = ((h.end.0, None), h.end.1);
     goes = λ f.
-      assoc (w.part_if w.is_body (w.part known func result body) true) (λ b. pure (b, None)) f s
-      ∙ part_by w.is_body body true (λ b. bind (pure (b, None)) f) s h.end h.body h.ends
-      ∙ pure_ends (h.end.0, None) f h.end.1;
+        assoc (w.part_if w.is_body (w.part known func result body) true) (λ b. pure (b, None)) f s
+        ∙ part_by w.is_body body true (λ b. bind (pure (b, None)) f) s h.end h.body h.ends
+        ∙ pure_ends (h.end.0, None) f h.end.1;
   }
   body_by (Some own) body line s h = record {
     end = ((h.end.0, Some (length s.loops)), ended_loop (length s.loops) h.end.1);
     goes = λ f.
-      assoc (begin_loop func line own) (λ n. bind (w.part_if w.is_body (w.part known func result body) true) (λ b. bind (end_loop n) (λ _. pure (b, Some n)))) f s
-      ∙ begin_ends func line own (λ n. bind (bind (w.part_if w.is_body (w.part known func result body) true) (λ b. bind (end_loop n) (λ _. pure (b, Some n)))) f) s
-      ∙ assoc (w.part_if w.is_body (w.part known func result body) true) (λ b. bind (end_loop (length s.loops)) (λ _. pure (b, Some (length s.loops)))) f (begun_loop func line own s)
-      ∙ part_by w.is_body body true (λ b. bind (bind (end_loop (length s.loops)) (λ _. pure (b, Some (length s.loops)))) f) (begun_loop func line own s) h.end h.body h.ends
-      ∙ assoc (end_loop (length s.loops)) (λ _. pure (h.end.0, Some (length s.loops))) f h.end.1
-      ∙ end_ends (length s.loops) (λ _. bind (pure (h.end.0, Some (length s.loops))) f) h.end.1
-      ∙ pure_ends (h.end.0, Some (length s.loops)) f (ended_loop (length s.loops) h.end.1);
+        assoc (begin_loop func line own) (λ n. bind (w.part_if w.is_body (w.part known func result body) true) (λ b. bind (end_loop n) (λ _. pure (b, Some n)))) f s
+        ∙ begin_ends func line own (λ n. bind (bind (w.part_if w.is_body (w.part known func result body) true) (λ b. bind (end_loop n) (λ _. pure (b, Some n)))) f) s
+        ∙ assoc (w.part_if w.is_body (w.part known func result body) true) (λ b. bind (end_loop (length s.loops)) (λ _. pure (b, Some (length s.loops)))) f (begun_loop func line own s)
+        ∙ part_by w.is_body body true (λ b. bind (bind (end_loop (length s.loops)) (λ _. pure (b, Some (length s.loops)))) f) (begun_loop func line own s) h.end h.body h.ends
+        ∙ assoc (end_loop (length s.loops)) (λ _. pure (h.end.0, Some (length s.loops))) f h.end.1
+        ∙ end_ends (length s.loops) (λ _. bind (pure (h.end.0, Some (length s.loops))) f) h.end.1
+        ∙ pure_ends (h.end.0, Some (length s.loops)) f (ended_loop (length s.loops) h.end.1);
   }
 
   mutual
@@ -328,87 +333,87 @@ module _ (known : Known) (func : ℕ) (result : CType) where
         let same1 = ap (st.with_local name a) same in
         let i = starts_by line a v (λ y. pure (tk.SetLocal (length s.locals) y)) s1 (out_of (λ n. st.Starts n a v) s1 (st.with_local name a b) same1 h) in
         walks_by line (k.Declare a name v) looped s (st.with_local name a b) (tk.SetLocal (length s.locals) i.0, s1)
-          (ap (λ f. f s) (nodes.walks-Declare known func result a name v line looped)
-           ∙ assoc (checks line free) (λ _. lift line shaped) rest s
-           ∙ checks_by line free (λ _. bind (lift line shaped) rest) s tt (ensured Twice (new_by name s b same new))
-           ∙ lift_by line shaped rest s tt (scalar_complete (is_struct known.structs) (is_struct known.structs) d)
-           ∙ add_ends name a (λ n. bind (w.initial known func result line a v) (λ y. pure (tk.SetLocal n y))) s
-           ∙ i.1
-           ∙ pure_end (tk.SetLocal (length s.locals) i.0) s1)
-          same1
+        (ap (λ f. f s) (nodes.walks-Declare known func result a name v line looped)
+        ∙ assoc (checks line free) (λ _. lift line shaped) rest s
+        ∙ checks_by line free (λ _. bind (lift line shaped) rest) s tt (ensured Twice (new_by name s b same new))
+        ∙ lift_by line shaped rest s tt (scalar_complete (is_struct known.structs) (is_struct known.structs) d)
+        ∙ add_ends name a (λ n. bind (w.initial known func result line a v) (λ y. pure (tk.SetLocal n y))) s
+        ∙ i.1
+        ∙ pure_end (tk.SetLocal (length s.locals) i.0) s1)
+        same1
     statement (st.assign {looped = looped} {b = b} {line = line} {x = y} {y = z} {a = a} d h) s same =
         let l = place_by s.scope (out_of (λ n. st.Assigns n y a) s b same d) in
         let p = complete.fits known (in_scope s.scope) (out_of (λ n. r.Fits n z a) s b same h) in
         let v = complete.fitting_at p.2 in
         let q = l.assigned p.0 v.0 v.1 in
         walks_by line (k.Assign y z) looped s b (q.0, s)
-          (ap (λ f. f s) (nodes.walks-Assign known func result y z line looped)
-           ∙ operand_by line y (λ l. bind (lift line (ensure (w.is_place l) NotPlace)) (λ _. bind (w.operand_of known func result line z) (λ v. lift line (w.assigned l v)))) s l.operand l.is
-           ∙ lift_by line (ensure (w.is_place l.operand) NotPlace) (λ _. bind (w.operand_of known func result line z) (λ v. lift line (w.assigned l.operand v))) s tt (ensured NotPlace l.place)
-           ∙ operand_by line z (λ v. lift line (w.assigned l.operand v)) s p.0 p.1
-           ∙ check_end line (λ _. w.assigned l.operand p.0) s q.0 q.1)
-          same
+        (ap (λ f. f s) (nodes.walks-Assign known func result y z line looped)
+        ∙ operand_by line y (λ l. bind (lift line (ensure (w.is_place l) NotPlace)) (λ _. bind (w.operand_of known func result line z) (λ v. lift line (w.assigned l v)))) s l.operand l.is
+        ∙ lift_by line (ensure (w.is_place l.operand) NotPlace) (λ _. bind (w.operand_of known func result line z) (λ v. lift line (w.assigned l.operand v))) s tt (ensured NotPlace l.place)
+        ∙ operand_by line z (λ v. lift line (w.assigned l.operand v)) s p.0 p.1
+        ∙ check_end line (λ _. w.assigned l.operand p.0) s q.0 q.1)
+        same
     statement (st.update {looped = looped} {b = b} {line = line} {op = op} {x = y} {y = z} m d h) s same =
         let l = place_by s.scope (out_of (λ n. st.Assigns n y t.Int) s b same d) in
         let p = complete.has known (in_scope s.scope) (out_of (λ n. r.Has n z r.value t.Int) s b same h) in
         let v = complete.integer_at p.2 in
         let q = l.updated op p.0 v.0 int-Int v.1 in
         walks_by line (k.Update op y z) looped s b (q.0, s)
-          (ap (λ f. f s) (nodes.walks-Update known func result op y z line looped)
-           ∙ lift_by line (ensure (w.may_update op) Shape) (λ _. bind (w.operand_of known func result line y) (λ l. bind (lift line (ensure (w.is_place l) NotPlace)) (λ _. bind (w.operand_of known func result line z) (λ v. lift line (w.updated op l v))))) s tt (ensured Shape m)
-           ∙ operand_by line y (λ l. bind (lift line (ensure (w.is_place l) NotPlace)) (λ _. bind (w.operand_of known func result line z) (λ v. lift line (w.updated op l v)))) s l.operand l.is
-           ∙ lift_by line (ensure (w.is_place l.operand) NotPlace) (λ _. bind (w.operand_of known func result line z) (λ v. lift line (w.updated op l.operand v))) s tt (ensured NotPlace l.place)
-           ∙ operand_by line z (λ v. lift line (w.updated op l.operand v)) s p.0 p.1
-           ∙ check_end line (λ _. w.updated op l.operand p.0) s q.0 q.1)
-          same
+        (ap (λ f. f s) (nodes.walks-Update known func result op y z line looped)
+        ∙ lift_by line (ensure (w.may_update op) Shape) (λ _. bind (w.operand_of known func result line y) (λ l. bind (lift line (ensure (w.is_place l) NotPlace)) (λ _. bind (w.operand_of known func result line z) (λ v. lift line (w.updated op l v))))) s tt (ensured Shape m)
+        ∙ operand_by line y (λ l. bind (lift line (ensure (w.is_place l) NotPlace)) (λ _. bind (w.operand_of known func result line z) (λ v. lift line (w.updated op l v)))) s l.operand l.is
+        ∙ lift_by line (ensure (w.is_place l.operand) NotPlace) (λ _. bind (w.operand_of known func result line z) (λ v. lift line (w.updated op l.operand v))) s tt (ensured NotPlace l.place)
+        ∙ operand_by line z (λ v. lift line (w.updated op l.operand v)) s p.0 p.1
+        ∙ check_end line (λ _. w.updated op l.operand p.0) s q.0 q.1)
+        same
     statement (st.call {looped = looped} {b = b} {line = line} {name = name} {xs = xs} {a = a} d) s same =
         let p = called_by s name xs a (out_of (λ n. r.Has n (e.Call name xs) r.value a) s b same d) in
         walks_by line (k.Call name xs) looped s b (tk.Call p.0.1, s)
-          (ap (λ f. f s) (nodes.walks-Call known func result name xs line looped)
-           ∙ checks_by line (λ scope. x.call known (in_scope scope) name (x.operands known (in_scope scope) xs)) (λ c. pure (tk.Call c.1)) s p.0 p.1
-           ∙ pure_end (tk.Call p.0.1) s)
-          same
+        (ap (λ f. f s) (nodes.walks-Call known func result name xs line looped)
+        ∙ checks_by line (λ scope. x.call known (in_scope scope) name (x.operands known (in_scope scope) xs)) (λ c. pure (tk.Call c.1)) s p.0 p.1
+        ∙ pure_end (tk.Call p.0.1) s)
+        same
     statement (st.print {looped = looped} {b = b} {line = line} {f = f} {xs = xs} l d) s same =
         let h = integers_by s.scope (out_of (λ n. AllOf (λ y. r.Has n y r.value t.Int) xs) s b same d) in
         walks_by line (k.Print f xs) looped s b (tk.Print f h.terms, s)
-          (ap (λ f. f s) (nodes.walks-Print known func result f xs line looped)
-           ∙ checks_by line (λ scope. x.operands known (in_scope scope) xs) (λ ps. bind (lift line (ensure (length ps == w.numbers_in f) Count)) (λ _. bind (lift line (each o.integer ps)) (λ ns. pure (tk.Print f ns)))) s h.operands h.are
-           ∙ lift_by line (ensure (length h.operands == w.numbers_in f) Count) (λ _. bind (lift line (each o.integer h.operands)) (λ ns. pure (tk.Print f ns))) s tt (ensured Count (eq-eqb (length h.operands) (w.numbers_in f) (h.as_many ∙ l)))
-           ∙ lift_by line (each o.integer h.operands) (λ ns. pure (tk.Print f ns)) s h.terms h.integers
-           ∙ pure_end (tk.Print f h.terms) s)
-          same
+        (ap (λ f. f s) (nodes.walks-Print known func result f xs line looped)
+        ∙ checks_by line (λ scope. x.operands known (in_scope scope) xs) (λ ps. bind (lift line (ensure (length ps == w.numbers_in f) Count)) (λ _. bind (lift line (each o.integer ps)) (λ ns. pure (tk.Print f ns)))) s h.operands h.are
+        ∙ lift_by line (ensure (length h.operands == w.numbers_in f) Count) (λ _. bind (lift line (each o.integer h.operands)) (λ ns. pure (tk.Print f ns))) s tt (ensured Count (eq-eqb (length h.operands) (w.numbers_in f) (h.as_many ∙ l)))
+        ∙ lift_by line (each o.integer h.operands) (λ ns. pure (tk.Print f ns)) s h.terms h.integers
+        ∙ pure_end (tk.Print f h.terms) s)
+        same
     statement (st.choice {looped = looped} {b = b} {line = line} {c = c} {x = y} d h) s same =
         let v = condition_by line c (λ v. bind (w.part_if w.is_body (w.part known func result y) looped) (λ p. bind (pure None) (λ q. pure (tk.If v p q)))) s (out_of (λ n. r.Condition n c) s b same d) in
         let p = branch h s same in
         walks_by line (k.If c y None) looped s b (tk.If v.0 p.end.0 None, p.end.1)
-          (ap (λ f. f s) (nodes.walks-If known func result c y None line looped)
-           ∙ v.1
-           ∙ part_by w.is_body y looped (λ p. bind (pure None) (λ q. pure (tk.If v.0 p q))) s p.end p.body p.ends
-           ∙ pure_ends None (λ q. pure (tk.If v.0 p.end.0 q)) p.end.1
-           ∙ pure_end (tk.If v.0 p.end.0 None) p.end.1)
-          (sym p.scope ∙ same)
+        (ap (λ f. f s) (nodes.walks-If known func result c y None line looped)
+        ∙ v.1
+        ∙ part_by w.is_body y looped (λ p. bind (pure None) (λ q. pure (tk.If v.0 p q))) s p.end p.body p.ends
+        ∙ pure_ends None (λ q. pure (tk.If v.0 p.end.0 q)) p.end.1
+        ∙ pure_end (tk.If v.0 p.end.0 None) p.end.1)
+        (sym p.scope ∙ same)
     statement (st.choice_of_two {looped = looped} {b = b} {line = line} {c = c} {x = y} {y = z} d h i) s same =
         let v = condition_by line c (λ v. bind (w.part_if w.is_body (w.part known func result y) looped) (λ p. bind (bind (w.part_if w.is_body (w.part known func result z) looped) (λ t. pure (Some t))) (λ q. pure (tk.If v p q)))) s (out_of (λ n. r.Condition n c) s b same d) in
         let p = branch h s same in
         let q = branch i p.end.1 (sym p.scope ∙ same) in
         walks_by line (k.If c y (Some z)) looped s b (tk.If v.0 p.end.0 (Some q.end.0), q.end.1)
-          (ap (λ f. f s) (nodes.walks-If known func result c y (Some z) line looped)
-           ∙ v.1
-           ∙ part_by w.is_body y looped (λ p. bind (bind (w.part_if w.is_body (w.part known func result z) looped) (λ t. pure (Some t))) (λ q. pure (tk.If v.0 p q))) s p.end p.body p.ends
-           ∙ assoc (w.part_if w.is_body (w.part known func result z) looped) (λ t. pure (Some t)) (λ q. pure (tk.If v.0 p.end.0 q)) p.end.1
-           ∙ part_by w.is_body z looped (λ t. bind (pure (Some t)) (λ q. pure (tk.If v.0 p.end.0 q))) p.end.1 q.end q.body q.ends
-           ∙ pure_ends (Some q.end.0) (λ q. pure (tk.If v.0 p.end.0 q)) q.end.1
-           ∙ pure_end (tk.If v.0 p.end.0 (Some q.end.0)) q.end.1)
-          (sym q.scope ∙ sym p.scope ∙ same)
+        (ap (λ f. f s) (nodes.walks-If known func result c y (Some z) line looped)
+        ∙ v.1
+        ∙ part_by w.is_body y looped (λ p. bind (bind (w.part_if w.is_body (w.part known func result z) looped) (λ t. pure (Some t))) (λ q. pure (tk.If v.0 p q))) s p.end p.body p.ends
+        ∙ assoc (w.part_if w.is_body (w.part known func result z) looped) (λ t. pure (Some t)) (λ q. pure (tk.If v.0 p.end.0 q)) p.end.1
+        ∙ part_by w.is_body z looped (λ t. bind (pure (Some t)) (λ q. pure (tk.If v.0 p.end.0 q))) p.end.1 q.end q.body q.ends
+        ∙ pure_ends (Some q.end.0) (λ q. pure (tk.If v.0 p.end.0 q)) q.end.1
+        ∙ pure_end (tk.If v.0 p.end.0 (Some q.end.0)) q.end.1)
+        (sym q.scope ∙ sym p.scope ∙ same)
     statement (st.while_loop {looped = looped} {b = b} {line = line} {c = c} {x = y} d h) s same =
         let v = condition_by line c (λ v. bind (w.part_if w.is_body (w.part known func result y) true) (λ p. pure (tk.While v p))) s (out_of (λ n. r.Condition n c) s b same d) in
         let p = branch h s same in
         walks_by line (k.While c y) looped s b (tk.While v.0 p.end.0, p.end.1)
-          (ap (λ f. f s) (nodes.walks-While known func result c y line looped)
-           ∙ v.1
-           ∙ part_by w.is_body y true (λ p. pure (tk.While v.0 p)) s p.end p.body p.ends
-           ∙ pure_end (tk.While v.0 p.end.0) p.end.1)
-          (sym p.scope ∙ same)
+        (ap (λ f. f s) (nodes.walks-While known func result c y line looped)
+        ∙ v.1
+        ∙ part_by w.is_body y true (λ p. pure (tk.While v.0 p)) s p.end p.body p.ends
+        ∙ pure_end (tk.While v.0 p.end.0) p.end.1)
+        (sym p.scope ∙ same)
     statement (st.for_loop {looped = looped} {b = b} {b₁ = b1} {b₂ = b2} {line = line} {first = first} {third = third} {test = test} {x = body} {n = note} d f c u h) s same =
         let n = choice_by line note (w.for_loop known func result line looped (nodes.part_of known func result first) test (nodes.part_of known func result third) (w.part known func result body)) s (out_of (λ n. st.Noted n note) s b same d) in
         let own = n.0 in
@@ -420,44 +425,44 @@ module _ (known : Known) (func : ℕ) (result : CType) where
         let inside = bind (w.any_part w.is_first (nodes.part_of known func result first) looped) (λ a. bind (w.any_condition known func result line test) (λ c. bind (w.any_part w.is_third (nodes.part_of known func result third) looped) (λ u. bind (w.looped_body known func result line own (w.part known func result body)) (λ b. pure (tk.For a c u b.0 b.1))))) in
         let typed = tk.For a.end.0 v.0 i.end.0 j.end.0.0 j.end.0.1 in
         walks_by line (k.For first test third body note) looped s b (typed, scoped j.end.1 s.scope)
-          (ap (λ f. f s) (nodes.walks-For known func result first test third body note line looped)
-           ∙ n.1
-           ∙ within_by_end inside s (typed, j.end.1)
-               (a.goes (λ a. bind (w.any_condition known func result line test) (λ c. bind (w.any_part w.is_third (nodes.part_of known func result third) looped) (λ u. bind (w.looped_body known func result line own (w.part known func result body)) (λ b. pure (tk.For a c u b.0 b.1)))))
-                ∙ v.1
-                ∙ i.goes (λ u. bind (w.looped_body known func result line own (w.part known func result body)) (λ b. pure (tk.For a.end.0 v.0 u b.0 b.1)))
-                ∙ j.goes (λ b. pure (tk.For a.end.0 v.0 i.end.0 b.0 b.1))
-                ∙ pure_end typed j.end.1))
-          same
+        (ap (λ f. f s) (nodes.walks-For known func result first test third body note line looped)
+        ∙ n.1
+        ∙ within_by_end inside s (typed, j.end.1)
+        (a.goes (λ a. bind (w.any_condition known func result line test) (λ c. bind (w.any_part w.is_third (nodes.part_of known func result third) looped) (λ u. bind (w.looped_body known func result line own (w.part known func result body)) (λ b. pure (tk.For a c u b.0 b.1)))))
+        ∙ v.1
+        ∙ i.goes (λ u. bind (w.looped_body known func result line own (w.part known func result body)) (λ b. pure (tk.For a.end.0 v.0 u b.0 b.1)))
+        ∙ j.goes (λ b. pure (tk.For a.end.0 v.0 i.end.0 b.0 b.1))
+        ∙ pure_end typed j.end.1))
+        same
     statement (st.block {looped = looped} {b = b} {line = line} {ss = ss} d) s same =
         let h = statements d (scoped s (nested s.scope)) (block_nested s.scope ∙ ap st.within same) in
         walks_by line (k.Block ss) looped s b (tk.Block h.end.0, scoped h.end.1 s.scope)
-          (ap (λ f. f s) (nodes.walks-Block known func result ss line looped)
-           ∙ within_by_end (bind (w.statements known func result looped ss) (λ ts. pure (tk.Block ts))) s (tk.Block h.end.0, h.end.1)
-               (bind_by (w.statements known func result looped ss) (λ ts. pure (tk.Block ts)) (scoped s (nested s.scope)) h.end h.ends ∙ pure_end (tk.Block h.end.0) h.end.1))
-          same
+        (ap (λ f. f s) (nodes.walks-Block known func result ss line looped)
+        ∙ within_by_end (bind (w.statements known func result looped ss) (λ ts. pure (tk.Block ts))) s (tk.Block h.end.0, h.end.1)
+        (bind_by (w.statements known func result looped ss) (λ ts. pure (tk.Block ts)) (scoped s (nested s.scope)) h.end h.ends ∙ pure_end (tk.Block h.end.0) h.end.1))
+        same
     statement (st.return_none {looped = looped} {b = b} {line = line} is) s same =
         walks_by line (k.Return None) looped s b (tk.Return None, s)
-          (ap (λ f. f s) (nodes.walks-Return known func result None line looped)
-           ∙ lift_by line (ensure (w.is_void result) Return) (λ _. pure (tk.Return None)) s tt (ensured Return (void_is result is))
-           ∙ pure_end (tk.Return None) s)
-          same
+        (ap (λ f. f s) (nodes.walks-Return known func result None line looped)
+        ∙ lift_by line (ensure (w.is_void result) Return) (λ _. pure (tk.Return None)) s tt (ensured Return (void_is result is))
+        ∙ pure_end (tk.Return None) s)
+        same
     statement (st.return_value {looped = looped} {b = b} {line = line} {x = y} d) s same =
         let p = complete.fits known (in_scope s.scope) (out_of (λ n. r.Fits n y result) s b same d) in
         let v = complete.fitting_at p.2 in
         walks_by line (k.Return (Some y)) looped s b (tk.Return (Some v.0), s)
-          (ap (λ f. f s) (nodes.walks-Return known func result (Some y) line looped)
-           ∙ operand_by line y (λ p. bind (lift line (ensure (not (w.is_void result)) Return)) (λ _. bind (lift line (o.fitting result p)) (λ a. pure (tk.Return (Some a))))) s p.0 p.1
-           ∙ lift_by line (ensure (not (w.is_void result)) Return) (λ _. bind (lift line (o.fitting result p.0)) (λ a. pure (tk.Return (Some a)))) s tt (ensured Return (ap not (fits_no_void d)))
-           ∙ lift_by line (o.fitting result p.0) (λ a. pure (tk.Return (Some a))) s v.0 v.1
-           ∙ pure_end (tk.Return (Some v.0)) s)
-          same
+        (ap (λ f. f s) (nodes.walks-Return known func result (Some y) line looped)
+        ∙ operand_by line y (λ p. bind (lift line (ensure (not (w.is_void result)) Return)) (λ _. bind (lift line (o.fitting result p)) (λ a. pure (tk.Return (Some a))))) s p.0 p.1
+        ∙ lift_by line (ensure (not (w.is_void result)) Return) (λ _. bind (lift line (o.fitting result p.0)) (λ a. pure (tk.Return (Some a)))) s tt (ensured Return (ap not (fits_no_void d)))
+        ∙ lift_by line (o.fitting result p.0) (λ a. pure (tk.Return (Some a))) s v.0 v.1
+        ∙ pure_end (tk.Return (Some v.0)) s)
+        same
     statement (st.break_loop {b = b} {line = line}) s same =
         walks_by line k.Break true s b (tk.Break, s)
-          (ap (λ f. f s) (nodes.walks-Break known func result line true) ∙ lift_by line (ensure true Outside) (λ _. pure tk.Break) s tt refl ∙ pure_end tk.Break s) same
+        (ap (λ f. f s) (nodes.walks-Break known func result line true) ∙ lift_by line (ensure true Outside) (λ _. pure tk.Break) s tt refl ∙ pure_end tk.Break s) same
     statement (st.continue_loop {b = b} {line = line}) s same =
         walks_by line k.Continue true s b (tk.Continue, s)
-          (ap (λ f. f s) (nodes.walks-Continue known func result line true) ∙ lift_by line (ensure true Outside) (λ _. pure tk.Continue) s tt refl ∙ pure_end tk.Continue s) same
+        (ap (λ f. f s) (nodes.walks-Continue known func result line true) ∙ lift_by line (ensure true Outside) (λ _. pure tk.Continue) s tt refl ∙ pure_end tk.Continue s) same
 
     branch : {looped : Bool} {b : st.Block} {y : Stmt} → st.Branch g looped b y → (s : Progress) → block s.scope ≡ b → Branches looped y s
     branch (st.branch {looped = looped} {b = b} {x = y} never d) s same =
@@ -471,9 +476,9 @@ module _ (known : Known) (func : ℕ) (result : CType) where
         record {
           end = (Some h.end.0, h.end.1);
           goes = λ f.
-            assoc (w.part_if w.is_first (w.part known func result y) looped) (λ t. pure (Some t)) f s
-            ∙ part_by w.is_first y looped (λ t. bind (pure (Some t)) f) s h.end (first_sort d) h.ends
-            ∙ pure_ends (Some h.end.0) f h.end.1;
+              assoc (w.part_if w.is_first (w.part known func result y) looped) (λ t. pure (Some t)) f s
+              ∙ part_by w.is_first y looped (λ t. bind (pure (Some t)) f) s h.end (first_sort d) h.ends
+              ∙ pure_ends (Some h.end.0) f h.end.1;
           scope = h.scope;
         }
 
@@ -484,9 +489,9 @@ module _ (known : Known) (func : ℕ) (result : CType) where
         record {
           end = (Some h.end.0, h.end.1);
           goes = λ f.
-            assoc (w.part_if w.is_third (w.part known func result y) looped) (λ t. pure (Some t)) f s
-            ∙ part_by w.is_third y looped (λ t. bind (pure (Some t)) f) s h.end (ap w.is_third (simple_sort d)) h.ends
-            ∙ pure_ends (Some h.end.0) f h.end.1;
+              assoc (w.part_if w.is_third (w.part known func result y) looped) (λ t. pure (Some t)) f s
+              ∙ part_by w.is_third y looped (λ t. bind (pure (Some t)) f) s h.end (ap w.is_third (simple_sort d)) h.ends
+              ∙ pure_ends (Some h.end.0) f h.end.1;
           scope = h.scope;
         }
 
@@ -498,8 +503,8 @@ module _ (known : Known) (func : ℕ) (result : CType) where
         record {
           end = (h.end.0 ∷ i.end.0, i.end.1);
           ends =
-            bind_by ((w.part known func result y).walk looped) (λ t. bind (w.statements known func result looped ss) (λ ts. pure (t ∷ ts))) s h.end h.ends
-            ∙ bind_by (w.statements known func result looped ss) (λ ts. pure (h.end.0 ∷ ts)) h.end.1 i.end i.ends
-            ∙ pure_end (h.end.0 ∷ i.end.0) i.end.1;
+              bind_by ((w.part known func result y).walk looped) (λ t. bind (w.statements known func result looped ss) (λ ts. pure (t ∷ ts))) s h.end h.ends
+              ∙ bind_by (w.statements known func result looped ss) (λ ts. pure (h.end.0 ∷ ts)) h.end.1 i.end i.ends
+              ∙ pure_end (h.end.0 ∷ i.end.0) i.end.1;
           scope = i.scope;
         }

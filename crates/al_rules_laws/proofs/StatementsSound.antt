@@ -101,15 +101,18 @@ module _ (known : Known) (func : ℕ) (result : CType) where
   of_other : (d : StmtKind) → kind_sort d ≡ w.Other → KindSorts d
   of_other d is line = (
     λ e. let no : false ≡ true = sym (ap w.is_first is) ∙ e in absurd cc,
-    λ e. let no : false ≡ true = sym (ap w.is_third is) ∙ e in absurd cc)
+    λ e. let no : false ≡ true = sym (ap w.is_third is) ∙ e in absurd cc,
+  )
 
   of_declare : (a : CType) (name : Name) (v : Option Expr) → KindSorts (k.Declare a name v)
   of_declare a name None line = (
     λ e. let no : false ≡ true = sym (ap w.is_first (nodes.sort-Declare known func result a name)) ∙ e in absurd cc,
-    λ e. let no : false ≡ true = sym (ap w.is_third (nodes.sort-Declare known func result a name)) ∙ e in absurd cc)
+    λ e. let no : false ≡ true = sym (ap w.is_third (nodes.sort-Declare known func result a name)) ∙ e in absurd cc,
+  )
   of_declare a name (Some v) line = (
     λ e. st.declare,
-    λ e. let no : false ≡ true = sym (ap w.is_third (nodes.sort-Sets known func result a name v)) ∙ e in absurd cc)
+    λ e. let no : false ≡ true = sym (ap w.is_third (nodes.sort-Sets known func result a name v)) ∙ e in absurd cc,
+  )
 
   sort_cases : StmtCases Sorts KindSorts
   sort_cases = record {
@@ -274,17 +277,19 @@ module _ (known : Known) (func : ℕ) (result : CType) where
       let b = sym (assoc (checks line (λ scope. and_then (some_or (variable_named known (in_scope scope) red.name) Unknown) w.variable_at)) (λ at. pure (record { op = red.op; at = at })) (λ a. bind (bind (w.reductions known func result line reds) (λ as'. pure (a ∷ as'))) f) s) ∙ a in
       let c = checks_ends line (λ scope. and_then (some_or (variable_named known (in_scope scope) red.name) Unknown) w.variable_at) (λ at. bind (pure (record { op = red.op; at = at })) (λ a. bind (bind (w.reductions known func result line reds) (λ as'. pure (a ∷ as'))) f)) s z b in
       let d = sym (pure_ends (record { op = red.op; at = c.0 }) (λ a. bind (bind (w.reductions known func result line reds) (λ as'. pure (a ∷ as'))) f) s) ∙ c.2 in
-      let q = reductions_end line reds (λ as'. bind (pure (record { op = red.op; at = c.0 } ∷ as')) f) s z (sym (assoc (w.reductions known func result line reds) (λ as'. pure (record { op = red.op; at = c.0 } ∷ as')) f s) ∙ d) in
-      (more (reduces_by s.scope red (variable_named known (in_scope s.scope) red.name) (variable_is known (in_scope s.scope) red.name) c.0 c.1) q.0,
-       (record { op = red.op; at = c.0 } ∷ q.1.0, sym (pure_ends (record { op = red.op; at = c.0 } ∷ q.1.0) f s) ∙ q.1.1))
+      let q = reductions_end line reds (λ as'. bind (pure (record { op = red.op; at = c.0 } ∷ as')) f) s z (sym (assoc (w.reductions known func result line reds) (λ as'. pure (record { op = red.op; at = c.0 } ∷ as')) f s) ∙ d) in (
+        more (reduces_by s.scope red (variable_named known (in_scope s.scope) red.name) (variable_is known (in_scope s.scope) red.name) c.0 c.1) q.0,
+        (record { op = red.op; at = c.0 } ∷ q.1.0, sym (pure_ends (record { op = red.op; at = c.0 } ∷ q.1.0) f s) ∙ q.1.1),
+      )
 
   choice_ends : {B : Type 0} (line : ℕ) (note : Option LoopNote) (f : Option Choice → Walk B) (s : Progress) (z : B × Progress) → Ends (bind (w.choice_of known func result line note) f s) z
       → st.Noted (st.in_block setting (block s.scope)) note × ((v : Option Choice) × Ends (f v s) z)
   choice_ends line None f s z e = (st.plain, (None, sym (pure_ends None f s) ∙ e))
   choice_ends line (Some n) f s z e =
-      let q = reductions_end line n.reduce (λ reds. bind (pure (Some (record { policy = n.policy; order = n.order; reds = reds }))) f) s z (sym (assoc (w.reductions known func result line n.reduce) (λ reds. pure (Some (record { policy = n.policy; order = n.order; reds = reds }))) f s) ∙ e) in
-      (st.annotated (into (λ g. AllOf (st.Reduces g) n.reduce) s.scope q.0),
-       (Some (record { policy = n.policy; order = n.order; reds = q.1.0 }), sym (pure_ends (Some (record { policy = n.policy; order = n.order; reds = q.1.0 })) f s) ∙ q.1.1))
+      let q = reductions_end line n.reduce (λ reds. bind (pure (Some (record { policy = n.policy; order = n.order; reds = reds }))) f) s z (sym (assoc (w.reductions known func result line n.reduce) (λ reds. pure (Some (record { policy = n.policy; order = n.order; reds = reds }))) f s) ∙ e) in (
+        st.annotated (into (λ g. AllOf (st.Reduces g) n.reduce) s.scope q.0),
+        (Some (record { policy = n.policy; order = n.order; reds = q.1.0 }), sym (pure_ends (Some (record { policy = n.policy; order = n.order; reds = q.1.0 })) f s) ∙ q.1.1),
+      )
 
   body_ends : {B : Type 0} (line : ℕ) (own : Option Choice) (body : Stmt) (f : TStmt × Option ℕ → Walk B) (s : Progress) (z : B × Progress) → Sound body → Ends (bind (w.looped_body known func result line own (w.part known func result body)) f s) z
       → st.Branch setting true (block s.scope) body × ((v : TStmt × Option ℕ) × ((s' : Progress) × (block s.scope ≡ block s'.scope) × Ends (f v s') z))
@@ -321,9 +326,9 @@ module _ (known : Known) (func : ℕ) (result : CType) where
       let i = starts_by line a v (λ y. pure (tk.SetLocal (length s.locals) y)) (added name a s) z (sym (add_ends name a (λ n. bind (w.initial known func result line a v) (λ y. pure (tk.SetLocal n y))) s) ∙ l.2) in
       let p = pure_is (tk.SetLocal (length s.locals) i.1.0) (added name a s) z i.1.1 in
       conclude p (st.declare
-        (local_found name s.scope.inner ∙ ap (λ m. option_map field_of_binding m) (new_name (λ b. bytes_eq b.name name) s.scope.inner (ensure_ok (not (is_declared name s.scope)) Twice c.0 c.1)))
-        (scalar_sound (is_struct known.structs) (is_struct known.structs) a l.0 l.1)
-        i.0)
+      (local_found name s.scope.inner ∙ ap (λ m. option_map field_of_binding m) (new_name (λ b. bytes_eq b.name name) s.scope.inner (ensure_ok (not (is_declared name s.scope)) Twice c.0 c.1)))
+      (scalar_sound (is_struct known.structs) (is_struct known.structs) a l.0 l.1)
+      i.0)
 
   assign_sound : (a b : Expr) → KindSound (k.Assign a b)
   assign_sound a b line looped s z e =
@@ -334,7 +339,7 @@ module _ (known : Known) (func : ℕ) (result : CType) where
       let q = check_is line (λ _. w.assigned l.0 v.0) s z v.2 in
       let h = assigns_by s.scope a b l.0 v.0 z.0 (describes s.scope a l.0 l.1) (describes s.scope b v.0 v.1) q.0 in
       subst (λ (p : Progress). st.Statement setting looped (block s.scope) (st.at line (k.Assign a b)) (block p.scope)) q.1
-        (st.assign (into (λ n. st.Assigns n a h.0) s.scope h.1) (into (λ n. r.Fits n b h.0) s.scope h.2))
+      (st.assign (into (λ n. st.Assigns n a h.0) s.scope h.1) (into (λ n. r.Fits n b h.0) s.scope h.2))
 
   update_sound : (op : BinOp) (a b : Expr) → KindSound (k.Update op a b)
   update_sound op a b line looped s z e =
@@ -346,7 +351,7 @@ module _ (known : Known) (func : ℕ) (result : CType) where
       let q = check_is line (λ _. w.updated op l.0 v.0) s z v.2 in
       let h = updates_by s.scope op a b l.0 v.0 z.0 (describes s.scope a l.0 l.1) (describes s.scope b v.0 v.1) q.0 in
       subst (λ (p : Progress). st.Statement setting looped (block s.scope) (st.at line (k.Update op a b)) (block p.scope)) q.1
-        (st.update (ensure_ok (w.may_update op) Shape m.0 m.1) (into (λ n. st.Assigns n a t.Int) s.scope h.0) (into (λ n. r.Has n b r.value t.Int) s.scope h.1))
+      (st.update (ensure_ok (w.may_update op) Shape m.0 m.1) (into (λ n. st.Assigns n a t.Int) s.scope h.0) (into (λ n. r.Has n b r.value t.Int) s.scope h.1))
 
   call_sound : (name : Name) (xs : List Expr) → KindSound (k.Call name xs)
   call_sound name xs line looped s z run =
@@ -363,8 +368,8 @@ module _ (known : Known) (func : ℕ) (result : CType) where
       let v = lift_ends line (each o.integer p.0) (λ ns. pure (tk.Print f ns)) s z u.2 in
       let h = sound.expressions_are known (in_scope s.scope) xs p.0 p.1 in
       conclude (pure_is (tk.Print f v.0) s z v.2)
-        (st.print (as_many s.scope h ∙ eqb-true (length p.0) (w.numbers_in f) (ensure_ok (length p.0 == w.numbers_in f) Count u.0 u.1))
-          (into (λ n. AllOf (λ y. r.Has n y r.value t.Int) xs) s.scope (integers_all s.scope v.0 h v.1)))
+      (st.print (as_many s.scope h ∙ eqb-true (length p.0) (w.numbers_in f) (ensure_ok (length p.0 == w.numbers_in f) Count u.0 u.1))
+      (into (λ n. AllOf (λ y. r.Has n y r.value t.Int) xs) s.scope (integers_all s.scope v.0 h v.1)))
 
   -- in the end the same is in scope as before
   same_end : {A : Type 0} {looped : Bool} {y : Stmt} (s s' : Progress) (a : A) (z : A × Progress) → block s.scope ≡ block s'.scope → (a, s') ≡ z → st.Statement setting looped (block s.scope) y (block s.scope) → st.Statement setting looped (block s.scope) y (block z.1.scope)
@@ -385,7 +390,7 @@ module _ (known : Known) (func : ℕ) (result : CType) where
       let q = branch_ends b looped (λ t. bind (pure (Some t)) (λ q. pure (tk.If v.1.0 p.1.0.0 q))) p.1.0.1 z i g in
       let j = sym (pure_ends (Some q.1.0.0) (λ q. pure (tk.If v.1.0 p.1.0.0 q)) q.1.0.1) ∙ q.1.2 in
       same_end s q.1.0.1 (tk.If v.1.0 p.1.0.0 (Some q.1.0.0)) z (p.1.1 ∙ q.1.1) (pure_is (tk.If v.1.0 p.1.0.0 (Some q.1.0.0)) q.1.0.1 z j)
-        (st.choice_of_two v.0 p.0 (subst (λ n. st.Branch setting looped n b) (sym p.1.1) q.0))
+      (st.choice_of_two v.0 p.0 (subst (λ n. st.Branch setting looped n b) (sym p.1.1) q.0))
 
   while_sound : (c : Expr) (a : Stmt) → Sound a → KindSound (k.While c a)
   while_sound c a h line looped s z e =

@@ -160,19 +160,24 @@ module _ (before known : Name → Bool) where
     pointer = λ a h. (
       λ e k. pointer_forms a h (pointer_cases (form a) (sym (form-Ptr a) ∙ e)) (sym (ap (λ (p : Bool × Bool). p.1) (known-Ptr before known a)) ∙ k),
       λ e. absurd (pointer_no_structure (form a) (sym (form-Ptr a) ∙ e)),
-      λ e. ap (λ (p : Bool × Bool). p.0) (known-Ptr before known a) ∙ sym (ap (λ (p : Bool × Bool). p.1) (known-Ptr before known a)));
+      λ e. ap (λ (p : Bool × Bool). p.0) (known-Ptr before known a) ∙ sym (ap (λ (p : Bool × Bool). p.1) (known-Ptr before known a)),
+    );
     array = λ a n h. (
       λ e k. absurd (array_no_scalar n (form a) (sym (form-Array a n) ∙ e)),
       λ e. absurd (array_no_structure n (form a) (sym (form-Array a n) ∙ e)),
-      λ e. absurd (array_no_scalar n (form a) (sym (form-Array a n) ∙ e)));
+      λ e. absurd (array_no_scalar n (form a) (sym (form-Array a n) ∙ e)),
+    );
   })
     where
       lemma_int : form t.Int ≡ Structure → ⊥
       lemma_int e = let d : Scalar ≡ Structure = sym form-Int ∙ e in cc
+
       lemma_void : form t.Void ≡ Scalar → ⊥
       lemma_void e = let d : Nothing ≡ Scalar = sym form-Void ∙ e in cc
+
       lemma_void_structure : form t.Void ≡ Structure → ⊥
       lemma_void_structure e = let d : Nothing ≡ Structure = sym form-Void ∙ e in cc
+
       lemma_struct : (name : Name) → form (t.Struct name) ≡ Scalar → ⊥
       lemma_struct name e = let d : Structure ≡ Scalar = sym (form-Struct name) ∙ e in cc
 
@@ -194,8 +199,8 @@ module _ (before known : Name → Bool) where
     structure = λ name e k. r.structure (sym (ap (λ (p : Bool × Bool). p.0) (known-Struct before known name)) ∙ k);
     pointer = λ a h e k. r.scalar (scalar_of (t.Ptr a) (form-Ptr a ∙ pointer_held (form a) (sym (ap is_held (form-Ptr a)) ∙ e)) k);
     array = λ a n h e k.
-      let p = array_held n (form a) (sym (ap is_held (form-Array a n)) ∙ e) in
-      r.array p.0 (h p.1 (sym (ap (λ (p : Bool × Bool). p.0) (known-Array before known a n)) ∙ k));
+        let p = array_held n (form a) (sym (ap is_held (form-Array a n)) ∙ e) in
+        r.array p.0 (h p.1 (sym (ap (λ (p : Bool × Bool). p.0) (known-Array before known a n)) ∙ k));
   })
     where
       no_void : is_held (form t.Void) ≡ true → ⊥
@@ -260,14 +265,17 @@ module _ (before known : Name → Bool) where
     where
       of_int : form t.Int ≡ Nothing → ⊥
       of_int e = let d : Scalar ≡ Nothing = sym form-Int ∙ e in cc
+
       of_struct : (name : Name) → form (t.Struct name) ≡ Nothing → ⊥
       of_struct name e = let d : Structure ≡ Nothing = sym (form-Struct name) ∙ e in cc
+
       of_pointer : (f : Form) → pointer_form f ≡ Nothing → ⊥
       of_pointer Scalar e = cc
       of_pointer Structure e = cc
       of_pointer Nothing e = cc
       of_pointer Sequence e = cc
       of_pointer Malformed e = cc
+
       of_array : (n : ℕ) (f : Form) → array_form n f ≡ Nothing → ⊥
       of_array zero f e = cc
       of_array (suc n) Scalar e = cc
