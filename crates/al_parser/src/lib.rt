@@ -4,6 +4,8 @@
 mod items;
 mod program;
 mod statements;
+#[cfg(test)]
+mod tests;
 
 pub use al_source::ParseFault;
 pub use program::parse;

@@ -13,8 +13,9 @@ use al_source::{Item, ParseFault, Program, Token};
 use sqlite_items::Items;
 use std::alloc::Global;
 
+/// The items, to the last token.
 #[tactic(auto, using(al_grammar::proofs::Loops::items_end, al_grammar::proofs::Loops::items_more, crate::proofs::Taken::items_shrink))]
-fn all_items(cursor: &mut Cursor<'_>) -> Result<Items<Item>, ParseFault>
+pub fn all_items(cursor: &mut Cursor<'_>) -> Result<Items<Item>, ParseFault>
     ensures { Answers (spec.all_items cursor.old.rest.now) result cursor.new.rest.now }
 {
     let mut found = Items::new(cursor.alloc);

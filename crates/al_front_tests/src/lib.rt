@@ -1,0 +1,7 @@
+//! Tests of the front end as a whole: from sources to trees.
+#![tactic(auto)]
+
+#[cfg(test)]
+mod programs;
+#[cfg(test)]
+mod tests;
