@@ -1,6 +1,7 @@
 //! The plain interpreter: it computes what a program means by walking its tree, on one thread.
 #![tactic(auto)]
 
+pub mod blocks;
 pub mod calls;
 pub mod expressions;
 pub mod fault;
@@ -14,6 +15,7 @@ pub mod setting;
 pub mod stage;
 pub mod statements;
 pub mod walker;
+pub mod whole_calls;
 
 pub use fault::Fault;
 pub use setting::Setting;
