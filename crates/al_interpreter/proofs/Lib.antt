@@ -4,4 +4,5 @@ pub mod Binds
 pub mod KindNodes
 pub mod Printed
 pub mod Sequences
+pub mod Turning
 pub mod Zeros

@@ -8,6 +8,7 @@ pub mod fault;
 pub mod flow;
 pub mod frame;
 pub mod ground;
+pub mod loops;
 pub mod machine;
 pub mod parts;
 pub mod printing;
