@@ -133,6 +133,6 @@ module _ {S : Type 0} (world : World S) (here : Where) (input : List ℤ) (call 
 
 pub ruleset does_nodes = (does-SetLocal, does-Store, does-UpdateLocal, does-UpdateAt, does-Call, does-Print, does-Return)
 
-pub ruleset other_nodes = (does-Empty, does-If, does-While, does-For, does-Block, does-Break, does-Continue, does-Annotated)
+pub ruleset other_nodes = (does-Empty, does-If, does-Block, does-Break, does-Continue, does-Annotated)
 
 pub ruleset does_stmts = (does-stmt)

@@ -5,4 +5,6 @@ pub mod KindNodes
 pub mod Printed
 pub mod Sequences
 pub mod Turning
+pub mod Annotated
+pub mod LoopNodes
 pub mod Zeros

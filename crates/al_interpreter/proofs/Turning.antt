@@ -1,5 +1,5 @@
 -- The turns of a loop and the trips of an annotated one, as the code does them.
-use Rattle.std.proofs.Common.{◌≡◌, ℕ, zero, suc, ◌+◌, ◌-◌, ◌<◌, Bool, true, false, cond, Ok, Err, add-one, refl, sym, ap, subst, ◌∙◌, arith}
+use Rattle.std.proofs.Common.{◌≡◌, ℕ, zero, suc, ◌+◌, ◌-◌, ◌<◌, Bool, true, false, Result, Ok, Err, add-one, refl, sym, ap, subst, ◌∙◌, arith}
 use Rattle.std.specs.Prelude.{if◌then◌else◌, ℤ, pos, ◌+ℤ◌, ◌≤ℤ◌, ◌<ℤ◌, ◌-ℤ◌, negsuc}
 use Rattle.std.proofs.lemmas.Int.{ints}
 use Rattle.al_core.specs.declared.values.Val.{Val}
@@ -17,7 +17,7 @@ use Rattle.al_interpreter.specs.declared.flow.Turn.{Turn}
 use Rattle.al_interpreter.specs.declared.flow.Turn.TheVariants as turn
 use Rattle.al_interpreter.specs.Does.{Does}
 use Rattle.al_interpreter.specs.Kinds.{flow_of}
-use Rattle.al_interpreter.specs.Turns.{Leads, Turns, one_turn, test_first, trip_first, in_sequence, in_loop}
+use Rattle.al_interpreter.specs.Turns.{Leads, Turns, one_turn, test_first, trip_first, again_and_again, in_sequence, in_loop}
 use Rattle.al_interpreter.proofs.Binds.{raised}
 use Rattle.al_interpreter.proofs.Sequences.{by_turn, after_in_order, after_in_turns}
 
@@ -39,7 +39,7 @@ module _ {S : Type 0} where
 -- ---- a turn
 
 module _ {S : Type 0} (line : ℕ) (test : Act S Val) (body third : Act S Flow) where
-  abbrev turned : State S → Act S Flow → Answer Flow × State S
+  abbrev pub turned : State S → Act S Flow → Answer Flow × State S
   turned s again = one_turn line test body third again s
 
   abbrev tested : State S → (Bool → Act S Flow) → Answer Flow × State S
@@ -82,28 +82,54 @@ module _ {S : Type 0} (line : ℕ) (test : Act S Val) (body third : Act S Flow) 
   turn_third s t u v b f g d h is did ends third_did third_ends =
       told_turns (turned s) d v (λ again. turn_body s t u b f turn.Again again h is did ends ∙ after_in_order third again g d u v third_did third_ends)
 
-  -- ---- turns
+module _ {S : Type 0} where
+  without_third : (again : Act S Flow) (d : Turn) → by_turn (pure Next >>= then_flow again) d ≡ by_turn again d
+  unfolding bind pure
+  without_third again turn.Again = refl
+  without_third again (turn.Over f) = refl
 
-  pub turns_begin : (s : State S) (n : ℕ) → n ≡ s.budget + 1 → turns line test body third s ≡ turns_to n line test body third s
+  -- a loop with no third part
+  pub turn_alone : (line : ℕ) (test : Act S Val) (body : Act S Flow) (s t u : State S) (b : Bool) (f : Kept) (d : Turn) → Leads {A = Bool} (tested line test body (pure Next) s) (Ok b) t → b ≡ true → body t ≡ (Ok (flow_of f), u) → in_loop f ≡ d → Turns (turned line test body (pure Next) s) (Ok d) u
+  turn_alone line test body s t u b f d h is did ends =
+      told_turns (turned line test body (pure Next) s) d u (λ again. turn_body line test body (pure Next) s t u b f d again h is did ends ∙ ap (λ (p : Act S Flow). p u) (without_third again d))
+
+-- ---- turns
+
+module _ {S : Type 0} (line : ℕ) (one : Act S Flow → Act S Flow) where
+  abbrev repeated : State S → Act S Flow → Answer Flow × State S
+  repeated s again = one again s
+
+  pub turns_begin : (s : State S) (n : ℕ) → n ≡ s.budget + 1 → (get_budget >>= (λ n. again_and_again (suc n) line one)) s ≡ again_and_again n line one s
   unfolding bind get_budget
-  turns_begin s n is = ap (λ n. turns_to n line test body third s) (sym (add-one s.budget)) ∙ ap (λ n. turns_to n line test body third s) (sym is)
+  turns_begin s n is = ap (λ n. again_and_again n line one s) (sym (add-one s.budget)) ∙ ap (λ n. again_and_again n line one s) (sym is)
 
-  turns_open : (told : Answer Flow × State S) (n : ℕ) (s : State S) → told ≡ turns_to n line test body third s → 0 < n → told ≡ turned s (turns_to (n - 1) line test body third)
-  turns_open told n s so some = let one : n ≡ suc (n - 1) = omega arith in so ∙ ap (λ n. turns_to n line test body third s) one
+  turns_open : (told : Answer Flow × State S) (n : ℕ) (s : State S) → told ≡ again_and_again n line one s → 0 < n → told ≡ repeated s (again_and_again (n - 1) line one)
+  turns_open told n s so some = let more : n ≡ suc (n - 1) = omega arith in so ∙ ap (λ n. again_and_again n line one s) more
 
-  pub turns_fault : (told : Answer Flow × State S) (n : ℕ) (s t : State S) (e : Fault) → told ≡ turns_to n line test body third s → 0 < n → Turns (turned s) (Err e) t → Does {A = Flow} told (Err e) t
-  turns_fault told n s t (fault.Trap c at) so some h = turns_open told n s so some ∙ h (turns_to (n - 1) line test body third)
+  pub turns_fault : (told : Answer Flow × State S) (n : ℕ) (s t : State S) (e : Fault) → told ≡ again_and_again n line one s → 0 < n → Turns (repeated s) (Err e) t → Does {A = Flow} told (Err e) t
+  turns_fault told n s t (fault.Trap c at) so some h = turns_open told n s so some ∙ h (again_and_again (n - 1) line one)
   turns_fault told n s t fault.Memory so some h = h
 
-  pub turns_over : (told : Answer Flow × State S) (n : ℕ) (s t : State S) (f : Kept) → told ≡ turns_to n line test body third s → 0 < n → Turns (turned s) (Ok (turn.Over f)) t → told ≡ (Ok (flow_of f), t)
-  turns_over told n s t f so some h = turns_open told n s so some ∙ h (turns_to (n - 1) line test body third)
+  pub turns_over : (told : Answer Flow × State S) (n : ℕ) (s t : State S) (d : Turn) (f : Kept) → told ≡ again_and_again n line one s → 0 < n → Turns (repeated s) (Ok d) t → d ≡ turn.Over f → told ≡ (Ok (flow_of f), t)
+  unfolding pure
+  turns_over told n s t turn.Again f so some h is = cc
+  turns_over told n s t (turn.Over g) f so some h is = turns_open told n s so some ∙ h (again_and_again (n - 1) line one) ∙ ap (λ (d : Turn). by_turn {S = S} (pure Next) d t) is
 
-  pub turns_again : (told : Answer Flow × State S) (n : ℕ) (s t : State S) → told ≡ turns_to n line test body third s → 0 < n → Turns (turned s) (Ok turn.Again) t → told ≡ turns_to (n - 1) line test body third t
-  turns_again told n s t so some h = turns_open told n s so some ∙ h (turns_to (n - 1) line test body third)
+  pub turns_again : (told : Answer Flow × State S) (n : ℕ) (s t : State S) (d : Turn) → told ≡ again_and_again n line one s → 0 < n → Turns (repeated s) (Ok d) t → d ≡ turn.Again → told ≡ again_and_again (n - 1) line one t
+  turns_again told n s t turn.Again so some h is = turns_open told n s so some ∙ h (again_and_again (n - 1) line one)
+  turns_again told n s t (turn.Over g) so some h is = cc
 
-  pub turns_out : (told : Answer Flow × State S) (n : ℕ) (s : State S) → told ≡ turns_to n line test body third s → n ≡ 0 → told ≡ (Err (trap.Steps, line), s)
+  pub turns_out : (told : Answer Flow × State S) (n : ℕ) (s : State S) → told ≡ again_and_again n line one s → n ≡ 0 → told ≡ (Err (trap.Steps, line), s)
   unfolding lift
-  turns_out told n s so none = so ∙ ap (λ n. turns_to n line test body third s) none
+  turns_out told n s so none = so ∙ ap (λ n. again_and_again n line one s) none
+
+module _ {S : Type 0} (line : ℕ) (test : Act S Val) (body third : Act S Flow) where
+  turns_are : (n : ℕ) → turns_to n line test body third ≡ again_and_again n line (one_turn line test body third)
+  turns_are zero = refl
+  turns_are (suc n) = ap (one_turn line test body third) (turns_are n)
+
+  pub all_turns : turns line test body third ≡ (get_budget >>= (λ n. again_and_again (suc n) line (one_turn line test body third)))
+  all_turns = λ j. get_budget >>= (λ n. turns_are (suc n) j)
 
 -- ---- trips
 
@@ -167,6 +193,10 @@ module _ {S : Type 0} (world : World S) (line counter : ℕ) (lo hi : ℤ) (body
 
   pub trip_over : (told : Answer Flow × State S) (n : ℤ) (s t u : State S) (x : Unit {0}) (f : Kept) (d : Turn) → told ≡ trips_from n s → lo ≤ℤ n → n <ℤ hi → Leads {A = Unit {0}} (begun s n) (Ok x) t → body t ≡ (Ok (flow_of f), u) → in_loop f ≡ d → told ≡ by_turn (trips_from (n +ℤ pos 1)) d u
   trip_over told n s t u x f d so from more h did ends = trip_begun told n s t x so from more h ∙ after_in_turns body (trips_from (n +ℤ pos 1)) f d t u did ends
+
+  pub trip_again : (told : Answer Flow × State S) (n m : ℤ) (s t u : State S) (x : Unit {0}) (f : Kept) → told ≡ trips_from n s → lo ≤ℤ n → n <ℤ hi → Leads {A = Unit {0}} (begun s n) (Ok x) t → body t ≡ (Ok (flow_of f), u) → in_loop f ≡ turn.Again → m ≡ n +ℤ pos 1 → told ≡ trips_from m u
+  trip_again told n m s t u x f so from more h did ends next =
+      trip_over told n s t u x f turn.Again so from more h did ends ∙ ap (λ n. trips_from n u) (sym next)
 
   pub trips_done : (told : Answer Flow × State S) (n : ℤ) (s : State S) → told ≡ trips_from n s → hi ≤ℤ n → told ≡ (Ok Next, s)
   unfolding pure

@@ -1,13 +1,18 @@
 -- Turns of a loop, and what is done before one.
-use Rattle.std.specs.Prelude.{◌≡◌, ⊤, ℕ, Bool, if◌then◌else◌, Option, Some, None, Result, Ok, Err, ℤ}
+use Rattle.std.specs.Prelude.{◌≡◌, ⊤, ℕ, zero, suc, Bool, if◌then◌else◌, List, Option, Some, None, Result, Ok, Err, ℤ}
 use Rattle.std.specs.Int.{int_max}
 use Rattle.al_core.specs.declared.choices.Bound.{Bound}
 use Rattle.al_core.specs.declared.values.Val.{Val}
 use Rattle.al_core.specs.declared.values.Val.TheVariants.{Int}
+use Rattle.al_core.specs.declared.values.Trap.TheVariants as trap
 use Rattle.al_core.specs.World.{World}
 use Rattle.al_core.specs.Values.{truth, number}
-use Rattle.al_core.specs.Action.{State, Answer, Act, pure, lift, spend, set_local, ◌>>=◌, ◌>>◌}
-use Rattle.al_core.specs.Meaning.{Flow, Next, Where, bound_value, annotated, then_flow, turn_end}
+use Rattle.al_core.specs.declared.typed_tree.TExpr.{TExpr}
+use Rattle.al_core.specs.declared.typed_tree.TStmt.{TStmt}
+use Rattle.al_core.specs.declared.typed_tree.TKind.{TKind}
+use Rattle.al_core.specs.declared.typed_tree.TKind.TheOpen.{TKind-F}
+use Rattle.al_core.specs.Action.{State, Answer, Act, At, pure, lift, spend, get_budget, set_local, ◌>>=◌, ◌>>◌}
+use Rattle.al_core.specs.Meaning.{Flow, Next, Where, bound_value, then_flow, turn_end, test_value, execute}
 use Rattle.al_interpreter.specs.declared.fault.Fault.{Fault}
 use Rattle.al_interpreter.specs.declared.fault.Fault.TheVariants as fault
 use Rattle.al_interpreter.specs.declared.flow.Flow.{Flow as Kept}
@@ -15,7 +20,7 @@ use Rattle.al_interpreter.specs.declared.flow.Flow.TheVariants as kept
 use Rattle.al_interpreter.specs.declared.flow.Turn.{Turn}
 use Rattle.al_interpreter.specs.declared.flow.Turn.TheVariants as turn
 use Rattle.al_interpreter.specs.declared.loops.Range.{Range}
-use Rattle.al_interpreter.specs.Kinds.{flow_of}
+use Rattle.al_interpreter.specs.Kinds.{flow_of, any_does}
 
 -- ---- what comes after a statement
 
@@ -49,9 +54,39 @@ module _ {S : Type 0} where
   abbrev pub loop_end : World S → ℕ → ℕ → ℤ → ℤ → Act S Flow
   loop_end world line counter lo hi = set_local world counter (Int (int_max lo hi)) line >> pure Next
 
+-- ---- the turns of a loop
+
+-- a loop's test, body and third part
+pub record LoopParts : Type 0 where
+  pub test : Option TExpr
+  pub body : TStmt
+  pub third : Option TStmt
+
+-- those of a kind of statement, where it is a loop
+abbrev pub loop_in : TKind-F TKind TStmt → Option LoopParts
+loop_in (TKind-F.While e a) = Some (record { test = Some e; body = a; third = None })
+loop_in (TKind-F.For first test third body number) = Some (record { test = test; body = body; third = third })
+loop_in _ = None
+
+module _ {S : Type 0} where
   abbrev pub one_turn : ℕ → Act S Val → Act S Flow → Act S Flow → Act S Flow → Act S Flow
   one_turn line test body third again =
       spend line >> (test >>= (λ v. if truth v then body >>= turn_end (third >>= then_flow again) else pure Next))
+
+  -- at most so many turns
+  abbrev pub again_and_again : ℕ → ℕ → (Act S Flow → Act S Flow) → Act S Flow
+  again_and_again zero line one = lift line (Err trap.Steps)
+  again_and_again (suc n) line one = one (again_and_again n line one)
+
+module _ {S : Type 0} (world : World S) (here : Where) (input : List ℤ) (call : ℕ → List Val → At S Val) where
+  abbrev pub loop_turn : Option LoopParts → ℕ → Act S Flow → Act S Flow
+  loop_turn (Some p) line again =
+      one_turn line (test_value world here input call p.test line) (execute world here input call p.body) (any_does world here input call p.third) again
+  loop_turn None line again = pure Next
+
+  -- as many turns as there are steps left, and one more
+  abbrev pub loop_turns : Option LoopParts → ℕ → Act S Flow
+  loop_turns parts line = get_budget >>= (λ n. again_and_again (suc n) line (loop_turn parts line))
 
 -- It leads to what comes next, from an answer, or traps, whatever comes next.
 abbrev pub Leads : {A S : Type 0} → ((A → Act S Flow) → Answer Flow × State S) → Result A Fault → State S → Type 0

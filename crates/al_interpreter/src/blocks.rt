@@ -1,12 +1,12 @@
-ghost use Rattle.std.specs.Option.{option_copied};
 ghost use Rattle.al_core.specs.Meaning as meaning;
 ghost use Rattle.al_core.specs.Meaning.{call_to};
 ghost use Rattle.al_core.specs.Loops as loops;
 ghost use Rattle.al_core.specs.Values.{trip_count};
+ghost use Rattle.al_core.specs.declared.typed_tree.TKind.{out-TKind};
 ghost use Rattle.al_interpreter.specs.Does.{Does, setting_of};
 ghost use Rattle.al_interpreter.specs.Calls.{Calls};
 ghost use Rattle.al_interpreter.specs.Kinds.{does_kind, any_does, first_sets, flowed};
-ghost use Rattle.al_interpreter.specs.Turns.{Turns, one_turn};
+ghost use Rattle.al_interpreter.specs.Turns.{Turns, loop_in, loop_turn, loop_turns};
 
 use crate::fault::Fault;
 use crate::flow::{Flow, Turn};
@@ -15,7 +15,7 @@ use crate::machine::Machine;
 use crate::setting::Setting;
 use crate::stage::Stage;
 use crate::walker::Walker;
-use al_core::operations::{trips, truth};
+use al_core::operations::truth;
 use al_core::{TExpr, TKind, TStmt, Trap, Val};
 use sqlite_items::{Boxed, Items};
 use std::alloc::Global;
@@ -82,32 +82,43 @@ impl<F> Walker<F> {
         Ok(Flow::Next)
     }
 
-    /// One turn of a loop.
+    /// One turn of a loop. A kind of statement that is none is over.
     #[cycle(blocks)]
-    #[tactic(auto, unfolding(al_core::specs::Action::bind, al_core::specs::Action::pure))]
+    #[tactic(auto, using(al_core::specs::declared::typed_tree::TKind::the_lemmas), unfolding(al_core::specs::Action::bind, al_core::specs::Action::pure))]
     pub fn turn<G: Stage>(
         &self,
         on: &Setting<'_>,
         m: &mut Machine<G>,
-        body: &TStmt,
-        third: &Option<Boxed<TStmt>>,
-        test: Option<&TExpr>,
+        k: &TKind,
         line: u32,
     ) -> Result<Turn, Fault>
     where
         F: Fn(Global, &Setting<'_>, u32, &mut Machine<G>, u32, Items<Val>, u32) -> Result<Val, Fault>,
         requires { Calls (G.world (setting_of on.now)) G.place on.now self.now.room (F.pre self.now.call) (F.post self.now.call) }
-        ensures { Turns (λ again. one_turn line (meaning.test_value (G.world (setting_of on.now)) G.place on.now.input.now (call_to (G.world (setting_of on.now)) G.place on.now.typed.now.funcs on.now.input.now self.now.room) (option_copied test.entry) line) (meaning.execute (G.world (setting_of on.now)) G.place on.now.input.now (call_to (G.world (setting_of on.now)) G.place on.now.typed.now.funcs on.now.input.now self.now.room) body.now) (any_does (G.world (setting_of on.now)) G.place on.now.input.now (call_to (G.world (setting_of on.now)) G.place on.now.typed.now.funcs on.now.input.now self.now.room) third.now) again m.old) result m.new }
+        ensures { Turns (λ again. loop_turn (G.world (setting_of on.now)) G.place on.now.input.now (call_to (G.world (setting_of on.now)) G.place on.now.typed.now.funcs on.now.input.now self.now.room) (loop_in (out-TKind k.now)) line again m.old) result m.new }
     {
-        if !self.holds(on, m, test, line)? {
-            return Ok(Turn::Over(Flow::Next));
-        }
-        match self.stmt(on, m, body)?.in_loop() {
-            Turn::Again => {
-                let flow = self.any(on, m, third)?;
-                Ok(flow.in_sequence())
+        match k {
+            TKind::While(e, body) => {
+                if self.holds(on, m, Some(e), line)? {
+                    let flow = self.stmt(on, m, body.get())?;
+                    Ok(flow.in_loop())
+                } else {
+                    Ok(Turn::Over(Flow::Next))
+                }
             }
-            Turn::Over(flow) => Ok(Turn::Over(flow)),
+            TKind::For(_, test, third, body, _) => {
+                if !self.holds(on, m, test.as_ref(), line)? {
+                    return Ok(Turn::Over(Flow::Next));
+                }
+                match self.stmt(on, m, body.get())?.in_loop() {
+                    Turn::Again => {
+                        let flow = self.any(on, m, third)?;
+                        Ok(flow.in_sequence())
+                    }
+                    Turn::Over(flow) => Ok(Turn::Over(flow)),
+                }
+            }
+            _ => Ok(Turn::Over(Flow::Next)),
         }
     }
 
@@ -118,20 +129,18 @@ impl<F> Walker<F> {
         &self,
         on: &Setting<'_>,
         m: &mut Machine<G>,
-        body: &TStmt,
-        third: &Option<Boxed<TStmt>>,
-        test: Option<&TExpr>,
+        k: &TKind,
         line: u32,
     ) -> Result<Flow, Fault>
     where
         F: Fn(Global, &Setting<'_>, u32, &mut Machine<G>, u32, Items<Val>, u32) -> Result<Val, Fault>,
         requires { Calls (G.world (setting_of on.now)) G.place on.now self.now.room (F.pre self.now.call) (F.post self.now.call) }
-        ensures { Does (meaning.turns line (meaning.test_value (G.world (setting_of on.now)) G.place on.now.input.now (call_to (G.world (setting_of on.now)) G.place on.now.typed.now.funcs on.now.input.now self.now.room) (option_copied test.entry) line) (meaning.execute (G.world (setting_of on.now)) G.place on.now.input.now (call_to (G.world (setting_of on.now)) G.place on.now.typed.now.funcs on.now.input.now self.now.room) body.now) (any_does (G.world (setting_of on.now)) G.place on.now.input.now (call_to (G.world (setting_of on.now)) G.place on.now.typed.now.funcs on.now.input.now self.now.room) third.now) m.old) (flowed result) m.new }
+        ensures { Does (loop_turns (G.world (setting_of on.now)) G.place on.now.input.now (call_to (G.world (setting_of on.now)) G.place on.now.typed.now.funcs on.now.input.now self.now.room) (loop_in (out-TKind k.now)) line m.old) (flowed result) m.new }
     {
         let mut left = u128::from(m.left()) + 1;
         while left > 0 {
             left -= 1;
-            match self.turn(on, m, body, third, test, line)? {
+            match self.turn(on, m, k, line)? {
                 Turn::Again => {}
                 Turn::Over(flow) => return Ok(flow),
             }
@@ -170,16 +179,14 @@ impl<F> Walker<F> {
                     self.any(on, m, b)
                 }
             }
-            TKind::While(e, a) => self.turns(on, m, a.get(), &None, Some(e), line),
-            TKind::For(first, test, third, body, None) => {
-                match self.any(on, m, first)?.in_sequence() {
-                    Turn::Again => self.turns(on, m, body.get(), third, test.as_ref(), line),
+            TKind::While(_, _) => self.turns(on, m, k, line),
+            TKind::For(first, test, _, body, number) => match number {
+                None => match self.any(on, m, first)?.in_sequence() {
+                    Turn::Again => self.turns(on, m, k, line),
                     Turn::Over(flow) => Ok(flow),
-                }
-            }
-            TKind::For(first, test, _, body, Some(number)) => {
-                self.annotated(on, m, body.get(), first, test, *number, line)
-            }
+                },
+                Some(number) => self.annotated(on, m, body.get(), first, test, *number, line),
+            },
             TKind::Block(ss) => self.statements(on, m, ss.as_slice()),
             TKind::Return(e) => self.give(on, m, e, line),
             TKind::Break => Ok(Flow::Broke),
@@ -205,14 +212,17 @@ impl<F> Walker<F> {
         requires { Calls (G.world (setting_of on.now)) G.place on.now self.now.room (F.pre self.now.call) (F.post self.now.call) }
         ensures { Does (meaning.annotated_loop (G.world (setting_of on.now)) G.place number line (first_sets (G.world (setting_of on.now)) G.place on.now.input.now (call_to (G.world (setting_of on.now)) G.place on.now.typed.now.funcs on.now.input.now self.now.room) first.now) (loops.bound_of test.now) (meaning.execute (G.world (setting_of on.now)) G.place on.now.input.now (call_to (G.world (setting_of on.now)) G.place on.now.typed.now.funcs on.now.input.now self.now.room) body.now) m.old) (flowed result) m.new }
     {
-        let Some(range) = self.range(on, m, first, test, line)? else {
-            return Ok(Flow::Next);
-        };
-        if m.is_outside() {
-            m.visit(self.alloc, on, number, range.lo, range.hi)?;
-            return Ok(Flow::Next);
+        match self.range(on, m, first, test, line)? {
+            None => Ok(Flow::Next),
+            Some(range) => {
+                if m.is_outside() {
+                    m.hand_on(self.alloc, on, number, range)?;
+                    Ok(Flow::Next)
+                } else {
+                    self.ordinary(on, m, body, range, line)
+                }
+            }
         }
-        self.ordinary(on, m, body, range, line)
     }
 
     /// Does an annotated loop inside an iteration.
@@ -231,7 +241,7 @@ impl<F> Walker<F> {
         requires { Calls (G.world (setting_of on.now)) G.place on.now self.now.room (F.pre self.now.call) (F.post self.now.call) }
         ensures { Does (meaning.ordinary_trips (G.world (setting_of on.now)) line range.counter range.lo range.hi (meaning.execute (G.world (setting_of on.now)) G.place on.now.input.now (call_to (G.world (setting_of on.now)) G.place on.now.typed.now.funcs on.now.input.now self.now.room) body.now) m.old) (flowed result) m.new }
     {
-        m.lift(line, trips(range.lo, range.hi))?;
+        m.lift(line, range.trips())?;
         let flow = self.trips(on, m, body, range, line)?;
         m.past_loop(on, flow, range, line)
     }

@@ -1,10 +1,10 @@
 ghost use Rattle.std.specs.Prelude.{◌≡◌, option_map};
 ghost use Rattle.std.specs.Option.{option_copied};
-ghost use Rattle.al_core.specs.Action.{spend, set_local};
+ghost use Rattle.al_core.specs.Action.{visit};
+ghost use Rattle.al_core.specs.Values as arithmetic;
 ghost use Rattle.al_core.specs.Loops as loops;
 ghost use Rattle.al_core.specs.Meaning as meaning;
 ghost use Rattle.al_core.specs.Meaning.{call_to};
-ghost use Rattle.al_core.specs.declared.values.Val.TheVariants as value;
 ghost use Rattle.al_interpreter.specs.Does.{Does, setting_of};
 ghost use Rattle.al_interpreter.specs.Calls.{Calls};
 ghost use Rattle.al_interpreter.specs.Kinds as spec;
@@ -18,8 +18,8 @@ use crate::machine::Machine;
 use crate::parts::set_in;
 use crate::setting::Setting;
 use crate::walker::Walker;
-use al_core::operations::{number, truth};
-use al_core::{TExpr, TStmt, Val};
+use al_core::operations::{number, trips, truth};
+use al_core::{TExpr, TStmt, Trap, Val};
 use sqlite_items::{Boxed, Items};
 use std::alloc::Global;
 
@@ -40,7 +40,29 @@ fn first_set(first: &Option<Boxed<TStmt>>) -> Option<(u32, &TExpr, u32)>
     Some((counter, e, first.line))
 }
 
+impl Range {
+    /// How many trips it makes.
+    pub fn trips(self) -> Result<u64, Trap>
+        ensures { result ≡ arithmetic.trips self.lo self.hi }
+    {
+        trips(self.lo, self.hi)
+    }
+}
+
 impl<G: Ground> Machine<G> {
+    /// Hands an annotated loop on.
+    pub fn hand_on(
+        &mut self,
+        alloc: Global,
+        on: &Setting<'_>,
+        number: u32,
+        range: Range,
+    ) -> Result<(), Fault>
+        ensures { Does (visit (G.world (setting_of on.now)) number range.lo range.hi self.old) result self.new }
+    {
+        self.visit(alloc, on, number, range.lo, range.hi)
+    }
+
     /// Begins a trip of an annotated loop: it spends a step and sets the counter.
     #[tactic(auto, unfolding(al_core::specs::Action::bind))]
     pub fn begin_trip(&mut self, on: &Setting<'_>, counter: u32, n: i64, line: u32) -> Result<(), Fault>
