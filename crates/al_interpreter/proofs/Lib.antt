@@ -7,4 +7,5 @@ pub mod Sequences
 pub mod Turning
 pub mod Annotated
 pub mod LoopNodes
+pub mod Calling
 pub mod Zeros

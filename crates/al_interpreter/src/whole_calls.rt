@@ -1,6 +1,7 @@
 ghost use Rattle.al_core.specs.Meaning as meaning;
 ghost use Rattle.al_interpreter.specs.Does.{Does, setting_of};
-ghost use Rattle.al_interpreter.specs.Wholes.{iterates, main_does};
+ghost use Rattle.al_interpreter.specs.Wholes as spec;
+ghost use Rattle.al_interpreter.specs.Wholes.{iterates, iterates_with, main_does};
 
 use crate::calls::{body_of, frame_of, line_of, returned};
 use crate::fault::Fault;
@@ -40,8 +41,32 @@ pub fn call_to<G: Stage>(
     Ok(m.leave(old, returned(flow)))
 }
 
-/// An iteration of an annotated loop: a step, then the counter's value, then the body. One call is active, so 255 more may be.
+/// An iteration, where so many more calls may be active.
 #[tactic(auto, unfolding(al_core::specs::Action::bind, al_core::specs::Action::pure))]
+fn iterate_with<G: Stage>(
+    alloc: Global,
+    on: &Setting<'_>,
+    room: u32,
+    m: &mut Machine<G>,
+    counter: u32,
+    line: u32,
+    body: &TStmt,
+    n: i64,
+) -> Result<(), Fault>
+    ensures { Does (iterates_with (G.world (setting_of on.now)) G.place room on.now.typed.now.funcs on.now.input.now counter line body.now n m.old) result m.new }
+{
+    m.spend(line)?;
+    m.set_local(on, counter, Val::Int(n), line)?;
+    let walker = Walker {
+        alloc,
+        room,
+        call: call_to,
+    };
+    walker.stmt(on, m, body)?;
+    Ok(())
+}
+
+/// An iteration of an annotated loop: a step, then the counter's value, then the body. One call is active, so 255 more may be.
 pub fn iterate<G: Stage>(
     alloc: Global,
     on: &Setting<'_>,
@@ -53,18 +78,23 @@ pub fn iterate<G: Stage>(
 ) -> Result<(), Fault>
     ensures { Does (iterates (G.world (setting_of on.now)) G.place on.now.typed.now.funcs on.now.input.now counter line body.now n m.old) result m.new }
 {
-    m.spend(line)?;
-    m.set_local(on, counter, Val::Int(n), line)?;
-    let walker = Walker {
-        alloc,
-        room: 255,
-        call: call_to,
-    };
-    walker.stmt(on, m, body)?;
-    Ok(())
+    iterate_with(alloc, on, 255, m, counter, line, body, n)
 }
 
-/// Calls `main` at the line of its definition. Up to 256 calls may be active.
+/// The call of `main`, at the line of its definition, where so many calls may be active.
+fn main_with<G: Stage>(
+    alloc: Global,
+    on: &Setting<'_>,
+    room: u32,
+    m: &mut Machine<G>,
+) -> Result<Val, Fault>
+    ensures { Does (spec.main_with (G.world (setting_of on.now)) G.place room on.now.typed.now on.now.input.now m.old) result m.new }
+{
+    let line = line_of(at(on.typed.funcs.as_slice(), on.typed.main as usize));
+    call_to(alloc, on, room, m, on.typed.main, Items::new(alloc), line)
+}
+
+/// Calls `main`. Up to 256 calls may be active.
 pub fn run_main<G: Stage>(
     alloc: Global,
     on: &Setting<'_>,
@@ -72,6 +102,5 @@ pub fn run_main<G: Stage>(
 ) -> Result<Val, Fault>
     ensures { Does (main_does (G.world (setting_of on.now)) G.place on.now.typed.now on.now.input.now m.old) result m.new }
 {
-    let line = line_of(at(on.typed.funcs.as_slice(), on.typed.main as usize));
-    call_to(alloc, on, 256, m, on.typed.main, Items::new(alloc), line)
+    main_with(alloc, on, 256, m)
 }
