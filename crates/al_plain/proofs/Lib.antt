@@ -1,0 +1,2 @@
+pub mod DerivedOrders
+pub mod Kept
