@@ -67,6 +67,11 @@ module _ {K : Type 0} (C R : K → K → Ordering) (order : C ≡ R) (o : IsTota
         ∙ (λ i. cond (at_turned k q i) None (map_get m q i))
         ∙ sym (map.get-remove o (from_entries m.entries) k q))
 
+-- a set with more members
+abbrev pub with_all : {K : Type 0} {R : K → K → Ordering} → FinSet R → List K → FinSet R
+with_all s [] = s
+with_all s (k ∷ ks) = with_all (set.insert s k) ks
+
 -- ---- in order
 
 module _ {K : Type 0} {R : K → K → Ordering} (o : IsTotalOrder R) (same : IsAntisymmetric R) where
@@ -117,11 +122,6 @@ module _ {K : Type 0} {R : K → K → Ordering} (o : IsTotalOrder R) (same : Is
   any_kept p ks =
       let e : (x : K) → list_any (eq_by_cmp R x) (set.items (from_list {R = R} ks)) ≡ list_any (eq_by_cmp R x) ks = λ x. sym (set.contains-items (from_list ks) x) ∙ set.contains-from_list o ks x in
       same_truth _ _ (any_within p (set.items (from_list ks)) ks e) (any_within p ks (set.items (from_list ks)) (λ x. sym (e x)))
-
-  -- a set with more members
-  abbrev pub with_all : FinSet R → List K → FinSet R
-  with_all s [] = s
-  with_all s (k ∷ ks) = with_all (set.insert s k) ks
 
   or_moved : (a b c : Bool) → ((a || b) || c) ≡ (b || (a || c))
   or_moved true true c = refl

@@ -19,11 +19,11 @@ pub struct Addresses {
 impl Model for Addresses {
     ghost use Rattle.std.specs.FinSet as set;
     ghost use Rattle.al_core.specs.Orders.{addr_cmp};
-    ghost use Rattle.al_core.specs.contracts.values.Addr as addr;
+    ghost use Rattle.al_plain.specs.Codes.{addresses_code};
 
     ghost Value = { set.FinSet addr_cmp };
 
-    ghost coded = { set.code addr.the_row.coded };
+    ghost coded = { addresses_code };
 
     ghost view = { λ a. set.from_list a.all.keys };
 }
@@ -63,12 +63,15 @@ impl Addresses {
     }
 
     /// Whether some address is in both sets.
-    #[tactic(auto, unfolding(al_core::specs::Clash::meets))]
     pub fn meets(&self, alloc: Global, other: &Addresses) -> Result<bool, AllocError>
         ensures { IfOk result (λ r. r ≡ meets self.now other.now) }
     {
-        let all = self.items(alloc)?;
-        Ok(all.as_slice().iter().any(|a| other.contains(*a)))
+        for a in self.items(alloc)?.as_slice() {
+            if other.contains(*a) {
+                return Ok(true);
+            }
+        }
+        Ok(false)
     }
 
     /// Adds all of another set.

@@ -1,5 +1,9 @@
 //! The plain interpreter's whole runs: the slow program whose contract is the definition itself.
 #![tactic(auto)]
 
+pub mod accesses;
 pub mod addresses;
+pub mod memory;
+pub mod names;
 pub mod objects;
+pub mod words;

@@ -3,6 +3,7 @@ ghost use Rattle.std.specs.FinMap as map;
 ghost use Rattle.std.specs.Option.{option_copied};
 ghost use Rattle.al_core.specs.Memory as spec;
 
+use crate::words::set_at;
 use al_core::{Obj, Val};
 use sqlite_items::Items;
 use std::alloc::{AllocError, Global};
@@ -20,13 +21,11 @@ impl Model for Objects {
     ghost use Rattle.std.specs.FinMap as map;
     ghost use Rattle.al_core.specs.Orders.{obj_cmp};
     ghost use Rattle.al_core.specs.declared.values.Val.{Val};
-    ghost use Rattle.al_core.specs.contracts.values.Obj as obj;
-    ghost use Rattle.al_core.specs.contracts.values.Val as val;
-    ghost use Rattle.std.specs.Coded.{coded_list};
+    ghost use Rattle.al_plain.specs.Codes.{objects_code};
 
     ghost Value = { map.FinMap obj_cmp (List Val) };
 
-    ghost coded = { map.code obj.the_row.coded (coded_list val.the_row.coded) };
+    ghost coded = { objects_code };
 
     ghost view = { λ a. map.from_entries a.words.entries };
 }
@@ -53,17 +52,26 @@ impl Objects {
         Ok(())
     }
 
+    /// Takes an object away.
+    fn take(&mut self, o: Obj) -> Option<Items<Val>>
+        ensures taken { result ≡ map.get self.old o }
+        ensures rest { self.new ≡ map.remove self.old o }
+    {
+        self.words.remove(&o)
+    }
+
     /// Puts a value in place of a word that is there.
+    #[tactic(auto, using(crate::proofs::Replaced::with_words_of, crate::proofs::Replaced::with_none))]
     pub fn set_word(&mut self, o: Obj, w: u32, v: Val) -> Result<(), AllocError>
         ensures { OnOk result (self.new ≡ spec.with_words self.old o w v (map.get self.old o)) }
     {
-        if let Some(mut words) = self.words.remove(&o) {
-            if (w as usize) < words.len() {
-                words.set(w as usize, v);
+        match self.take(o) {
+            Some(mut words) => {
+                set_at(&mut words, w, v);
+                self.insert(o, words)
             }
-            self.words.insert(o, words)?;
+            None => Ok(()),
         }
-        Ok(())
     }
 
     /// The same objects once more.

@@ -1,0 +1,66 @@
+-- Codes of the values that the code's types have, by which a proof tells them apart.
+use Rattle.std.specs.Prelude.{◌≡◌, ℕ, List, Option, Some, None, refl}
+use Rattle.std.specs.Coded.{Coded, code_by, coded×, coded_ℕ, coded_list, coded_option}
+use Rattle.std.specs.FinMap as map
+use Rattle.std.specs.FinMap.{FinMap}
+use Rattle.std.specs.FinSet as set
+use Rattle.std.specs.FinSet.{FinSet}
+use Rattle.al_core.specs.contracts.values.Obj as obj
+use Rattle.al_core.specs.contracts.values.Val as val
+use Rattle.al_core.specs.contracts.values.Addr as addr
+use Rattle.al_core.specs.contracts.choices.Red as red
+use Rattle.al_core.specs.declared.choices.Red.{Red}
+use Rattle.al_core.specs.declared.values.Val.{Val}
+use Rattle.al_core.specs.Orders.{obj_cmp, addr_cmp}
+use Rattle.al_core.specs.Memory.{Memory}
+use Rattle.al_core.specs.Access.{Allocator, Outer, InIteration, Allocations, AccessRecord, Content}
+
+abbrev pub words_code : Coded (List Val)
+words_code = coded_list val.the_row.coded
+
+abbrev pub objects_code : Coded (FinMap obj_cmp (List Val))
+objects_code = map.code obj.the_row.coded words_code
+
+abbrev pub memory_code : Coded Memory
+memory_code = code_by (FinMap obj_cmp (List Val) × List Val) (coded× objects_code words_code) (λ m. (m.objects, m.locals)) (λ p. record { objects = p.0; locals = p.1 }) (λ _. refl)
+
+abbrev pub addresses_code : Coded (FinSet addr_cmp)
+addresses_code = set.code addr.the_row.coded
+
+abbrev pub names_code : Coded (FinSet obj_cmp)
+names_code = set.code obj.the_row.coded
+
+abbrev pub accesses_code : Coded AccessRecord
+accesses_code =
+    code_by (FinSet addr_cmp × (FinSet addr_cmp × (FinSet obj_cmp × (List Red × List Val))))
+    (coded× addresses_code (coded× addresses_code (coded× names_code (coded× (coded_list red.the_row.coded) words_code))))
+    (λ a. (a.reads, (a.touched, (a.made, (a.reds, a.accumulators)))))
+    (λ p. record { reads = p.0; touched = p.1.0; made = p.1.1.0; reds = p.1.1.1.0; accumulators = p.1.1.1.1 })
+    (λ _. refl)
+
+abbrev numbers_of : Allocator → Option (ℕ × ℕ)
+numbers_of Outer = None
+numbers_of (InIteration e j) = Some (e, j)
+
+abbrev by_numbers : Option (ℕ × ℕ) → Allocator
+by_numbers None = Outer
+by_numbers (Some p) = InIteration p.0 p.1
+
+pub same_allocator : (a : Allocator) → by_numbers (numbers_of a) ≡ a
+same_allocator Outer = refl
+same_allocator (InIteration e j) = refl
+
+abbrev pub allocator_code : Coded Allocator
+allocator_code = code_by (Option (ℕ × ℕ)) (coded_option (coded× coded_ℕ coded_ℕ)) numbers_of by_numbers same_allocator
+
+abbrev pub allocations_code : Coded Allocations
+allocations_code =
+    code_by (Allocator × (ℕ × ℕ)) (coded× allocator_code (coded× coded_ℕ coded_ℕ)) (λ a. (a.allocator, (a.next, a.words))) (λ p. record { allocator = p.0; next = p.1.0; words = p.1.1 }) (λ _. refl)
+
+abbrev pub content_code : Coded Content
+content_code =
+    code_by (Memory × (Allocations × (List ℕ × Option AccessRecord)))
+    (coded× memory_code (coded× allocations_code (coded× (coded_list coded_ℕ) (coded_option accesses_code))))
+    (λ c. (c.memory, (c.allocations, (c.printed, c.accesses))))
+    (λ p. record { memory = p.0; allocations = p.1.0; printed = p.1.1.0; accesses = p.1.1.1 })
+    (λ _. refl)
