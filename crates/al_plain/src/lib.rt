@@ -3,6 +3,7 @@
 
 pub mod accesses;
 pub mod addresses;
+pub mod content;
 pub mod memory;
 pub mod names;
 pub mod objects;
