@@ -3,3 +3,6 @@ pub mod Kept
 pub mod AddressSets
 pub mod Replaced
 pub mod Indices
+pub mod Lists
+pub mod LoopNodes
+pub mod InTurn

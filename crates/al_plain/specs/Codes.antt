@@ -9,11 +9,14 @@ use Rattle.al_core.specs.contracts.values.Obj as obj
 use Rattle.al_core.specs.contracts.values.Val as val
 use Rattle.al_core.specs.contracts.values.Addr as addr
 use Rattle.al_core.specs.contracts.choices.Red as red
+use Rattle.al_core.specs.contracts.reports.Ending as ending
 use Rattle.al_core.specs.declared.choices.Red.{Red}
 use Rattle.al_core.specs.declared.values.Val.{Val}
+use Rattle.al_core.specs.declared.reports.Ending.{Ending}
 use Rattle.al_core.specs.Orders.{obj_cmp, addr_cmp}
 use Rattle.al_core.specs.Memory.{Memory}
 use Rattle.al_core.specs.Access.{Allocator, Outer, InIteration, Allocations, AccessRecord, Content}
+use Rattle.al_core.specs.Iteration.{Finished}
 
 abbrev pub words_code : Coded (List Val)
 words_code = coded_list val.the_row.coded
@@ -64,3 +67,6 @@ content_code =
     (λ c. (c.memory, (c.allocations, (c.printed, c.accesses))))
     (λ p. record { memory = p.0; allocations = p.1.0; printed = p.1.1.0; accesses = p.1.1.1 })
     (λ _. refl)
+
+abbrev pub finished_code : Coded Finished
+finished_code = code_by (Ending × (ℕ × Content)) (coded× ending.the_row.coded (coded× coded_ℕ content_code)) (λ f. (f.ending, (f.steps, f.content))) (λ p. record { ending = p.0; steps = p.1.0; content = p.1.1 }) (λ _. refl)

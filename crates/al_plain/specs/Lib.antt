@@ -1,2 +1,4 @@
 pub mod Codes
 pub mod Makers
+pub mod Found
+pub mod Executions

@@ -73,10 +73,11 @@ impl Model for Content {
     ghost invariant = { λ c. (c.next ≤ c.words) × (c.words ≤ 4194304) };
 }
 
-fn zeros(alloc: Global, count: u32) -> Result<Items<Val>, AllocError>
+/// So many words that hold 0.
+pub fn zeros(alloc: Global, count: usize) -> Result<Items<Val>, AllocError>
     ensures { IfOk result (λ all. all ≡ replicate count (value.Int (pos 0))) }
 {
-    Ok(Items::from_vec(vec![in alloc; Val::Int(0); count as usize]?))
+    Ok(Items::from_vec(vec![in alloc; Val::Int(0); count]?))
 }
 
 fn seen<T>(r: Result<T, Trap>) -> Result<T, ViewFault>
@@ -195,7 +196,7 @@ impl View for Content {
             return Err(ViewFault::Trap(Trap::Alloc));
         }
         let o = self.maker.name(self.next);
-        self.memory.add(o, zeros(self.alloc, words)?)?;
+        self.memory.add(o, zeros(self.alloc, words as usize)?)?;
         self.record_make(o)?;
         self.next += 1;
         self.words = total as u32;

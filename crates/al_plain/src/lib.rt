@@ -4,6 +4,9 @@
 pub mod accesses;
 pub mod addresses;
 pub mod content;
+pub mod grounds;
+pub mod iterations;
+pub mod loops;
 pub mod memory;
 pub mod names;
 pub mod objects;
