@@ -6,3 +6,4 @@ pub mod Indices
 pub mod Lists
 pub mod LoopNodes
 pub mod InTurn
+pub mod ChunkRuns

@@ -1,6 +1,6 @@
 -- Codes of the values that the code's types have, by which a proof tells them apart.
-use Rattle.std.specs.Prelude.{◌≡◌, ℕ, List, Option, Some, None, refl}
-use Rattle.std.specs.Coded.{Coded, code_by, coded×, coded_ℕ, coded_list, coded_option}
+use Rattle.std.specs.Prelude.{◌≡◌, ℕ, ℤ, List, Option, Some, None, refl}
+use Rattle.std.specs.Coded.{Coded, code_by, coded×, coded_ℕ, coded_ℤ, coded_list, coded_option}
 use Rattle.std.specs.FinMap as map
 use Rattle.std.specs.FinMap.{FinMap}
 use Rattle.std.specs.FinSet as set
@@ -17,6 +17,7 @@ use Rattle.al_core.specs.Orders.{obj_cmp, addr_cmp}
 use Rattle.al_core.specs.Memory.{Memory}
 use Rattle.al_core.specs.Access.{Allocator, Outer, InIteration, Allocations, AccessRecord, Content}
 use Rattle.al_core.specs.Iteration.{Finished}
+use Rattle.al_core.specs.Chunk.{Outcome}
 
 abbrev pub words_code : Coded (List Val)
 words_code = coded_list val.the_row.coded
@@ -70,3 +71,11 @@ content_code =
 
 abbrev pub finished_code : Coded Finished
 finished_code = code_by (Ending × (ℕ × Content)) (coded× ending.the_row.coded (coded× coded_ℕ content_code)) (λ f. (f.ending, (f.steps, f.content))) (λ p. record { ending = p.0; steps = p.1.0; content = p.1.1 }) (λ _. refl)
+
+abbrev pub outcome_code : Coded Outcome
+outcome_code =
+    code_by (FinSet addr_cmp × (FinSet addr_cmp × (FinMap addr_cmp Val × (FinMap obj_cmp (List Val) × (List ℤ × (List ℕ × (Ending × ℕ)))))))
+    (coded× addresses_code (coded× addresses_code (coded× (map.code addr.the_row.coded val.the_row.coded) (coded× objects_code (coded× (coded_list coded_ℤ) (coded× (coded_list coded_ℕ) (coded× ending.the_row.coded coded_ℕ)))))))
+    (λ o. (o.reads, (o.touched, (o.writes, (o.made, (o.accumulators, (o.printed, (o.ending, o.steps))))))))
+    (λ p. record { reads = p.0; touched = p.1.0; writes = p.1.1.0; made = p.1.1.1.0; accumulators = p.1.1.1.1.0; printed = p.1.1.1.1.1.0; ending = p.1.1.1.1.1.1.0; steps = p.1.1.1.1.1.1.1 })
+    (λ _. refl)

@@ -2,3 +2,4 @@ pub mod Codes
 pub mod Makers
 pub mod Found
 pub mod Executions
+pub mod Outcomes

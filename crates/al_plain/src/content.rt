@@ -129,6 +129,13 @@ impl Content {
         self.words = 0;
     }
 
+    /// The memory, what was printed, and what was recorded.
+    pub fn into_parts(self) -> (Memory, Items<u8>, Option<Accesses>)
+        ensures { result ≡ (self.memory, self.printed, self.accesses) }
+    {
+        (self.memory, self.printed, self.accesses)
+    }
+
     /// Records an object that is made, where there is a record.
     fn record_make(&mut self, o: Obj) -> Result<(), AllocError>
         ensures { OnOk result (self.new ≡ record self.old { accesses = spec.record_make self.old.accesses o }) }

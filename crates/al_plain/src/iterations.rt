@@ -1,4 +1,4 @@
-ghost use Rattle.std.specs.Prelude.{◌≡◌, ◌+◌, ◌-◌, ◌^◌, ◌<◌, pos, ◌+ℤ◌, FitsSigned, IfOk};
+ghost use Rattle.std.specs.Prelude.{◌≡◌, ◌+◌, ◌-◌, ◌^◌, ◌<◌, ◌≤◌, pos, ◌+ℤ◌, FitsSigned, IfOk};
 ghost use Rattle.std.specs.Int.{w64};
 ghost use Rattle.al_core.specs.Iteration as spec;
 ghost use Rattle.al_plain.specs.Executions.{execution_of, IsBounded};
@@ -124,11 +124,22 @@ pub fn iterations(
     let mut steps: u128 = 0;
     for j in first..first + count {
         let r = iteration(alloc, x, j, content)?;
-        let Finished { ending, steps: spent, content: left } = r;
+        let Finished {
+            ending,
+            steps: spent,
+            content: left,
+        } = r;
         steps += spent;
         content = left;
-        if let Ending::Trap(_, _) = ending {
-            return Ok(Finished { ending, steps, content });
+        match ending {
+            Ending::Done => {}
+            Ending::Trap(_, _) => {
+                return Ok(Finished {
+                    ending,
+                    steps,
+                    content,
+                });
+            }
         }
     }
     Ok(Finished {

@@ -10,4 +10,5 @@ pub mod loops;
 pub mod memory;
 pub mod names;
 pub mod objects;
+pub mod outcomes;
 pub mod words;
