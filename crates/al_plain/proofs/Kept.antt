@@ -24,7 +24,7 @@ or_cond : (a : Bool) (b : Bool) → cond a true b ≡ (a || b)
 or_cond true b = refl
 or_cond false b = refl
 
-both : (a b : Bool) → T a → T b → T (a && b)
+pub both : (a b : Bool) → T a → T b → T (a && b)
 both true b h k = k
 both false b h k = h
 

@@ -7,3 +7,4 @@ pub mod Lists
 pub mod LoopNodes
 pub mod InTurn
 pub mod ChunkRuns
+pub mod Committed

@@ -1,6 +1,6 @@
 -- Codes of the values that the code's types have, by which a proof tells them apart.
-use Rattle.std.specs.Prelude.{◌≡◌, ℕ, ℤ, List, Option, Some, None, refl}
-use Rattle.std.specs.Coded.{Coded, code_by, coded×, coded_ℕ, coded_ℤ, coded_list, coded_option}
+use Rattle.std.specs.Prelude.{◌≡◌, ℕ, ℤ, Bool, List, Option, Some, None, refl}
+use Rattle.std.specs.Coded.{Coded, code_by, coded×, coded_ℕ, coded_ℤ, coded_bool, coded_list, coded_option}
 use Rattle.std.specs.FinMap as map
 use Rattle.std.specs.FinMap.{FinMap}
 use Rattle.std.specs.FinSet as set
@@ -10,14 +10,18 @@ use Rattle.al_core.specs.contracts.values.Val as val
 use Rattle.al_core.specs.contracts.values.Addr as addr
 use Rattle.al_core.specs.contracts.choices.Red as red
 use Rattle.al_core.specs.contracts.reports.Ending as ending
+use Rattle.al_core.specs.contracts.reports.Judged as judged
 use Rattle.al_core.specs.declared.choices.Red.{Red}
 use Rattle.al_core.specs.declared.values.Val.{Val}
 use Rattle.al_core.specs.declared.reports.Ending.{Ending}
+use Rattle.al_core.specs.declared.reports.Judged.{Judged}
 use Rattle.al_core.specs.Orders.{obj_cmp, addr_cmp}
 use Rattle.al_core.specs.Memory.{Memory}
 use Rattle.al_core.specs.Access.{Allocator, Outer, InIteration, Allocations, AccessRecord, Content}
 use Rattle.al_core.specs.Iteration.{Finished}
 use Rattle.al_core.specs.Chunk.{Outcome}
+use Rattle.al_core.specs.Round.{Judging}
+use Rattle.al_core.specs.Lockstep.{Rounds}
 
 abbrev pub words_code : Coded (List Val)
 words_code = coded_list val.the_row.coded
@@ -78,4 +82,20 @@ outcome_code =
     (coded× addresses_code (coded× addresses_code (coded× (map.code addr.the_row.coded val.the_row.coded) (coded× objects_code (coded× (coded_list coded_ℤ) (coded× (coded_list coded_ℕ) (coded× ending.the_row.coded coded_ℕ)))))))
     (λ o. (o.reads, (o.touched, (o.writes, (o.made, (o.accumulators, (o.printed, (o.ending, o.steps))))))))
     (λ p. record { reads = p.0; touched = p.1.0; writes = p.1.1.0; made = p.1.1.1.0; accumulators = p.1.1.1.1.0; printed = p.1.1.1.1.1.0; ending = p.1.1.1.1.1.1.0; steps = p.1.1.1.1.1.1.1 })
+    (λ _. refl)
+
+abbrev pub judging_code : Coded Judging
+judging_code =
+    code_by (Memory × (FinSet addr_cmp × (Bool × (Bool × (List Judged × (List ℕ × (Ending × ℕ)))))))
+    (coded× memory_code (coded× addresses_code (coded× coded_bool (coded× coded_bool (coded× (coded_list judged.the_row.coded) (coded× (coded_list coded_ℕ) (coded× ending.the_row.coded coded_ℕ)))))))
+    (λ j. (j.memory, (j.written, (j.failed, (j.trapped, (j.verdicts, (j.printed, (j.ending, j.longest))))))))
+    (λ p. record { memory = p.0; written = p.1.0; failed = p.1.1.0; trapped = p.1.1.1.0; verdicts = p.1.1.1.1.0; printed = p.1.1.1.1.1.0; ending = p.1.1.1.1.1.1.0; longest = p.1.1.1.1.1.1.1 })
+    (λ _. refl)
+
+abbrev pub rounds_code : Coded Rounds
+rounds_code =
+    code_by (Memory × (List ℕ × (Ending × (List (List Judged) × ℕ))))
+    (coded× memory_code (coded× (coded_list coded_ℕ) (coded× ending.the_row.coded (coded× (coded_list (coded_list judged.the_row.coded)) coded_ℕ))))
+    (λ r. (r.memory, (r.printed, (r.ending, (r.rounds, r.span)))))
+    (λ p. record { memory = p.0; printed = p.1.0; ending = p.1.1.0; rounds = p.1.1.1.0; span = p.1.1.1.1 })
     (λ _. refl)

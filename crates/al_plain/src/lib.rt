@@ -3,12 +3,15 @@
 
 pub mod accesses;
 pub mod addresses;
+pub mod commits;
 pub mod content;
 pub mod grounds;
 pub mod iterations;
+pub mod judging;
 pub mod loops;
 pub mod memory;
 pub mod names;
 pub mod objects;
 pub mod outcomes;
+pub mod rounds;
 pub mod words;
