@@ -1,10 +1,16 @@
--- Iterations one after another.
-use Rattle.std.proofs.Common.{◌≡◌, ℕ, zero, suc, ◌+◌, ◌-◌, refl, sym, ap, ◌∙◌, arith, add_assoc, zero-add}
+-- Iterations and rounds one after another.
+use Rattle.std.proofs.Common.{◌≡◌, ℕ, zero, suc, ◌+◌, ◌-◌, List, [], ◌∷◌, ◌++◌, append_assoc, Option, Some, None, Bool, true, false, refl, sym, ap, ◌∙◌, arith, add_assoc, zero-add}
+use Rattle.std.specs.Prelude.{if◌then◌else◌}
+use Rattle.al_core.specs.declared.choices.Choice.{Choice}
 use Rattle.al_core.specs.declared.reports.Ending.{Ending}
 use Rattle.al_core.specs.declared.reports.Ending.TheVariants as ending
 use Rattle.al_core.specs.declared.values.Trap.{Trap}
 use Rattle.al_core.specs.Access.{Content}
 use Rattle.al_core.specs.Iteration.{Execution, Finished, iteration, iterations, then_runs, add_steps}
+use Rattle.al_laws.proofs.Words.{some_none, same_some}
+use Rattle.al_plain.specs.Pending.{left_after}
+use Rattle.al_core.specs.Round.{Judging}
+use Rattle.al_core.specs.Lockstep.{Rounds, with_round, next_round, still_pending, rounds_from, up_from}
 
 pub none_added : (r : Finished) → add_steps 0 r ≡ r
 none_added r = λ t. record r { steps = zero-add r.steps t }
@@ -31,3 +37,35 @@ stops x k l j n c r t line ek er et =
 -- none is left
 pub ends : (x : Execution) (k j n : ℕ) (c : Content) → k ≡ 0 → add_steps n (iterations x k j c) ≡ record { ending = ending.Done; steps = n; content = c }
 ends x k j n c e = ap (λ k. add_steps n (iterations x k j c)) e ∙ (let z : n + 0 ≡ n = omega arith in λ t. record { ending = ending.Done; steps = z t; content = c })
+
+-- ---- chunks and rounds
+
+pub chunk_next : (all : List ℕ) (k l c d : ℕ) → k ≡ suc l → d ≡ suc c → all ++ up_from k c ≡ (all ++ c ∷ []) ++ up_from l d
+chunk_next all k l c d ek ed =
+    ap (λ k. all ++ up_from k c) ek ∙ sym (append_assoc all (c ∷ []) (up_from l (suc c))) ∙ ap (λ d. (all ++ c ∷ []) ++ up_from l d) (sym ed)
+
+module _ (x : Execution) (choice : Choice) (lanes : ℕ) (so_far : Rounds) where
+  abbrev the_round : List ℕ → Judging
+  the_round pending = next_round x choice lanes pending so_far
+
+  abbrev after_round : ℕ → List ℕ → Rounds → Bool → Rounds
+  after_round l pending new trapped = if trapped then new else rounds_from l x choice lanes (still_pending lanes pending (the_round pending)) new
+
+  round_goes : (k l : ℕ) (pending : List ℕ) (new : Rounds) → k ≡ suc l → ¬ (pending ≡ []) → new ≡ with_round (the_round pending) so_far → rounds_from k x choice lanes pending so_far ≡ after_round l pending new (the_round pending).trapped
+  round_goes k l [] new ek some en = absurd (some refl)
+  round_goes k l (c ∷ cs) new ek some en = ap (λ k. rounds_from k x choice lanes (c ∷ cs) so_far) ek ∙ ap (λ new. after_round l (c ∷ cs) new (the_round (c ∷ cs)).trapped) (sym en)
+
+  by_trap : (b : Bool) (l : ℕ) (pending left : List ℕ) (new : Rounds) → Some left ≡ (if b then None else Some (still_pending lanes pending (the_round pending))) → after_round l pending new b ≡ rounds_from l x choice lanes left new
+  by_trap true l pending left new e = absurd (some_none left e)
+  by_trap false l pending left new e = ap (λ left. rounds_from l x choice lanes left new) (sym (same_some left (still_pending lanes pending (the_round pending)) e))
+
+  by_no_trap : (b : Bool) (l : ℕ) (pending : List ℕ) (new : Rounds) → None ≡ (if b then None else Some (still_pending lanes pending (the_round pending))) → after_round l pending new b ≡ new
+  by_no_trap true l pending new e = refl
+  by_no_trap false l pending new e = absurd (some_none (still_pending lanes pending (the_round pending)) (sym e))
+
+  pub round_next : (k l : ℕ) (pending left : List ℕ) (new : Rounds) → k ≡ suc l → ¬ (pending ≡ []) → Some left ≡ left_after lanes pending (the_round pending) → new ≡ with_round (the_round pending) so_far
+      → rounds_from k x choice lanes pending so_far ≡ rounds_from l x choice lanes left new
+  round_next k l pending left new ek some el en = round_goes k l pending new ek some en ∙ by_trap (the_round pending).trapped l pending left new el
+
+  pub round_last : (k l : ℕ) (pending : List ℕ) (new : Rounds) → k ≡ suc l → ¬ (pending ≡ []) → None ≡ left_after lanes pending (the_round pending) → new ≡ with_round (the_round pending) so_far → rounds_from k x choice lanes pending so_far ≡ new
+  round_last k l pending new ek some el en = round_goes k l pending new ek some en ∙ by_no_trap (the_round pending).trapped l pending new el

@@ -3,3 +3,4 @@ pub mod Makers
 pub mod Found
 pub mod Executions
 pub mod Outcomes
+pub mod Pending

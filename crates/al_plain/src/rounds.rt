@@ -2,6 +2,7 @@ ghost use Rattle.std.specs.Prelude.{◌≡◌, ◌+◌, ◌^◌, ◌<◌, ◌≤
 ghost use Rattle.al_core.specs.declared.reports.Ending.TheVariants as ending;
 ghost use Rattle.al_core.specs.Chunk.{chunk_count};
 ghost use Rattle.al_core.specs.Lockstep as spec;
+ghost use Rattle.al_plain.specs.Pending.{left_after};
 ghost use Rattle.al_plain.specs.Executions.{execution_of, IsBounded};
 
 use crate::iterations::Execution;
@@ -94,6 +95,22 @@ fn still_pending(
     Ok(left)
 }
 
+/// What is pending after a round, and nothing where a trap was committed.
+fn left_after(
+    alloc: Global,
+    lanes: usize,
+    pending: &[u64],
+    r: &Judging,
+) -> Result<Option<Items<u64>>, AllocError>
+    ensures { IfOk result (λ left. left ≡ left_after lanes pending.now r.now) }
+{
+    if r.trapped {
+        Ok(None)
+    } else {
+        Ok(Some(still_pending(alloc, lanes, pending, r)?))
+    }
+}
+
 /// All chunks, in ascending order.
 fn all_chunks(alloc: Global, count: u64) -> Result<Items<u64>, AllocError>
     ensures { IfOk result (λ all. all ≡ spec.up_from count 0) }
@@ -152,6 +169,40 @@ impl Rounds {
         self.span += longest;
         Ok(())
     }
+
+    /// One round of the first pending chunks.
+    fn next(
+        &self,
+        alloc: Global,
+        x: &Execution<'_>,
+        choice: &Choice,
+        pending: &[u64],
+    ) -> Result<Judging, AllocError>
+        requires { IsBounded x.now }
+        ensures { IfOk result (λ r. r ≡ spec.next_round (execution_of x.now) choice.now x.now.on.knobs.lanes pending.now self.now) }
+    {
+        let lanes = first_of(pending, x.on.knobs.lanes as usize);
+        round(alloc, x, choice, lanes, &self.memory)
+    }
+
+    /// One more round. It answers what is pending after it, and nothing where a trap was committed.
+    fn go_on(
+        &mut self,
+        alloc: Global,
+        x: &Execution<'_>,
+        choice: &Choice,
+        pending: &[u64],
+    ) -> Result<Option<Items<u64>>, AllocError>
+        requires bounded { IsBounded x.now }
+        requires room { length self.old.rounds < 2 ^ 32 }
+        ensures left { IfOk result (λ left. left ≡ left_after x.now.on.knobs.lanes pending.now (spec.next_round (execution_of x.now) choice.now x.now.on.knobs.lanes pending.now self.old)) }
+        ensures rounds { OnOk result (self.new ≡ spec.with_round (spec.next_round (execution_of x.now) choice.now x.now.on.knobs.lanes pending.now self.old) self.old) }
+    {
+        let r = self.next(alloc, x, choice, pending)?;
+        let left = left_after(alloc, x.on.knobs.lanes as usize, pending, &r)?;
+        self.add(r)?;
+        Ok(left)
+    }
 }
 
 /// An execution in rounds, until no chunk is pending or a trap was committed.
@@ -166,7 +217,6 @@ pub fn lockstep(
     ensures { IfOk result (λ r. r ≡ spec.lockstep (execution_of x.now) choice.now x.now.on.knobs.lanes memory) }
 {
     let count = chunks(x);
-    let lanes = x.on.knobs.lanes as usize;
     let mut pending = all_chunks(alloc, count)?;
     let mut so_far = Rounds::none(alloc, memory);
     for i in 0..count {
@@ -174,18 +224,9 @@ pub fn lockstep(
         if pending.is_empty() {
             return Ok(so_far);
         }
-        let r = round(
-            alloc,
-            x,
-            choice,
-            first_of(pending.as_slice(), lanes),
-            &so_far.memory,
-        )?;
-        pending = still_pending(alloc, lanes, pending.as_slice(), &r)?;
-        let trapped = r.trapped;
-        so_far.add(r)?;
-        if trapped {
-            return Ok(so_far);
+        match so_far.go_on(alloc, x, choice, pending.as_slice())? {
+            Some(left) => pending = left,
+            None => return Ok(so_far),
         }
     }
     Ok(so_far)
