@@ -8,3 +8,4 @@ pub mod LoopNodes
 pub mod InTurn
 pub mod ChunkRuns
 pub mod Committed
+pub mod Counted

@@ -11,10 +11,12 @@ use Rattle.al_core.specs.contracts.values.Addr as addr
 use Rattle.al_core.specs.contracts.choices.Red as red
 use Rattle.al_core.specs.contracts.reports.Ending as ending
 use Rattle.al_core.specs.contracts.reports.Judged as judged
+use Rattle.al_core.specs.contracts.reports.Event as event
 use Rattle.al_core.specs.declared.choices.Red.{Red}
 use Rattle.al_core.specs.declared.values.Val.{Val}
 use Rattle.al_core.specs.declared.reports.Ending.{Ending}
 use Rattle.al_core.specs.declared.reports.Judged.{Judged}
+use Rattle.al_core.specs.declared.reports.Event.{Event}
 use Rattle.al_core.specs.Orders.{obj_cmp, addr_cmp}
 use Rattle.al_core.specs.Memory.{Memory}
 use Rattle.al_core.specs.Access.{Allocator, Outer, InIteration, Allocations, AccessRecord, Content}
@@ -22,6 +24,7 @@ use Rattle.al_core.specs.Iteration.{Finished}
 use Rattle.al_core.specs.Chunk.{Outcome}
 use Rattle.al_core.specs.Round.{Judging}
 use Rattle.al_core.specs.Lockstep.{Rounds}
+use Rattle.al_core.specs.Run.{Counts, Whole}
 
 abbrev pub words_code : Coded (List Val)
 words_code = coded_list val.the_row.coded
@@ -99,3 +102,14 @@ rounds_code =
     (λ r. (r.memory, (r.printed, (r.ending, (r.rounds, r.span)))))
     (λ p. record { memory = p.0; printed = p.1.0; ending = p.1.1.0; rounds = p.1.1.1.0; span = p.1.1.1.1 })
     (λ _. refl)
+
+abbrev pub counts_code : Coded Counts
+counts_code =
+    code_by (ℕ × (ℕ × (ℕ × (ℕ × (ℕ × List Event)))))
+    (coded× coded_ℕ (coded× coded_ℕ (coded× coded_ℕ (coded× coded_ℕ (coded× coded_ℕ (coded_list event.the_row.coded))))))
+    (λ n. (n.loops, (n.rounds, (n.attempts, (n.aborted, (n.span, n.events))))))
+    (λ p. record { loops = p.0; rounds = p.1.0; attempts = p.1.1.0; aborted = p.1.1.1.0; span = p.1.1.1.1.0; events = p.1.1.1.1.1 })
+    (λ _. refl)
+
+abbrev pub whole_code : Coded Whole
+whole_code = code_by (Content × (ℕ × Counts)) (coded× content_code (coded× coded_ℕ counts_code)) (λ w. (w.content, (w.executions, w.counts))) (λ p. record { content = p.0; executions = p.1.0; counts = p.1.1 }) (λ _. refl)

@@ -4,3 +4,4 @@ pub mod Found
 pub mod Executions
 pub mod Outcomes
 pub mod Pending
+pub mod Counting

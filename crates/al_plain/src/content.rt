@@ -1,12 +1,15 @@
-ghost use Rattle.std.specs.Prelude.{◌≡◌, [], replicate, Some, None, pos, IfOk, OnOk};
+ghost use Rattle.std.specs.Prelude.{◌≡◌, [], ◌++◌, replicate, Some, None, pos, IfOk, OnOk};
 ghost use Rattle.al_core.specs.declared.values.Val.TheVariants as value;
 ghost use Rattle.al_core.specs.Access as spec;
 ghost use Rattle.al_core.specs.Access.{load as load_of, store as store_of, make as make_of, print as print_of};
 ghost use Rattle.al_core.specs.Views.{Gives};
+ghost use Rattle.al_core.specs.Run.{at_loop};
+ghost use Rattle.std.specs.FinMap as map;
 ghost use Rattle.al_plain.specs.Makers.{allocator_of};
 
 use crate::accesses::Accesses;
 use crate::memory::{Memory, read_as};
+use crate::objects::Objects;
 use al_core::{Addr, Kind, Obj, Trap, Val, View, ViewFault};
 use sqlite_items::Items;
 use std::alloc::{AllocError, Global};
@@ -134,6 +137,32 @@ impl Content {
         ensures { result ≡ (self.memory, self.printed, self.accesses) }
     {
         (self.memory, self.printed, self.accesses)
+    }
+
+    /// The memory for an annotated loop, whose iterations share these locals. It is given back by `take_back`.
+    pub fn lend(&mut self, locals: Items<Val>) -> Memory
+        ensures memory { result ≡ at_loop self.old locals }
+        ensures rest { self.new ≡ spec.with_memory self.old (record { objects = map.empty; locals = [] }) }
+    {
+        let none = Memory::new(Objects::new(self.alloc), Items::new(self.alloc));
+        let mut memory = std::mem::replace(&mut self.memory, none);
+        memory.set_locals(locals);
+        memory
+    }
+
+    /// Takes the memory back, with what the loop printed, and answers the locals.
+    pub fn take_back(
+        &mut self,
+        memory: Memory,
+        printed: Items<u8>,
+    ) -> Result<Items<Val>, AllocError>
+        ensures locals { IfOk result (λ locals. locals ≡ memory.locals) }
+        ensures rest { OnOk result (self.new ≡ record self.old { memory = record { objects = memory.objects; locals = [] }; printed = self.old.printed ++ printed }) }
+    {
+        self.memory = memory;
+        self.printed.append(printed)?;
+        let none = Items::new(self.alloc);
+        Ok(self.memory.set_locals(none))
     }
 
     /// Records an object that is made, where there is a record.

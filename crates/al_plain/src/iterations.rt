@@ -1,10 +1,12 @@
 ghost use Rattle.std.specs.Prelude.{◌≡◌, ◌+◌, ◌-◌, ◌^◌, ◌<◌, ◌≤◌, pos, ◌+ℤ◌, FitsSigned, IfOk};
 ghost use Rattle.std.specs.Int.{w64};
 ghost use Rattle.al_core.specs.Iteration as spec;
+ghost use Rattle.al_core.specs.Serial.{plain_loop};
 ghost use Rattle.al_plain.specs.Executions.{execution_of, IsBounded};
 
 use crate::content::{Content, Maker, zeros};
 use crate::loops::Loop;
+use crate::memory::Memory;
 use al_core::{Budget, Ending};
 use al_interpreter::frame::{Frame, Own};
 use al_interpreter::machine::Machine;
@@ -147,4 +149,22 @@ pub fn iterations(
         steps,
         content,
     })
+}
+
+/// An execution on one memory: its iterations in order, up to the first trap.
+#[tactic(auto, unfolding(al_core::specs::Serial::plain_loop))]
+pub fn plain_loop(
+    alloc: Global,
+    x: &Execution<'_>,
+    memory: Memory,
+) -> Result<Finished, AllocError>
+    requires { IsBounded x.now }
+    ensures { IfOk result (λ r. r ≡ plain_loop (execution_of x.now) memory) }
+{
+    let maker = Maker::Iteration {
+        execution: x.number,
+        iteration: 0,
+    };
+    let content = Content::direct(alloc, memory, maker);
+    iterations(alloc, x, x.trips, 0, content)
 }

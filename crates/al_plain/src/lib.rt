@@ -5,6 +5,7 @@ pub mod accesses;
 pub mod addresses;
 pub mod commits;
 pub mod content;
+pub mod counts;
 pub mod grounds;
 pub mod iterations;
 pub mod judging;

@@ -46,6 +46,14 @@ impl Memory {
         Memory { objects, locals }
     }
 
+    /// Sets the shared locals, and answers those before.
+    pub fn set_locals(&mut self, locals: Items<Val>) -> Items<Val>
+        ensures before { result ≡ self.old.locals }
+        ensures after { self.new ≡ record self.old { locals = locals } }
+    {
+        std::mem::replace(&mut self.locals, locals)
+    }
+
     pub fn has_object(&self, o: Obj) -> bool
         ensures { result ≡ spec.has_object self.now o }
     {
