@@ -9,3 +9,4 @@ pub mod InTurn
 pub mod ChunkRuns
 pub mod Committed
 pub mod Counted
+pub mod Trips

@@ -5,3 +5,4 @@ pub mod Executions
 pub mod Outcomes
 pub mod Pending
 pub mod Counting
+pub mod Results

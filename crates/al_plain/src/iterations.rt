@@ -12,6 +12,7 @@ use al_interpreter::frame::{Frame, Own};
 use al_interpreter::machine::Machine;
 use al_interpreter::whole_calls::iterate;
 use al_interpreter::{Fault, Setting};
+use sqlite_items::Items;
 use std::alloc::{AllocError, Global};
 use std::marker::Model;
 
@@ -42,6 +43,16 @@ impl Model for Finished {
     ghost coded = { finished_code };
 
     ghost view = { λ f. record { ending = f.ending; steps = f.steps; content = f.content } };
+}
+
+impl Finished {
+    /// The memory that it left, and what was printed.
+    pub fn into_memory(self) -> (Memory, Items<u8>)
+        ensures { result ≡ (self.content.memory, self.content.printed) }
+    {
+        let (memory, printed, _) = self.content.into_parts();
+        (memory, printed)
+    }
 }
 
 fn finish(ending: Ending, budget: u64, m: Machine<Content>) -> Finished

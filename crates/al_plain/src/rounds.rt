@@ -148,6 +148,13 @@ impl Rounds {
         }
     }
 
+    /// The memory that they left, and what was printed.
+    pub fn into_memory(self) -> (Memory, Items<u8>)
+        ensures { result ≡ (self.memory, self.printed) }
+    {
+        (self.memory, self.printed)
+    }
+
     fn add(&mut self, r: Judging) -> Result<(), AllocError>
         requires { length self.old.rounds < 2 ^ 32 }
         ensures { OnOk result (self.new ≡ spec.with_round r self.old) }
