@@ -6,3 +6,4 @@ pub mod Outcomes
 pub mod Pending
 pub mod Counting
 pub mod Results
+pub mod Bounded

@@ -16,5 +16,6 @@ pub mod names;
 pub mod objects;
 pub mod outcomes;
 pub mod rounds;
+pub mod runs;
 pub mod whole;
 pub mod words;
