@@ -10,3 +10,4 @@ pub mod ChunkRuns
 pub mod Committed
 pub mod Counted
 pub mod Trips
+pub mod RoundsFitted

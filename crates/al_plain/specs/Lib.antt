@@ -7,3 +7,4 @@ pub mod Pending
 pub mod Counting
 pub mod Results
 pub mod Bounded
+pub mod Told
