@@ -5,6 +5,7 @@ use Rattle.al_core.specs.declared.choices.Choice.{Choice}
 use Rattle.al_core.specs.declared.reports.Event.{Event}
 use Rattle.al_core.specs.declared.reports.Event.TheVariants as event
 use Rattle.al_core.specs.declared.reports.Judged.{Judged}
+use Rattle.al_core.specs.declared.reports.Report.{Report}
 use Rattle.al_core.specs.declared.values.Val.{Val}
 use Rattle.al_core.specs.declared.values.Trap.{Trap}
 use Rattle.al_core.specs.Values.{trips}
@@ -14,7 +15,7 @@ use Rattle.al_core.specs.Meaning.{Outside}
 use Rattle.al_core.specs.Iteration.{Execution}
 use Rattle.al_core.specs.Lockstep.{lockstep}
 use Rattle.al_core.specs.Run.{Mode, Plainly, InRounds, InChunks, Setting, Counts, Whole, by_mode, execution, at_loop, if_trips, visit_loop, outside, line_of, start, whole_run}
-use Rattle.al_core.specs.Report.{rounds_until}
+use Rattle.al_core.specs.Report.{rounds_until, watched}
 use Rattle.al_laws.proofs.Abstraction.{of_call}
 use Rattle.al_laws.proofs.Commits.{rounds_at_most_chunks}
 use Rattle.al_laws.proofs.Keeps.{Keeps, KeepsWorld, keeps_closed}
@@ -74,3 +75,7 @@ module _ (g : Setting) where
   pub run_fits : RoundsFit (whole_run g).1.world.counts.events
   unfolding whole_run
   run_fits = (of_call (outside g) (outside g) (λ A. Keeps Holds {A = A}) (keeps_closed Holds (outside g) world_fits) Outside g.typed.funcs g.input 256 g.typed.main [] (line_of (slice_get g.typed.funcs g.typed.main))).by (start g) tt
+
+pub watched_fit : (watch : Bool) (r : Report) → RoundsFit r.events → RoundsFit (watched watch r).events
+watched_fit true r f = f
+watched_fit false r f = tt
