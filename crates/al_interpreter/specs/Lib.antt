@@ -4,3 +4,4 @@ pub mod Calls
 pub mod Kinds
 pub mod Turns
 pub mod Stages
+pub mod Wholes

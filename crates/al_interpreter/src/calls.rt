@@ -2,6 +2,7 @@ ghost use Rattle.std.specs.Prelude.{◌≡◌, ◌++◌, ◌-◌, IfOk, length, 
 ghost use Rattle.std.specs.Option.{option_copied};
 ghost use Rattle.al_core.specs.declared.values.Val.TheVariants as value;
 ghost use Rattle.al_core.specs.Meaning as meaning;
+ghost use Rattle.al_core.specs.Run as run;
 ghost use Rattle.al_interpreter.specs.Kinds.{flow_of};
 
 use crate::flow::Flow;
@@ -38,6 +39,16 @@ pub fn body_of(f: Option<&TFunc>) -> &[TStmt]
     match f {
         Some(f) => f.body.as_slice(),
         None => &[],
+    }
+}
+
+/// The line of a function's definition.
+pub fn line_of(f: Option<&TFunc>) -> u32
+    ensures { result ≡ run.line_of (option_copied f.entry) }
+{
+    match f {
+        Some(f) => f.line,
+        None => 0,
     }
 }
 

@@ -14,6 +14,7 @@ pub mod setting;
 pub mod stage;
 pub mod statements;
 pub mod walker;
+pub mod whole_calls;
 
 pub use fault::Fault;
 pub use setting::Setting;

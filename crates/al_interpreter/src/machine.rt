@@ -38,6 +38,32 @@ fn at_line<T>(line: u32, r: Result<T, ViewFault>) -> Result<T, Fault>
     }
 }
 
+impl<G> Machine<G> {
+    pub fn new(frame: Frame, budget: Budget, ground: G) -> Machine<G>
+        ensures { result ≡ record { frame = frame; budget = budget; world = ground } }
+    {
+        Machine {
+            frame,
+            budget,
+            ground,
+        }
+    }
+
+    /// The steps that are left.
+    pub fn left(&self) -> u64
+        ensures { result ≡ self.now.budget }
+    {
+        self.budget.left()
+    }
+
+    /// What the code ran on, at its end.
+    pub fn into_ground(self) -> G
+        ensures { result ≡ self.world }
+    {
+        self.ground
+    }
+}
+
 impl<G: Ground> Machine<G> {
     /// Takes a step.
     #[tactic(auto, unfolding(al_core::specs::Action::spend))]
@@ -147,13 +173,6 @@ impl<G: Ground> Machine<G> {
     {
         self.frame = old;
         v
-    }
-
-    /// The steps that are left.
-    pub fn left(&self) -> u64
-        ensures { result ≡ self.now.budget }
-    {
-        self.budget.left()
     }
 
     /// Hands an annotated loop on, with the frame's locals.

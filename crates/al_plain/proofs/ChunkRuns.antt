@@ -1,5 +1,5 @@
 -- What comes of a chunk's run.
-use Rattle.std.proofs.Common.{◌≡◌, ℕ, zero, suc, ◌<◌, List, [], Option, Some, None, true, false, refl, sym, ap, ◌∙◌, arith}
+use Rattle.std.proofs.Common.{◌≡◌, ℕ, zero, suc, ◌<◌, List, [], Option, Some, None, refl, sym, ap, ◌∙◌, arith}
 use Rattle.std.specs.Prelude.{if◌then◌else◌}
 use Rattle.std.specs.FinMap as map
 use Rattle.std.specs.FinSet as set
@@ -8,7 +8,7 @@ use Rattle.al_core.specs.Orders.{obj_cmp, addr_cmp}
 use Rattle.al_core.specs.Memory.{Memory, value_at, words_or_none}
 use Rattle.al_core.specs.Access.{AccessRecord, Content, InIteration}
 use Rattle.al_core.specs.Iteration.{Execution, Finished, iterations}
-use Rattle.al_core.specs.Chunk.{Outcome, chunk_trips, chunk_start, chunk_from, chunk_runs, fresh_accesses, outcome_of, outcome, writes_of, made_objects}
+use Rattle.al_core.specs.Chunk.{Outcome, chunk_trips, chunk_start, chunk_from, fresh_accesses, outcome_of, outcome, writes_of, made_objects}
 use Rattle.al_laws.proofs.Orders.{obj_total, obj_apart, addr_total, addr_apart}
 use Rattle.al_laws.proofs.Overlay.{get_written, get_made_objects}
 use Rattle.al_plain.specs.Outcomes.{or_fresh, outcome_from}

@@ -1,5 +1,5 @@
 -- The entries of what an outcome wrote and made, by the lists of addresses and objects.
-use Rattle.std.proofs.Common.{◌≡◌, ℕ, List, [], ◌∷◌, length, arith, Option, Some, None, Bool, true, false, cond, ◌||◌, T, refl, sym, ap, ◌∙◌, subst}
+use Rattle.std.proofs.Common.{◌≡◌, List, [], ◌∷◌, length, arith, Option, Some, None, true, false, cond, ◌||◌, T, refl, sym, ap, ◌∙◌, subst}
 use Rattle.std.specs.Prelude.{if◌then◌else◌, map, filter_map}
 use Rattle.std.specs.List.{list_any, cons_option, AllByRecursion}
 use Rattle.std.specs.List.Sorted.{IsStrictlySortedBy}

@@ -1,7 +1,6 @@
 -- Rounds that are counted one after another.
-use Rattle.std.proofs.Common.{◌≡◌, ℕ, ◌+◌, List, [], ◌∷◌, ◌++◌, length, refl, sym, ap, ◌∙◌, arith, append_assoc}
+use Rattle.std.proofs.Common.{◌≡◌, ◌+◌, List, [], ◌∷◌, ◌++◌, length, refl, ap, ◌∙◌, arith, append_assoc}
 use Rattle.std.specs.Prelude.{map}
-use Rattle.al_core.specs.declared.reports.Event.{Event}
 use Rattle.al_core.specs.declared.reports.Event.TheVariants as event
 use Rattle.al_core.specs.declared.reports.Judged.{Judged}
 use Rattle.al_core.specs.Iteration.{Execution}

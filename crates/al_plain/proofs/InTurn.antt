@@ -1,8 +1,7 @@
 -- Iterations and rounds one after another.
-use Rattle.std.proofs.Common.{◌≡◌, ℕ, zero, suc, ◌+◌, ◌-◌, List, [], ◌∷◌, ◌++◌, append_assoc, Option, Some, None, Bool, true, false, refl, sym, ap, ◌∙◌, arith, add_assoc, zero-add}
+use Rattle.std.proofs.Common.{◌≡◌, ℕ, suc, ◌+◌, List, [], ◌∷◌, ◌++◌, append_assoc, Some, None, Bool, true, false, refl, sym, ap, ◌∙◌, arith, add_assoc, zero-add}
 use Rattle.std.specs.Prelude.{if◌then◌else◌}
 use Rattle.al_core.specs.declared.choices.Choice.{Choice}
-use Rattle.al_core.specs.declared.reports.Ending.{Ending}
 use Rattle.al_core.specs.declared.reports.Ending.TheVariants as ending
 use Rattle.al_core.specs.declared.values.Trap.{Trap}
 use Rattle.al_core.specs.Access.{Content}

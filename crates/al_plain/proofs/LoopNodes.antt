@@ -1,18 +1,15 @@
 -- The annotated loops in each kind of statement.
-use Rattle.std.proofs.Common.{◌≡◌, ℕ, List, [], ◌∷◌, ◌++◌, Option, Some, None, Bool, true, false, refl, sym, ap, subst, ◌∙◌}
+use Rattle.std.proofs.Common.{◌≡◌, ℕ, List, [], ◌∷◌, ◌++◌, Option, Some, None, true, false, refl, sym, ap, ◌∙◌}
 use Rattle.std.specs.Prelude.{option_map, if◌then◌else◌, ◌==◌, map}
 use Rattle.std.specs.Option.{option_or}
-use Rattle.al_core.specs.declared.typed_tree.TExpr.{TExpr}
-use Rattle.al_core.specs.declared.typed_tree.TPlace.{TPlace}
 use Rattle.al_core.specs.declared.typed_tree.TStmt.{TStmt, out-TStmt, map-TStmt, fold_out-TStmt, fold-roll-TStmt}
 use Rattle.al_core.specs.declared.typed_tree.TKind.{TKind, out-TKind, map-TKind, fold-TKind, fold-roll-TKind, fold_out-TKind}
 use Rattle.al_core.specs.declared.typed_tree.TKind.TheViews.{roll-TStmt, roll-TKind}
-use Rattle.al_core.specs.declared.typed_tree.TKind.TheVariants as k
 use Rattle.al_core.specs.declared.typed_tree.TKind.TheOpen.{TStmt-F, TKind-F}
-use Rattle.al_core.specs.Loops.{NotedLoop, Seen, SeenKind, see_kind, see_stmt, seen, loops_here, sets_here, all_loops, any_loops, any_sets, found, loops_in, with_number}
+use Rattle.al_core.specs.Loops.{NotedLoop, Seen, SeenKind, see_kind, see_stmt, seen, loops_here, sets_here, all_loops, found, loops_in, with_number}
 use Rattle.al_laws.proofs.Induction.{With, stmt_induct}
 use Rattle.al_interpreter.specs.Kinds.{set_in, set_by}
-use Rattle.al_plain.specs.Found.{kind_loops, any_stmt_loops, counter_in}
+use Rattle.al_plain.specs.Found.{kind_loops}
 
 unfoldable seen_kind : TKind → SeenKind
 seen_kind = fold-TKind SeenKind Seen see_kind see_stmt

@@ -1,7 +1,6 @@
 -- No execution of a run has more rounds than chunks.
 use Rattle.std.proofs.Common.{◌≡◌, ℕ, ◌≤◌, List, [], ◌∷◌, ◌++◌, length, Option, Some, None, Result, Ok, Err, Bool, true, false, refl, sym, ap, subst}
 use Rattle.std.specs.Prelude.{ℤ, map, slice_get}
-use Rattle.al_core.specs.declared.choices.Choice.{Choice}
 use Rattle.al_core.specs.declared.reports.Event.{Event}
 use Rattle.al_core.specs.declared.reports.Event.TheVariants as event
 use Rattle.al_core.specs.declared.reports.Judged.{Judged}

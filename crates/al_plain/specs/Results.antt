@@ -1,6 +1,5 @@
 -- What an execution has come to, as the code has it.
-use Rattle.std.specs.Prelude.{◌≡◌, ⊤, List, Result, Ok, Err}
-use Rattle.al_core.specs.declared.values.Val.{Val}
+use Rattle.std.specs.Prelude.{◌≡◌, ⊤, Result, Ok, Err}
 use Rattle.al_core.specs.Action.{Answer}
 use Rattle.al_core.specs.Run.{Counts, LoopResult}
 use Rattle.al_interpreter.specs.declared.fault.Fault.{Fault}

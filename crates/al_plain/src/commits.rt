@@ -30,12 +30,7 @@ fn lay(
 }
 
 /// Adds the objects that were made.
-fn add_made(
-    alloc: Global,
-    made: &Names,
-    from: &Memory,
-    onto: &mut Memory,
-) -> Result<(), AllocError>
+fn add_made(alloc: Global, made: &Names, from: &Memory, onto: &mut Memory) -> Result<(), AllocError>
     ensures { OnOk result (onto.new ≡ spec.added (map.entries (chunk.made_objects from.now made.now)) onto.old) }
 {
     for o in made.items(alloc)?.as_slice() {
@@ -81,12 +76,7 @@ fn reduce(reds: &[Red], accumulators: &[Val], onto: &mut Memory) -> Result<(), A
 impl Outcome {
     /// Lays it over a memory.
     #[tactic(auto, unfolding(al_core::specs::Applied::applied))]
-    pub fn apply(
-        &self,
-        alloc: Global,
-        reds: &[Red],
-        onto: &mut Memory,
-    ) -> Result<(), AllocError>
+    pub fn apply(&self, alloc: Global, reds: &[Red], onto: &mut Memory) -> Result<(), AllocError>
         ensures { OnOk result (onto.new ≡ spec.applied reds.now onto.old self.now) }
     {
         lay(alloc, &self.accesses.touched, &self.memory, onto)?;

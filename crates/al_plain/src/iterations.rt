@@ -164,11 +164,7 @@ pub fn iterations(
 
 /// An execution on one memory: its iterations in order, up to the first trap.
 #[tactic(auto, unfolding(al_core::specs::Serial::plain_loop))]
-pub fn plain_loop(
-    alloc: Global,
-    x: &Execution<'_>,
-    memory: Memory,
-) -> Result<Finished, AllocError>
+pub fn plain_loop(alloc: Global, x: &Execution<'_>, memory: Memory) -> Result<Finished, AllocError>
     requires { IsBounded x.now }
     ensures { IfOk result (λ r. r ≡ plain_loop (execution_of x.now) memory) }
 {

@@ -56,11 +56,7 @@ fn start(alloc: Global, on: &Setting<'_>) -> Result<Machine<Whole>, AllocError>
         counts: Counts::none(alloc),
     };
     let frame = Frame::new(Items::new(alloc), Own::All);
-    Ok(Machine::new(
-        frame,
-        Budget::new(on.knobs.serial_steps),
-        whole,
-    ))
+    Ok(Machine::new(frame, Budget::new(on.knobs.serial_steps), whole))
 }
 
 /// A whole run: how it ended, and the machine at its end.

@@ -1,4 +1,4 @@
-use Rattle.std.proofs.Common.{◌≡◌, ◌+◌, ◌-◌, suc, [], Some, None, sym, ap, arith, ◌∙◌, length-append, length, ◌∷◌}
+use Rattle.std.proofs.Common.{◌≡◌, ◌+◌, ◌-◌, suc, [], sym, ap, arith, ◌∙◌, length-append, length, ◌∷◌}
 use Rattle.std.proofs.Math.Bool.{true≢false}
 use Rattle.al_core.specs.Lockstep.{Rounds, next_round, with_round}
 use Rattle.al_plain.specs.Executions.{execution_of}

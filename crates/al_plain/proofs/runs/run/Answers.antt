@@ -1,4 +1,4 @@
-use Rattle.std.proofs.Common.{◌≡◌, ◌+◌, ◌-◌, ◌<◌, sym, subst, arith}
+use Rattle.std.proofs.Common.{◌+◌, ◌-◌, ◌<◌, sym, subst, arith}
 use Rattle.al_core.specs.Action.{State}
 use Rattle.al_core.specs.Run.{Whole, Setting, sizes_of}
 use Rattle.al_core.specs.Report.{by_choices, report}

@@ -1,5 +1,5 @@
 use Rattle.std.proofs.Common.{◌≡◌, IfOk, Some, [], subst, ap, ◌∙◌}
-use Rattle.al_core.specs.Access.{Content, InIteration}
+use Rattle.al_core.specs.Access.{InIteration}
 use Rattle.al_core.specs.Iteration.{Finished, iterations}
 use Rattle.al_core.specs.Chunk.{outcome, outcome_of}
 use Rattle.al_plain.specs.Executions.{execution_of}
