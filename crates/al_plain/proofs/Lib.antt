@@ -1,0 +1,13 @@
+pub mod DerivedOrders
+pub mod Kept
+pub mod AddressSets
+pub mod Replaced
+pub mod Indices
+pub mod Lists
+pub mod LoopNodes
+pub mod InTurn
+pub mod ChunkRuns
+pub mod Committed
+pub mod Counted
+pub mod Trips
+pub mod RoundsFitted

@@ -1,0 +1,12 @@
+use Rattle.std.proofs.Common.{ap, ◌∙◌}
+use Rattle.std.specs.FinSet as set
+use Rattle.al_core.specs.Orders.{addr_cmp}
+use Rattle.al_laws.proofs.Orders.{addr_total, addr_apart}
+use Rattle.al_plain.proofs.DerivedOrders.{addr_derived, addr_order}
+use Rattle.al_plain.proofs.Kept.{set_insert}
+use Rattle.al_plain.proofs.addresses.Addresses.insert.Goals as goal
+
+pub returns : goal.returns
+returns c =
+    set_insert addr_derived addr_cmp addr_order addr_total addr_apart c.self.inside.all c.insert.new.self c.args.a c.in_ok-insert.ensures.updates.0
+    ∙ ap (λ s. set.insert s c.args.a) c.self.view_is

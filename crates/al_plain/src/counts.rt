@@ -1,0 +1,115 @@
+ghost use Rattle.std.specs.Prelude.{◌≡◌, ◌+◌, [], IfOk, OnOk};
+ghost use Rattle.al_core.specs.Run as spec;
+ghost use Rattle.al_plain.specs.Counting.{entered, with_round, with_rounds};
+ghost use Rattle.al_plain.specs.Executions.{execution_of};
+
+use crate::iterations::Execution;
+use crate::rounds::{Rounds, chunks, not_committed};
+use al_core::{Event, Judged};
+use sqlite_items::Items;
+use std::alloc::{AllocError, Global};
+use std::marker::Model;
+
+/// The counts of a run, and what happened in it. Where a count would pass its type, that counts as want of memory; with
+/// the numbers of a run in range none does.
+#[derive(Drop)]
+pub struct Counts {
+    /// Executions of annotated loops that ran in rounds.
+    pub loops: u32,
+    pub rounds: u64,
+    /// Runs of chunks.
+    pub attempts: u64,
+    /// Verdicts `Fail` and `After`.
+    pub aborted: u64,
+    /// Steps of all iterations that ran outside rounds, and for each round those of its longest chunk.
+    pub span: u128,
+    pub events: Items<Event>,
+}
+
+impl Model for Counts {
+    ghost use Rattle.al_core.specs.Run.{Counts};
+    ghost use Rattle.al_plain.specs.Codes.{counts_code};
+
+    ghost Value = { Counts };
+
+    ghost coded = { counts_code };
+
+    ghost view = { λ n. record { loops = n.loops; rounds = n.rounds; attempts = n.attempts; aborted = n.aborted; span = n.span; events = n.events } };
+}
+
+fn sum(a: u64, b: usize) -> Result<u64, AllocError>
+    ensures { IfOk result (λ n. n ≡ a + b) }
+{
+    a.checked_add(b as u64).ok_or(AllocError)
+}
+
+impl Counts {
+    pub fn none(alloc: Global) -> Counts
+        ensures { result ≡ spec.no_counts }
+    {
+        Counts {
+            loops: 0,
+            rounds: 0,
+            attempts: 0,
+            aborted: 0,
+            span: 0,
+            events: Items::new(alloc),
+        }
+    }
+
+    /// An execution begins to run in rounds.
+    fn enter(&mut self, x: &Execution<'_>) -> Result<(), AllocError>
+        ensures { OnOk result (self.new ≡ entered (execution_of x.now) self.old) }
+    {
+        self.loops = self.loops.checked_add(1).ok_or(AllocError)?;
+        self.events.push(Event::Enter {
+            number: x.looped.number,
+            execution: x.number,
+            line: x.looped.note.line,
+            trips: x.trips,
+            chunks: chunks(x),
+        })
+    }
+
+    fn count_round(&mut self, alloc: Global, round: &Items<Judged>) -> Result<(), AllocError>
+        ensures { OnOk result (self.new ≡ with_round round.now self.old) }
+    {
+        let round = round.as_slice();
+        self.rounds = sum(self.rounds, 1)?;
+        self.attempts = sum(self.attempts, round.len())?;
+        self.aborted = sum(self.aborted, not_committed(alloc, round)?.len())?;
+        self.events
+            .push(Event::Round(Items::from_slice(alloc, round)?))
+    }
+
+    fn count_each(&mut self, alloc: Global, rounds: &[Items<Judged>]) -> Result<(), AllocError>
+        ensures { OnOk result (self.new ≡ with_rounds rounds.now self.old) }
+    {
+        for round in rounds {
+            self.count_round(alloc, round)?;
+        }
+        Ok(())
+    }
+
+    pub fn count_steps(&mut self, steps: u128) -> Result<(), AllocError>
+        ensures { OnOk result (self.new ≡ spec.count_steps steps self.old) }
+    {
+        self.span = self.span.checked_add(steps).ok_or(AllocError)?;
+        Ok(())
+    }
+
+    /// Counts an execution in rounds.
+    #[tactic(auto, using(crate::proofs::Counted::counted))]
+    pub fn count_rounds(
+        &mut self,
+        alloc: Global,
+        x: &Execution<'_>,
+        r: &Rounds,
+    ) -> Result<(), AllocError>
+        ensures { OnOk result (self.new ≡ spec.count_rounds (execution_of x.now) r.now self.old) }
+    {
+        self.enter(x)?;
+        self.count_each(alloc, r.rounds.as_slice())?;
+        self.count_steps(r.span)
+    }
+}
