@@ -46,8 +46,8 @@ module _ {S : Type 0} (world : World S) (here : Where) (input : List ℤ) (call 
   for_turns d first test third body number line is none =
       ap (λ d. does_kind world here input call d line) (is ∙ ap (k.For first test third body) none) ∙ does-For world here input call first test third body line
       ∙ ap (λ (q : Act S Flow). any_does world here input call first >>= then_flow q)
-        (all_turns line (test_value world here input call test line) (execute world here input call body) (any_does world here input call third)
-        ∙ ap (λ (o : Option LoopParts). loop_turns world here input call o line) (sym (loop_in_for d first test third body number is)))
+      (all_turns line (test_value world here input call test line) (execute world here input call body) (any_does world here input call third)
+      ∙ ap (λ (o : Option LoopParts). loop_turns world here input call o line) (sym (loop_in_for d first test third body number is)))
 
   pub for_fault : (d : TKind) (first : Option TStmt) (test : Option TExpr) (third : Option TStmt) (body : TStmt) (number : Option ℕ) (line : ℕ) (s t : State S) (e : Fault) → d ≡ k.For first test third body number → number ≡ None → Does {A = Flow} (any_does world here input call first s) (Err e) t → Does {A = Flow} (does_kind world here input call d line s) (Err e) t
   unfolding bind
