@@ -1,5 +1,5 @@
 -- Loops, as kinds of statements, as the code does them.
-use Rattle.std.proofs.Common.{◌≡◌, ℕ, Bool, List, Option, Some, None, Result, Ok, Err, refl, sym, ap, subst, ◌∙◌, rules}
+use Rattle.std.proofs.Common.{◌≡◌, ℕ, List, Option, Some, None, Result, Ok, Err, sym, ap, subst, ◌∙◌, rules}
 use Rattle.std.specs.Prelude.{ℤ}
 use Rattle.al_core.specs.declared.values.Val.{Val}
 use Rattle.al_core.specs.declared.typed_tree.TExpr.{TExpr}
@@ -8,7 +8,7 @@ use Rattle.al_core.specs.declared.typed_tree.TKind.{TKind, out-TKind, the_lemmas
 use Rattle.al_core.specs.declared.typed_tree.TKind.TheVariants as k
 use Rattle.al_core.specs.declared.typed_tree.TKind.TheOpen.{TKind-F}
 use Rattle.al_core.specs.World.{World}
-use Rattle.al_core.specs.Action.{State, Answer, Act, At, after, bind, pure, ◌>>=◌}
+use Rattle.al_core.specs.Action.{State, Answer, Act, At, bind, pure, ◌>>=◌}
 use Rattle.al_core.specs.Loops.{bound_of}
 use Rattle.al_core.specs.Meaning.{Flow, Next, Where, then_flow, test_value, execute, annotated_loop}
 use Rattle.al_interpreter.specs.declared.fault.Fault.{Fault}
@@ -46,8 +46,8 @@ module _ {S : Type 0} (world : World S) (here : Where) (input : List ℤ) (call 
   for_turns d first test third body number line is none =
       ap (λ d. does_kind world here input call d line) (is ∙ ap (k.For first test third body) none) ∙ does-For world here input call first test third body line
       ∙ ap (λ (q : Act S Flow). any_does world here input call first >>= then_flow q)
-        (all_turns line (test_value world here input call test line) (execute world here input call body) (any_does world here input call third)
-        ∙ ap (λ (o : Option LoopParts). loop_turns world here input call o line) (sym (loop_in_for d first test third body number is)))
+      (all_turns line (test_value world here input call test line) (execute world here input call body) (any_does world here input call third)
+      ∙ ap (λ (o : Option LoopParts). loop_turns world here input call o line) (sym (loop_in_for d first test third body number is)))
 
   pub for_fault : (d : TKind) (first : Option TStmt) (test : Option TExpr) (third : Option TStmt) (body : TStmt) (number : Option ℕ) (line : ℕ) (s t : State S) (e : Fault) → d ≡ k.For first test third body number → number ≡ None → Does {A = Flow} (any_does world here input call first s) (Err e) t → Does {A = Flow} (does_kind world here input call d line s) (Err e) t
   unfolding bind

@@ -31,7 +31,15 @@ impl<F> Walker<F> {
         s: &TStmt,
     ) -> Result<Flow, Fault>
     where
-        F: Fn(Global, &Setting<'_>, u32, &mut Machine<G>, u32, Items<Val>, u32) -> Result<Val, Fault>,
+        F: Fn(
+            Global,
+            &Setting<'_>,
+            u32,
+            &mut Machine<G>,
+            u32,
+            Items<Val>,
+            u32,
+        ) -> Result<Val, Fault>,
         requires { Calls (G.world (setting_of on.now)) G.place on.now self.now.room (F.pre self.now.call) (F.post self.now.call) }
         ensures { Does (meaning.execute (G.world (setting_of on.now)) G.place on.now.input.now (call_to (G.world (setting_of on.now)) G.place on.now.typed.now.funcs on.now.input.now self.now.room) s.now m.old) (flowed result) m.new }
     {
@@ -49,7 +57,15 @@ impl<F> Walker<F> {
         s: &Option<Boxed<TStmt>>,
     ) -> Result<Flow, Fault>
     where
-        F: Fn(Global, &Setting<'_>, u32, &mut Machine<G>, u32, Items<Val>, u32) -> Result<Val, Fault>,
+        F: Fn(
+            Global,
+            &Setting<'_>,
+            u32,
+            &mut Machine<G>,
+            u32,
+            Items<Val>,
+            u32,
+        ) -> Result<Val, Fault>,
         requires { Calls (G.world (setting_of on.now)) G.place on.now self.now.room (F.pre self.now.call) (F.post self.now.call) }
         ensures { Does (any_does (G.world (setting_of on.now)) G.place on.now.input.now (call_to (G.world (setting_of on.now)) G.place on.now.typed.now.funcs on.now.input.now self.now.room) s.now m.old) (flowed result) m.new }
     {
@@ -69,7 +85,15 @@ impl<F> Walker<F> {
         ss: &[TStmt],
     ) -> Result<Flow, Fault>
     where
-        F: Fn(Global, &Setting<'_>, u32, &mut Machine<G>, u32, Items<Val>, u32) -> Result<Val, Fault>,
+        F: Fn(
+            Global,
+            &Setting<'_>,
+            u32,
+            &mut Machine<G>,
+            u32,
+            Items<Val>,
+            u32,
+        ) -> Result<Val, Fault>,
         requires { Calls (G.world (setting_of on.now)) G.place on.now self.now.room (F.pre self.now.call) (F.post self.now.call) }
         ensures { Does (meaning.execute_all (G.world (setting_of on.now)) G.place on.now.input.now (call_to (G.world (setting_of on.now)) G.place on.now.typed.now.funcs on.now.input.now self.now.room) ss.now m.old) (flowed result) m.new }
     {
@@ -93,7 +117,15 @@ impl<F> Walker<F> {
         line: u32,
     ) -> Result<Turn, Fault>
     where
-        F: Fn(Global, &Setting<'_>, u32, &mut Machine<G>, u32, Items<Val>, u32) -> Result<Val, Fault>,
+        F: Fn(
+            Global,
+            &Setting<'_>,
+            u32,
+            &mut Machine<G>,
+            u32,
+            Items<Val>,
+            u32,
+        ) -> Result<Val, Fault>,
         requires { Calls (G.world (setting_of on.now)) G.place on.now self.now.room (F.pre self.now.call) (F.post self.now.call) }
         ensures { Turns (λ again. loop_turn (G.world (setting_of on.now)) G.place on.now.input.now (call_to (G.world (setting_of on.now)) G.place on.now.typed.now.funcs on.now.input.now self.now.room) (loop_in (out-TKind k.now)) line again m.old) result m.new }
     {
@@ -133,7 +165,15 @@ impl<F> Walker<F> {
         line: u32,
     ) -> Result<Flow, Fault>
     where
-        F: Fn(Global, &Setting<'_>, u32, &mut Machine<G>, u32, Items<Val>, u32) -> Result<Val, Fault>,
+        F: Fn(
+            Global,
+            &Setting<'_>,
+            u32,
+            &mut Machine<G>,
+            u32,
+            Items<Val>,
+            u32,
+        ) -> Result<Val, Fault>,
         requires { Calls (G.world (setting_of on.now)) G.place on.now self.now.room (F.pre self.now.call) (F.post self.now.call) }
         ensures { Does (loop_turns (G.world (setting_of on.now)) G.place on.now.input.now (call_to (G.world (setting_of on.now)) G.place on.now.typed.now.funcs on.now.input.now self.now.room) (loop_in (out-TKind k.now)) line m.old) (flowed result) m.new }
     {
@@ -159,7 +199,15 @@ impl<F> Walker<F> {
         line: u32,
     ) -> Result<Flow, Fault>
     where
-        F: Fn(Global, &Setting<'_>, u32, &mut Machine<G>, u32, Items<Val>, u32) -> Result<Val, Fault>,
+        F: Fn(
+            Global,
+            &Setting<'_>,
+            u32,
+            &mut Machine<G>,
+            u32,
+            Items<Val>,
+            u32,
+        ) -> Result<Val, Fault>,
         requires { Calls (G.world (setting_of on.now)) G.place on.now self.now.room (F.pre self.now.call) (F.post self.now.call) }
         ensures { Does (does_kind (G.world (setting_of on.now)) G.place on.now.input.now (call_to (G.world (setting_of on.now)) G.place on.now.typed.now.funcs on.now.input.now self.now.room) k.now line m.old) (flowed result) m.new }
     {
@@ -208,7 +256,15 @@ impl<F> Walker<F> {
         line: u32,
     ) -> Result<Flow, Fault>
     where
-        F: Fn(Global, &Setting<'_>, u32, &mut Machine<G>, u32, Items<Val>, u32) -> Result<Val, Fault>,
+        F: Fn(
+            Global,
+            &Setting<'_>,
+            u32,
+            &mut Machine<G>,
+            u32,
+            Items<Val>,
+            u32,
+        ) -> Result<Val, Fault>,
         requires { Calls (G.world (setting_of on.now)) G.place on.now self.now.room (F.pre self.now.call) (F.post self.now.call) }
         ensures { Does (meaning.annotated_loop (G.world (setting_of on.now)) G.place number line (first_sets (G.world (setting_of on.now)) G.place on.now.input.now (call_to (G.world (setting_of on.now)) G.place on.now.typed.now.funcs on.now.input.now self.now.room) first.now) (loops.bound_of test.now) (meaning.execute (G.world (setting_of on.now)) G.place on.now.input.now (call_to (G.world (setting_of on.now)) G.place on.now.typed.now.funcs on.now.input.now self.now.room) body.now) m.old) (flowed result) m.new }
     {
@@ -237,7 +293,15 @@ impl<F> Walker<F> {
         line: u32,
     ) -> Result<Flow, Fault>
     where
-        F: Fn(Global, &Setting<'_>, u32, &mut Machine<G>, u32, Items<Val>, u32) -> Result<Val, Fault>,
+        F: Fn(
+            Global,
+            &Setting<'_>,
+            u32,
+            &mut Machine<G>,
+            u32,
+            Items<Val>,
+            u32,
+        ) -> Result<Val, Fault>,
         requires { Calls (G.world (setting_of on.now)) G.place on.now self.now.room (F.pre self.now.call) (F.post self.now.call) }
         ensures { Does (meaning.ordinary_trips (G.world (setting_of on.now)) line range.counter range.lo range.hi (meaning.execute (G.world (setting_of on.now)) G.place on.now.input.now (call_to (G.world (setting_of on.now)) G.place on.now.typed.now.funcs on.now.input.now self.now.room) body.now) m.old) (flowed result) m.new }
     {
@@ -258,7 +322,15 @@ impl<F> Walker<F> {
         line: u32,
     ) -> Result<Flow, Fault>
     where
-        F: Fn(Global, &Setting<'_>, u32, &mut Machine<G>, u32, Items<Val>, u32) -> Result<Val, Fault>,
+        F: Fn(
+            Global,
+            &Setting<'_>,
+            u32,
+            &mut Machine<G>,
+            u32,
+            Items<Val>,
+            u32,
+        ) -> Result<Val, Fault>,
         requires { Calls (G.world (setting_of on.now)) G.place on.now self.now.room (F.pre self.now.call) (F.post self.now.call) }
         ensures { Does (meaning.trips_to (G.world (setting_of on.now)) (trip_count range.lo range.hi) line range.counter range.lo 0 (meaning.execute (G.world (setting_of on.now)) G.place on.now.input.now (call_to (G.world (setting_of on.now)) G.place on.now.typed.now.funcs on.now.input.now self.now.room) body.now) m.old) (flowed result) m.new }
     {

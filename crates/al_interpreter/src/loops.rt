@@ -65,7 +65,13 @@ impl<G: Ground> Machine<G> {
 
     /// Begins a trip of an annotated loop: it spends a step and sets the counter.
     #[tactic(auto, unfolding(al_core::specs::Action::bind))]
-    pub fn begin_trip(&mut self, on: &Setting<'_>, counter: u32, n: i64, line: u32) -> Result<(), Fault>
+    pub fn begin_trip(
+        &mut self,
+        on: &Setting<'_>,
+        counter: u32,
+        n: i64,
+        line: u32,
+    ) -> Result<(), Fault>
         ensures { Leads (λ next. trip_first (G.world (setting_of on.now)) line counter n next self.old) result self.new }
     {
         self.spend(line)?;
@@ -74,7 +80,13 @@ impl<G: Ground> Machine<G> {
 
     /// What comes after an annotated loop's trips: the counter ends at the greater of its start and its bound.
     #[tactic(auto, unfolding(al_core::specs::Action::bind, al_core::specs::Action::pure))]
-    pub fn past_loop(&mut self, on: &Setting<'_>, flow: Flow, range: Range, line: u32) -> Result<Flow, Fault>
+    pub fn past_loop(
+        &mut self,
+        on: &Setting<'_>,
+        flow: Flow,
+        range: Range,
+        line: u32,
+    ) -> Result<Flow, Fault>
         ensures { Does (meaning.then_flow (loop_end (G.world (setting_of on.now)) line range.counter range.lo range.hi) (flow_of flow) self.old) (flowed result) self.new }
     {
         match flow {
@@ -99,7 +111,15 @@ impl<F> Walker<F> {
         line: u32,
     ) -> Result<bool, Fault>
     where
-        F: Fn(Global, &Setting<'_>, u32, &mut Machine<G>, u32, Items<Val>, u32) -> Result<Val, Fault>,
+        F: Fn(
+            Global,
+            &Setting<'_>,
+            u32,
+            &mut Machine<G>,
+            u32,
+            Items<Val>,
+            u32,
+        ) -> Result<Val, Fault>,
         requires { Calls (G.world (setting_of on.now)) G.place on.now self.now.room (F.pre self.now.call) (F.post self.now.call) }
         ensures { Leads (λ next. test_first line (meaning.test_value (G.world (setting_of on.now)) G.place on.now.input.now (call_to (G.world (setting_of on.now)) G.place on.now.typed.now.funcs on.now.input.now self.now.room) (option_copied test.entry) line) next m.old) result m.new }
     {
@@ -119,7 +139,15 @@ impl<F> Walker<F> {
         line: u32,
     ) -> Result<Option<Range>, Fault>
     where
-        F: Fn(Global, &Setting<'_>, u32, &mut Machine<G>, u32, Items<Val>, u32) -> Result<Val, Fault>,
+        F: Fn(
+            Global,
+            &Setting<'_>,
+            u32,
+            &mut Machine<G>,
+            u32,
+            Items<Val>,
+            u32,
+        ) -> Result<Val, Fault>,
         requires { Calls (G.world (setting_of on.now)) G.place on.now self.now.room (F.pre self.now.call) (F.post self.now.call) }
         ensures { Leads (λ next. range_first (G.world (setting_of on.now)) (spec.first_sets (G.world (setting_of on.now)) G.place on.now.input.now (call_to (G.world (setting_of on.now)) G.place on.now.typed.now.funcs on.now.input.now self.now.room) first.now) (loops.bound_of test.now) line next m.old) result m.new }
     {

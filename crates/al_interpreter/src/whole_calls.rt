@@ -95,11 +95,7 @@ fn main_with<G: Stage>(
 }
 
 /// Calls `main`. Up to 256 calls may be active.
-pub fn run_main<G: Stage>(
-    alloc: Global,
-    on: &Setting<'_>,
-    m: &mut Machine<G>,
-) -> Result<Val, Fault>
+pub fn run_main<G: Stage>(alloc: Global, on: &Setting<'_>, m: &mut Machine<G>) -> Result<Val, Fault>
     ensures { Does (main_does (G.world (setting_of on.now)) G.place on.now.typed.now on.now.input.now m.old) result m.new }
 {
     main_with(alloc, on, 256, m)
