@@ -1,5 +1,5 @@
 -- Loops, as kinds of statements, as the code does them.
-use Rattle.std.proofs.Common.{◌≡◌, ℕ, Bool, List, Option, Some, None, Result, Ok, Err, refl, sym, ap, subst, ◌∙◌, rules}
+use Rattle.std.proofs.Common.{◌≡◌, ℕ, List, Option, Some, None, Result, Ok, Err, sym, ap, subst, ◌∙◌, rules}
 use Rattle.std.specs.Prelude.{ℤ}
 use Rattle.al_core.specs.declared.values.Val.{Val}
 use Rattle.al_core.specs.declared.typed_tree.TExpr.{TExpr}
@@ -8,7 +8,7 @@ use Rattle.al_core.specs.declared.typed_tree.TKind.{TKind, out-TKind, the_lemmas
 use Rattle.al_core.specs.declared.typed_tree.TKind.TheVariants as k
 use Rattle.al_core.specs.declared.typed_tree.TKind.TheOpen.{TKind-F}
 use Rattle.al_core.specs.World.{World}
-use Rattle.al_core.specs.Action.{State, Answer, Act, At, after, bind, pure, ◌>>=◌}
+use Rattle.al_core.specs.Action.{State, Answer, Act, At, bind, pure, ◌>>=◌}
 use Rattle.al_core.specs.Loops.{bound_of}
 use Rattle.al_core.specs.Meaning.{Flow, Next, Where, then_flow, test_value, execute, annotated_loop}
 use Rattle.al_interpreter.specs.declared.fault.Fault.{Fault}

@@ -1,13 +1,12 @@
 -- The turns of a loop and the trips of an annotated one, as the code does them.
-use Rattle.std.proofs.Common.{◌≡◌, ℕ, zero, suc, ◌+◌, ◌-◌, ◌<◌, Bool, true, false, Result, Ok, Err, add-one, refl, sym, ap, subst, ◌∙◌, arith}
+use Rattle.std.proofs.Common.{◌≡◌, ℕ, zero, suc, ◌+◌, ◌-◌, ◌<◌, Bool, true, false, Ok, Err, add-one, refl, sym, ap, subst, ◌∙◌, arith}
 use Rattle.std.specs.Prelude.{if◌then◌else◌, ℤ, pos, ◌+ℤ◌, ◌≤ℤ◌, ◌<ℤ◌, ◌-ℤ◌, negsuc}
 use Rattle.std.proofs.lemmas.Int.{ints}
 use Rattle.al_core.specs.declared.values.Val.{Val}
-use Rattle.al_core.specs.declared.values.Val.TheVariants.{Int}
 use Rattle.al_core.specs.declared.values.Trap.TheVariants as trap
 use Rattle.al_core.specs.World.{World}
 use Rattle.al_core.specs.Values.{not_negative, trip_count}
-use Rattle.al_core.specs.Action.{State, Answer, Act, after, bind, pure, lift, spend, get_budget, set_local, ◌>>=◌, ◌>>◌}
+use Rattle.al_core.specs.Action.{State, Answer, Act, bind, pure, lift, get_budget, ◌>>=◌}
 use Rattle.al_core.specs.Meaning.{Flow, Next, then_flow, turn_end, turns, turns_to, trips_to}
 use Rattle.al_interpreter.specs.declared.fault.Fault.{Fault}
 use Rattle.al_interpreter.specs.declared.fault.Fault.TheVariants as fault

@@ -1,7 +1,7 @@
-use Rattle.std.proofs.Common.{ℕ, List, Ok, Err, refl, sym, ap, ◌∙◌, arith}
+use Rattle.std.proofs.Common.{ℕ, List, Ok, Err, refl, sym, ◌∙◌, arith}
 use Rattle.std.proofs.lemmas.Int.{ints, to_z-of_z}
 use Rattle.std.proofs.lemmas.Result.{err_from_is_err_and}
-use Rattle.std.specs.Prelude.{ℤ, Option, Some}
+use Rattle.std.specs.Prelude.{Option, Some}
 use Rattle.std.specs.Option.{option_copied}
 use denote.Ref.{Bor}
 use Rattle.al_core.specs.declared.values.Val.{Val}
@@ -17,7 +17,6 @@ use Rattle.al_interpreter.specs.declared.flow.Turn.TheVariants as turn
 use Rattle.al_interpreter.specs.Does.{setting_of}
 use Rattle.al_interpreter.specs.Kinds.{any_does, first_sets}
 use Rattle.al_interpreter.specs.Turns.{loop_in, loop_turn}
-use Rattle.al_interpreter.proofs.Binds.{raised}
 use Rattle.al_interpreter.proofs.KindNodes as nodes
 use Rattle.al_interpreter.proofs.LoopNodes as loops
 use Rattle.al_interpreter.proofs.Sequences.{flows, faults}
