@@ -8,3 +8,6 @@ pub mod ExpressionsComplete
 pub mod WalkFacts
 pub mod StatementsSound
 pub mod StatementsComplete
+pub mod ProgramsSound
+pub mod ProgramsComplete
+pub mod TypingLaw
