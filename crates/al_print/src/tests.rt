@@ -156,9 +156,9 @@ fn choice(alloc: Global, x: Made<StmtKind>) -> Made<StmtKind> {
     Ok(StmtKind::If(var(alloc, b"a")?, x, None))
 }
 
-fn two_ways(alloc: Global, x: StmtKind, y: StmtKind) -> Made<StmtKind> {
-    let x = statement(alloc, Ok(x))?;
-    let y = statement(alloc, Ok(y))?;
+fn two_ways(alloc: Global) -> Made<StmtKind> {
+    let x = statement(alloc, Ok(StmtKind::Break))?;
+    let y = statement(alloc, Ok(StmtKind::Empty))?;
     Ok(StmtKind::If(Expr::Null, x, Some(y)))
 }
 
@@ -388,7 +388,7 @@ fn plain_statements(rt: HostRuntime) -> Result<(), Fail> {
 #[test]
 fn statements_that_hold_statements(rt: HostRuntime) -> Result<(), Fail> {
     let alloc = rt.alloc();
-    let x = two_ways(alloc, StmtKind::Break, StmtKind::Empty);
+    let x = two_ways(alloc);
     assert!(rt;
         is_statement(
             alloc,
