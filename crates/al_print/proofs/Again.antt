@@ -1,5 +1,5 @@
 -- A phrase of the grammar that printed tokens begin with, whatever follows them.
-use Rattle.std.proofs.Common.{◌≡◌, Bool, false, sym, subst}
+use Rattle.std.proofs.Common.{◌≡◌, false, sym, subst}
 use Rattle.al_grammar.specs.Phrases.{Tokens}
 use Rattle.al_print.specs.Tokens.{Kinds}
 use Rattle.al_print.proofs.Front.{Has}

@@ -1,5 +1,5 @@
 -- The tokens of each kind of node.
-use Rattle.std.proofs.Common.{◌≡◌, ℕ, suc, Bool, true, false, List, [], ◌∷◌, ◌++◌, map, Option, Some, None, refl, sym, ap, ◌∙◌}
+use Rattle.std.proofs.Common.{◌≡◌, ℕ, Bool, true, List, [], ◌∷◌, ◌++◌, map, Option, Some, None, refl, sym, ap, ◌∙◌}
 use Rattle.std.specs.Prelude.{ℤ, pos}
 use Rattle.std.proofs.lemmas.Grind.{fold-append}
 use Rattle.al_source.specs.declared.texts.Piece.{Piece}
@@ -8,7 +8,7 @@ use Rattle.al_source.specs.declared.operators.BinOp.{BinOp}
 use Rattle.al_source.specs.declared.annotations.LoopNote.{LoopNote}
 use Rattle.al_source.specs.declared.tokens.Mark.TheVariants as m
 use Rattle.al_source.specs.declared.tokens.Key.TheVariants as key
-use Rattle.al_source.specs.declared.tokens.TokenKind.TheVariants.{Word, Key, Number, Text, Mark}
+use Rattle.al_source.specs.declared.tokens.TokenKind.TheVariants.{Word, Key, Number, Mark}
 use Rattle.al_source.specs.declared.source_tree.CType.{CType, roll-CType, map-CType, fold-CType, fold-roll-CType}
 use Rattle.al_source.specs.declared.source_tree.CType.TheOpen.{CType-F}
 use Rattle.al_source.specs.declared.source_tree.CType.TheVariants as type
@@ -21,7 +21,7 @@ use Rattle.al_source.specs.declared.source_tree.StmtKind.TheViews.{roll-StmtKind
 use Rattle.al_source.specs.declared.source_tree.StmtKind.TheOpen.{StmtKind-F}
 use Rattle.al_source.specs.declared.source_tree.StmtKind.TheVariants as k
 use Rattle.al_print.specs.Tables.{unary_mark, binary, update_mark}
-use Rattle.al_print.specs.Tokens.{Kinds, Placed, Standing, front_case, type_front, dimensions_case, dimensions, size_of, value_of, with_commas, after_commas, joined, prefixed, postfix_level, expression_case, expression, value, values, optional_value, optional_note, end, alone, condition, head, declaration, assignment, call, print, jump, kind_case, statement_case, statement, statement_kind, statements, part_of, otherwise_of}
+use Rattle.al_print.specs.Tokens.{Kinds, Placed, Standing, front_case, type_front, dimensions_case, dimensions, size_of, value_of, with_commas, joined, prefixed, postfix_level, expression_case, expression, value, values, optional_note, end, alone, condition, head, declaration, assignment, call, print, jump, kind_case, statement_case, statement, statement_kind, statements, part_of, otherwise_of}
 
 -- ---- types
 

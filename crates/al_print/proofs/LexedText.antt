@@ -1,15 +1,14 @@
 -- What is printed of a text between its quotes is that text.
-use Rattle.std.proofs.Common.{◌≡◌, ℕ, zero, suc, ◌+◌, ◌-◌, Bool, true, false, cond, not, List, [], ◌∷◌, ◌++◌, append_assoc, take, drop, length, slice_index, slice_range, Option, Some, None, Result, Ok, Err, refl, sym, ap, subst, ◌∙◌, arith, nat_eq, length-append}
-use Rattle.std.specs.Prelude.{◌==◌, ◌||◌, ◌&&◌, nat_le, option_map, option_and_then, codes}
+use Rattle.std.proofs.Common.{◌≡◌, ℕ, suc, ◌+◌, ◌-◌, Bool, true, false, not, List, [], ◌∷◌, ◌++◌, append_assoc, take, length, slice_range, Option, Some, None, Ok, refl, sym, ap, subst, ◌∙◌, arith, length-append}
+use Rattle.std.specs.Prelude.{◌==◌, ◌||◌, ◌&&◌, option_map, option_and_then}
 use Rattle.std.proofs.Math.Seq.{take-append_seam}
 use Rattle.std.proofs.lemmas.Bool.{eqb-true}
-use Rattle.std.proofs.lemmas.List.{append-nil}
 use Rattle.al_source.specs.declared.texts.Piece.{Piece}
 use Rattle.al_source.specs.declared.texts.Piece.TheVariants as piece
 use Rattle.al_source.specs.declared.tokens.TokenKind.TheVariants as kind
 use Rattle.al_grammar.specs.Characters.{Bytes, is_plain}
 use Rattle.al_grammar.specs.Lexemes.{TextUnit, unit_at, inside_from, inside_len, before_byte, before_unit, format_from, format_of, quoted, lexeme}
-use Rattle.al_print.specs.Text.{byte_text, bytes_text, piece_text, format_text}
+use Rattle.al_print.specs.Text.{byte_text, bytes_text, format_text}
 use Rattle.al_print.proofs.Plain.{is_meant, AllMeant, IsFormat}
 use Rattle.al_print.proofs.Lexed.{pick, skip}
 

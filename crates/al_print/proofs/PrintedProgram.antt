@@ -1,13 +1,10 @@
 -- The printed tokens of a program that was derived derive that program, but for its lines.
-use Rattle.std.proofs.Common.{◌≡◌, ℕ, zero, suc, Bool, true, false, List, [], ◌∷◌, ◌++◌, append_assoc, map, refl, sym, ap, subst, ◌∙◌, ℤ, pos, negsuc, arith}
-use Rattle.std.proofs.lemmas.List.{append-nil, map-append}
+use Rattle.std.proofs.Common.{◌≡◌, ℕ, zero, suc, false, List, [], ◌∷◌, ◌++◌, append_assoc, map, refl, sym, ap, subst, ◌∙◌, ℤ, pos, negsuc}
+use Rattle.std.proofs.lemmas.List.{map-append}
 use Rattle.std.specs.Prelude.{neg_ℤ}
-use Rattle.al_source.specs.declared.tokens.TokenKind.{TokenKind}
-use Rattle.al_source.specs.declared.tokens.TokenKind.TheVariants.{Word, Number, Key, Mark}
+use Rattle.al_source.specs.declared.tokens.TokenKind.TheVariants.{Word, Mark}
 use Rattle.al_source.specs.declared.tokens.Mark.TheVariants as m
-use Rattle.al_source.specs.declared.tokens.Key.TheVariants as key
 use Rattle.al_source.specs.declared.source_tree.CType.{CType}
-use Rattle.al_source.specs.declared.source_tree.CType.TheVariants as type
 use Rattle.al_source.specs.declared.source_tree.Field.{Field}
 use Rattle.al_source.specs.declared.source_tree.Start.{Start}
 use Rattle.al_source.specs.declared.source_tree.Start.TheVariants as start
@@ -16,23 +13,18 @@ use Rattle.al_source.specs.declared.source_tree.Func.{Func}
 use Rattle.al_source.specs.declared.source_tree.StructDef.{StructDef}
 use Rattle.al_source.specs.declared.source_tree.Item.{Item}
 use Rattle.al_source.specs.declared.source_tree.Item.TheVariants as item
-use Rattle.al_source.specs.declared.source_tree.Program.{Program}
-use Rattle.al_grammar.specs.Phrases.{Tokens, Name, Takes, line_at}
-use Rattle.al_grammar.specs.Types.{Base, Stars, Declarator, max_stars}
-use Rattle.al_grammar.specs.Statements.{Inners}
+use Rattle.al_grammar.specs.Phrases.{Tokens, Takes, line_at}
 use Rattle.al_grammar.specs.Programs.{FieldNames, Fields, Starts, Globals, ResultBase, Param, ParamList, Params, Items, AllItems, Derives, global}
 use Rattle.al_grammar.specs.Programs as g
-use Rattle.al_print.specs.Lines.{unlined, unlined_item}
-use Rattle.al_print.specs.Tokens.{Kinds, type_front, dimensions, declared, signed, start_value, field, fields, parameter, more_parameters, parameters, structure, signature, function, item_tokens, items_tokens, statements}
-use Rattle.al_print.specs.Tokens as tokens
+use Rattle.al_print.specs.Lines.{unlined_item}
+use Rattle.al_print.specs.Tokens.{Kinds, type_front, dimensions, declared, start_value, field, fields, parameter, more_parameters, parameters, structure, signature, function, item_tokens, items_tokens, statements}
 use Rattle.al_print.proofs.Cases.{front-Void}
 use Rattle.al_print.proofs.Front.{Has, none, split, split3, first, only, whole}
 use Rattle.al_print.proofs.Plain.{IsNumber, AllWritable, Orderly, orderly, orderly3, taken, left}
 use Rattle.al_print.proofs.Again.{Again, given, tidied}
-use Rattle.al_print.proofs.PrintedTypes.{BaseAgain, base, DeclaredAgain, declarator, StarsAgain, stars}
-use Rattle.al_print.proofs.PrintedStatements.{InnersAgain, inners_again}
+use Rattle.al_print.proofs.PrintedTypes.{BaseAgain, base, DeclaredAgain, declarator, stars}
+use Rattle.al_print.proofs.PrintedStatements.{inners_again}
 use Rattle.al_print.proofs.NoElse.{takes_other}
-use Rattle.al_print.proofs.Unlined.{SameList}
 
 -- ---- structs
 

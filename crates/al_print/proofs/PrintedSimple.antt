@@ -1,15 +1,13 @@
 -- The printed tokens of simple statements, annotations and heads of loops are read as those.
-use Rattle.std.proofs.Common.{◌≡◌, ℕ, suc, Bool, true, false, List, [], ◌∷◌, ◌++◌, append_assoc, Option, Some, None, refl, sym, ap, subst, ◌∙◌, pos, arith}
+use Rattle.std.proofs.Common.{◌≡◌, ℕ, Bool, true, false, List, [], ◌∷◌, ◌++◌, append_assoc, Option, Some, None, refl, sym, subst, ◌∙◌, pos, arith}
 use Rattle.std.proofs.lemmas.List.{append-nil}
 use Rattle.std.specs.Prelude.{codes}
-use Rattle.al_source.specs.declared.texts.Piece.{Piece}
 use Rattle.al_source.specs.declared.tokens.TokenKind.{TokenKind}
-use Rattle.al_source.specs.declared.tokens.TokenKind.TheVariants.{Word, Number, Text, Key, Mark, Alter, EndAlter}
+use Rattle.al_source.specs.declared.tokens.TokenKind.TheVariants.{Word, Text, Key, Mark, Alter, EndAlter}
 use Rattle.al_source.specs.declared.tokens.Mark.TheVariants as m
 use Rattle.al_source.specs.declared.tokens.Key as the_key
 use Rattle.al_source.specs.declared.tokens.Key.TheVariants as key
 use Rattle.al_source.specs.declared.operators.BinOp.{BinOp}
-use Rattle.al_source.specs.declared.operators.BinOp.TheVariants as b
 use Rattle.al_source.specs.declared.operators.RedOp.{RedOp}
 use Rattle.al_source.specs.declared.operators.RedOp.TheVariants as r
 use Rattle.al_source.specs.declared.annotations.Policy.{Policy}
@@ -18,30 +16,26 @@ use Rattle.al_source.specs.declared.annotations.CommitOrder.{CommitOrder}
 use Rattle.al_source.specs.declared.annotations.CommitOrder.TheVariants as order
 use Rattle.al_source.specs.declared.annotations.LoopNote.{LoopNote}
 use Rattle.al_source.specs.declared.annotations.NamedRed.{NamedRed}
-use Rattle.al_source.specs.declared.source_tree.CType.{CType}
-use Rattle.al_source.specs.declared.source_tree.Field.{Field}
 use Rattle.al_source.specs.declared.source_tree.Expr.{Expr}
-use Rattle.al_source.specs.declared.source_tree.Expr.TheVariants as e
 use Rattle.al_source.specs.declared.source_tree.Stmt.{Stmt}
 use Rattle.al_source.specs.declared.source_tree.StmtKind.{StmtKind}
 use Rattle.al_source.specs.declared.source_tree.StmtKind.TheVariants as kind
 use Rattle.al_grammar.specs.declared.operators.NoteWord.TheVariants as word
 use Rattle.al_grammar.specs.Words.{key_of}
 use Rattle.al_grammar.specs.Operators.{update_of, step_of, note_word_of}
-use Rattle.al_grammar.specs.Phrases.{Tokens, Name, Takes, takes, Means, means, line_at}
-use Rattle.al_grammar.specs.Types.{Base}
-use Rattle.al_grammar.specs.Expressions.{Expression, Place}
+use Rattle.al_grammar.specs.Phrases.{Tokens, Takes, line_at}
+use Rattle.al_grammar.specs.Expressions.{Place}
 use Rattle.al_grammar.specs.Statements.{statement_of, at, one, reduced, Values, CallValues, PrintValues, Simple, NotePolicy, NoteOrder, Reduced, Reductions, Note, Maybe, First, Third, Head, Condition, Initializer}
 use Rattle.al_grammar.specs.Statements as g
 use Rattle.al_print.specs.Tables.{update_mark, reduction, policy_word, order_word}
-use Rattle.al_print.specs.Tokens.{Kinds, type_front, declared, with_commas, after_commas, expression, value, values, optional_value, initializer, all_reduced, note, end, head, condition, statement, statement_kind, part_of}
+use Rattle.al_print.specs.Tokens.{Kinds, declared, with_commas, after_commas, expression, value, values, optional_value, initializer, all_reduced, note, end, head, condition, statement_kind, part_of}
 use Rattle.al_print.proofs.Cases.{tokens-Number, kind-Declare, kind-Assign, kind-Update, kind-Call, kind-Print, statement_is}
-use Rattle.al_print.proofs.Front.{Has, none, split, split3, split4, first, only, whole}
-use Rattle.al_print.proofs.Plain.{IsName, IsFormat, AllWritable, Orderly, orderly, orderly3, taken, left}
+use Rattle.al_print.proofs.Front.{Has, none, split, split4, first, only, whole}
+use Rattle.al_print.proofs.Plain.{IsName, AllWritable, Orderly, orderly, orderly3, taken, left}
 use Rattle.al_print.proofs.Again.{Again, given, tidied}
 use Rattle.al_print.proofs.PrintedTypes.{base, declarator}
-use Rattle.al_print.proofs.PrintedExpressions.{means_again, means_left, Found, found, whole_expression, place_again, literal}
-use Rattle.al_print.proofs.Unlined.{Same, SamePart, same_line, same_none, same_some}
+use Rattle.al_print.proofs.PrintedExpressions.{means_again, means_left, found, whole_expression, place_again, literal}
+use Rattle.al_print.proofs.Unlined.{SamePart, same_line, same_none, same_some}
 
 -- ---- lists of values
 

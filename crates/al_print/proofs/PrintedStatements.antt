@@ -1,11 +1,9 @@
 -- The printed tokens of statements are read as those statements, but for their lines.
-use Rattle.std.proofs.Common.{◌≡◌, ℕ, suc, Bool, true, false, List, [], ◌∷◌, ◌++◌, append_assoc, map, Option, Some, None, refl, sym, ap, subst, ◌∙◌}
-use Rattle.std.proofs.lemmas.List.{append-nil, map-append}
-use Rattle.al_source.specs.declared.tokens.TokenKind.{TokenKind}
+use Rattle.std.proofs.Common.{◌≡◌, ℕ, suc, true, false, List, [], ◌∷◌, ◌++◌, append_assoc, map, Option, Some, None, refl, sym, ap, subst, ◌∙◌}
+use Rattle.std.proofs.lemmas.List.{map-append}
 use Rattle.al_source.specs.declared.tokens.TokenKind.TheVariants.{Key, Mark}
 use Rattle.al_source.specs.declared.tokens.Mark.TheVariants as m
 use Rattle.al_source.specs.declared.tokens.Key.TheVariants as key
-use Rattle.al_source.specs.declared.annotations.LoopNote.{LoopNote}
 use Rattle.al_source.specs.declared.source_tree.CType.{CType}
 use Rattle.al_source.specs.declared.source_tree.Field.{Field}
 use Rattle.al_source.specs.declared.source_tree.Expr.{Expr}
@@ -13,19 +11,19 @@ use Rattle.al_source.specs.declared.source_tree.Stmt.{Stmt}
 use Rattle.al_source.specs.declared.source_tree.StmtKind.{StmtKind}
 use Rattle.al_source.specs.declared.source_tree.StmtKind.TheVariants as kind
 use Rattle.al_grammar.specs.Phrases.{Tokens, Takes, line_at}
-use Rattle.al_grammar.specs.Types.{Base, Declarator}
+use Rattle.al_grammar.specs.Types.{Declarator}
 use Rattle.al_grammar.specs.Statements.{statement_of, at, else_next, Locals, Statement, Inner, Inners}
 use Rattle.al_grammar.specs.Statements as g
 use Rattle.al_print.specs.Lines.{unlined}
-use Rattle.al_print.specs.Tokens.{Kinds, type_front, declared, optional_value, initializer, optional_note, note, end, head, condition, statement, statement_kind, statements, part_of, otherwise_of}
+use Rattle.al_print.specs.Tokens.{Kinds, type_front, declared, optional_value, initializer, note, end, head, condition, statement, statement_kind, statements, part_of}
 use Rattle.al_print.proofs.Cases.{kind-Empty, kind-Declare, kind-If, kind-While, kind-For, kind-Block, kind-Return, kind-Break, kind-Continue, statement_is}
 use Rattle.al_print.proofs.Front.{Has, none, split, split3, first, only, whole}
-use Rattle.al_print.proofs.Plain.{AllWritable, Orderly, orderly, orderly3, taken, left}
-use Rattle.al_print.proofs.Again.{Again, given, tidied}
+use Rattle.al_print.proofs.Plain.{AllWritable, Orderly, orderly, orderly3, left}
+use Rattle.al_print.proofs.Again.{given, tidied}
 use Rattle.al_print.proofs.PrintedTypes.{BaseAgain, base, declarator}
-use Rattle.al_print.proofs.PrintedSimple.{SimpleAgain, simple, whole_note, maybe, initializer_again, HeadAgain, head_again, condition_again}
+use Rattle.al_print.proofs.PrintedSimple.{SimpleAgain, simple, whole_note, maybe, initializer_again, head_again, condition_again}
 use Rattle.al_print.proofs.NoElse.{takes_other, takes_else, inners_other}
-use Rattle.al_print.proofs.Unlined.{Same, SamePart, SameList, same_line, same_if, same_while, same_for, same_block, same_none, same_some}
+use Rattle.al_print.proofs.Unlined.{Same, SameList, same_line, same_if, same_while, same_for, same_block, same_none, same_some}
 
 -- ---- lists of statements
 

@@ -1,10 +1,9 @@
 -- The printed tokens of types and declared names are read as those types and names.
-use Rattle.std.proofs.Common.{◌≡◌, ℕ, suc, ◌≤◌, Bool, true, false, List, [], ◌∷◌, ◌++◌, append_assoc, refl, sym, ap, ◌∙◌, subst, pos, arith}
+use Rattle.std.proofs.Common.{◌≡◌, ℕ, false, [], ◌∷◌, ◌++◌, append_assoc, refl, sym, ap, ◌∙◌, arith}
 use Rattle.std.proofs.lemmas.List.{append-nil}
 use Rattle.al_source.specs.declared.tokens.Mark.TheVariants as m
-use Rattle.al_source.specs.declared.tokens.Key.TheVariants as key
 use Rattle.al_source.specs.declared.tokens.TokenKind.{TokenKind}
-use Rattle.al_source.specs.declared.tokens.TokenKind.TheVariants.{Word, Number, Key, Mark}
+use Rattle.al_source.specs.declared.tokens.TokenKind.TheVariants.{Mark}
 use Rattle.al_source.specs.declared.source_tree.CType.{CType}
 use Rattle.al_source.specs.declared.source_tree.CType.TheVariants as type
 use Rattle.al_source.specs.declared.source_tree.Field.{Field}
@@ -14,8 +13,8 @@ use Rattle.al_grammar.specs.Types.{Base, Stars, Dimensions, Declarator, SizeOf, 
 use Rattle.al_grammar.specs.Types as g
 use Rattle.al_print.specs.Tokens.{Kinds, type_front, dimensions, declared, size_of}
 use Rattle.al_print.proofs.Cases.{front-Int, front-Struct, front-Ptr, front-Array, dimensions-Int, dimensions-Struct, dimensions-Ptr, dimensions-Array}
-use Rattle.al_print.proofs.Front.{Has, none, some, split, first, only}
-use Rattle.al_print.proofs.Plain.{IsName, AllWritable, Orderly, orderly, taken, left}
+use Rattle.al_print.proofs.Front.{Has, none, split, first, only}
+use Rattle.al_print.proofs.Plain.{AllWritable, Orderly, orderly, taken, left}
 use Rattle.al_print.proofs.Again.{Again, given, tidied}
 
 -- ---- bases

@@ -1,5 +1,5 @@
 -- The text of a program that has a source is read back.
-use Rattle.std.proofs.Common.{◌≡◌, List, ap}
+use Rattle.std.proofs.Common.{List, ap}
 use Rattle.al_source.specs.declared.source_tree.Item.{Item}
 use Rattle.al_source.specs.declared.source_tree.Program.{Program}
 use Rattle.al_print.specs.Text.{text_of}

@@ -1,7 +1,7 @@
 -- The text of orderly tokens spells those tokens.
-use Rattle.std.proofs.Common.{◌≡◌, ℕ, zero, suc, ◌+◌, ◌-◌, ◌<◌, ◌≤◌, Bool, true, false, cond, List, [], ◌∷◌, ◌++◌, append_assoc, take, drop, length, slice_index, Option, Some, None, Result, Ok, Err, refl, sym, ap, subst, ◌∙◌, ℤ, pos, negsuc, arith, nat_eq, length-append}
-use Rattle.std.specs.Prelude.{◌==◌, ◌||◌, ◌&&◌, nat_le, option_to_list, codes}
-use Rattle.std.specs.Fmt.{decimal, signed_decimal}
+use Rattle.std.proofs.Common.{◌≡◌, ℕ, ◌+◌, ◌-◌, ◌<◌, ◌≤◌, Bool, true, false, [], ◌∷◌, ◌++◌, append_assoc, take, drop, length, slice_index, Option, Some, None, Ok, refl, sym, ap, subst, ◌∙◌, pos, negsuc, arith, nat_eq, length-append}
+use Rattle.std.specs.Prelude.{◌==◌, ◌&&◌, nat_le, option_to_list, codes}
+use Rattle.std.specs.Fmt.{decimal}
 use Rattle.std.proofs.Math.Seq.{drop-append_seam}
 use Rattle.std.proofs.lemmas.Bool.{leb-true, leb-false, lt-leb, ne_eqb}
 use Rattle.std.proofs.lemmas.Fmt.{decimal_nonempty}
@@ -9,24 +9,22 @@ use Rattle.al_source.specs.declared.tokens.Token.{Token}
 use Rattle.al_source.specs.declared.tokens.Key as the_key
 use Rattle.al_source.specs.declared.tokens.Mark as the_mark
 use Rattle.al_source.specs.declared.tokens.Mark.TheVariants as m
-use Rattle.al_source.specs.declared.tokens.Key.TheVariants as key
 use Rattle.al_source.specs.declared.tokens.TokenKind.{TokenKind}
 use Rattle.al_source.specs.declared.tokens.TokenKind.TheVariants.{Word, Key, Number, Text, Mark, Alter, EndAlter}
-use Rattle.al_source.specs.declared.faults.LexFault.{LexFault}
 use Rattle.al_grammar.specs.declared.place.Place.{Place}
 use Rattle.al_grammar.specs.declared.place.Place.TheVariants.{Fresh, Inside, Hash, Pragma, Skipped, Note}
 use Rattle.al_grammar.specs.declared.place.Spot.{Spot}
 use Rattle.al_grammar.specs.declared.place.Next.{Next}
-use Rattle.al_grammar.specs.Characters.{Bytes, is_blank, is_letter, is_word, line_feeds}
-use Rattle.al_grammar.specs.Words.{key_text, mark_text, key_of, mark_at}
-use Rattle.al_grammar.specs.Lexemes.{begins_line_comment, begins_block_comment, named, Lexeme, lexeme}
-use Rattle.al_grammar.specs.Spelling.{token_from, token_at, matter_at, next, spot_after, first_spot, note_end, SpellsFrom, ends, goes, Spells}
-use Rattle.al_grammar.specs.Phrases.{Tokens, Takes, takes}
-use Rattle.al_print.specs.Text.{format_text, spelling, ends_line, end_text, front_text, text_from, text_of}
+use Rattle.al_grammar.specs.Characters.{Bytes, is_blank, is_letter, line_feeds}
+use Rattle.al_grammar.specs.Words.{key_text, mark_text, mark_at}
+use Rattle.al_grammar.specs.Lexemes.{begins_line_comment, begins_block_comment, named, lexeme}
+use Rattle.al_grammar.specs.Spelling.{token_from, token_at, matter_at, next, spot_after, first_spot, note_end, SpellsFrom, ends, goes}
+use Rattle.al_grammar.specs.Phrases.{Tokens, takes}
+use Rattle.al_print.specs.Text.{format_text, ends_line, end_text, front_text, text_from, text_of}
 use Rattle.al_print.specs.Tokens.{Kinds}
 use Rattle.al_print.proofs.Front.{Has, none, some}
 use Rattle.al_print.proofs.Plain.{IsName, IsFormat, Orderly}
-use Rattle.al_print.proofs.Lexed.{pick, skip, word_lexeme, key_lexeme, number_lexeme, key_letter, decimal_high}
+use Rattle.al_print.proofs.Lexed.{skip, word_lexeme, key_lexeme, number_lexeme, key_letter, decimal_high}
 use Rattle.al_print.proofs.LexedText.{text_lexeme}
 
 abbrev spot : ℕ → ℕ → Place → Spot

@@ -3,7 +3,7 @@ use Rattle.std.proofs.Common.{◌≡◌, ℕ, List, map, Option, Some, None, ref
 use Rattle.std.specs.Prelude.{option_map}
 use Rattle.al_source.specs.declared.annotations.LoopNote.{LoopNote}
 use Rattle.al_source.specs.declared.source_tree.Expr.{Expr}
-use Rattle.al_source.specs.declared.source_tree.Stmt.{Stmt, roll-Stmt, fold_out-Stmt}
+use Rattle.al_source.specs.declared.source_tree.Stmt.{Stmt, fold_out-Stmt}
 use Rattle.al_source.specs.declared.source_tree.StmtKind.{StmtKind, map-StmtKind, fold-StmtKind, fold-roll-StmtKind}
 use Rattle.al_source.specs.declared.source_tree.StmtKind.TheViews.{roll-StmtKind}
 use Rattle.al_source.specs.declared.source_tree.StmtKind.TheOpen.{StmtKind-F}

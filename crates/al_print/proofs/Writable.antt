@@ -5,26 +5,22 @@ use Rattle.std.specs.List.{prefix_len}
 use Rattle.std.specs.Str.{bytes_eq}
 use Rattle.std.specs.Char.{is_ascii_digit}
 use Rattle.std.proofs.lemmas.Bool.{leb-true}
-use Rattle.std.proofs.lemmas.List.Folds.{length-prefix_len}
 use Rattle.al_source.specs.declared.texts.Piece.{Piece}
 use Rattle.al_source.specs.declared.texts.Piece.TheVariants as piece
 use Rattle.al_source.specs.declared.tokens.Token.{Token}
 use Rattle.al_source.specs.declared.tokens.Key.{Key}
 use Rattle.al_source.specs.declared.tokens.Mark.{Mark}
-use Rattle.al_source.specs.declared.tokens.TokenKind.{TokenKind}
-use Rattle.al_source.specs.declared.tokens.TokenKind.TheVariants as kind
 use Rattle.al_source.specs.declared.faults.LexFault.{LexFault}
-use Rattle.al_source.specs.declared.faults.LexFault.TheVariants.{BadByte}
 use Rattle.al_grammar.specs.declared.place.Place.{Place}
 use Rattle.al_grammar.specs.declared.place.Place.TheVariants.{Fresh, Inside, Hash, Pragma, Skipped, Note}
 use Rattle.al_grammar.specs.declared.place.Spot.{Spot}
 use Rattle.al_grammar.specs.declared.place.Next.{Next}
 use Rattle.al_grammar.specs.Characters.{Bytes, is_blank, is_letter, is_word, is_plain}
 use Rattle.al_grammar.specs.Words.{key_of, mark_at}
-use Rattle.al_grammar.specs.Lexemes.{begins_line_comment, begins_block_comment, block_comment_len, name_len, named, number_len, number_value, has_digits, spoils_number, is_number, number_at, number_token, TextUnit, escaped, conversion, escape_unit, unit_at, inside_len, before_byte, before_unit, format_from, format_of, quoted, marked, Lexeme, lexeme}
-use Rattle.al_grammar.specs.Spelling.{end_at, line_end_at, gap, closed, token_at, matter_at, next, spot_after, first_spot, SpellsFrom, ends, goes, Spells}
+use Rattle.al_grammar.specs.Lexemes.{begins_line_comment, begins_block_comment, block_comment_len, name_len, named, number_len, number_value, has_digits, is_number, number_at, number_token, TextUnit, escape_unit, unit_at, inside_len, before_byte, before_unit, format_from, format_of, quoted, marked, Lexeme, lexeme}
+use Rattle.al_grammar.specs.Spelling.{end_at, line_end_at, closed, token_at, matter_at, next, SpellsFrom, ends, goes, Spells}
 use Rattle.al_grammar.specs.Phrases.{Tokens}
-use Rattle.al_print.proofs.Plain.{IsName, IsNumber, is_meant, AllMeant, IsFormat, IsWritable, AllWritable}
+use Rattle.al_print.proofs.Plain.{IsNumber, is_meant, IsFormat, IsWritable, AllWritable}
 
 -- ---- names
 

@@ -1,5 +1,5 @@
 -- Trees without their lines.
-use Rattle.std.specs.Prelude.{List, map}
+use Rattle.std.specs.Prelude.{map}
 use Rattle.al_source.specs.declared.source_tree.Stmt.{Stmt, roll-Stmt, fold-Stmt}
 use Rattle.al_source.specs.declared.source_tree.StmtKind.{StmtKind}
 use Rattle.al_source.specs.declared.source_tree.StmtKind.TheViews.{roll-StmtKind}

@@ -156,9 +156,9 @@ fn choice(alloc: Global, x: Made<StmtKind>) -> Made<StmtKind> {
     Ok(StmtKind::If(var(alloc, b"a")?, x, None))
 }
 
-fn two_ways(alloc: Global, x: StmtKind, y: StmtKind) -> Made<StmtKind> {
-    let x = statement(alloc, Ok(x))?;
-    let y = statement(alloc, Ok(y))?;
+fn two_ways(alloc: Global) -> Made<StmtKind> {
+    let x = statement(alloc, Ok(StmtKind::Break))?;
+    let y = statement(alloc, Ok(StmtKind::Empty))?;
     Ok(StmtKind::If(Expr::Null, x, Some(y)))
 }
 
@@ -182,23 +182,22 @@ fn note(policy: Policy, order: CommitOrder, reduce: Made<Items<NamedRed>>) -> Ma
     })
 }
 
-fn counted(alloc: Global, note: Made<LoopNote>) -> Made<StmtKind> {
+fn counted(alloc: Global) -> Made<StmtKind> {
     let first = statement(alloc, declaration(alloc, b"i", Expr::Number(0)))?;
-    let third = statement(alloc, increment(alloc, b"i"))?;
     let body = statement(alloc, Ok(StmtKind::Continue))?;
-    let note = note?;
-    Ok(StmtKind::For(
-        Some(first),
-        Some(Expr::Number(0)),
-        Some(third),
-        body,
-        Some(note),
-    ))
+    Ok(StmtKind::For(Some(first), Some(Expr::Number(0)), None, body, None))
 }
 
-fn endless(alloc: Global) -> Made<StmtKind> {
+fn stepping(alloc: Global) -> Made<StmtKind> {
+    let third = statement(alloc, increment(alloc, b"i"))?;
     let body = statement(alloc, Ok(StmtKind::Break))?;
-    Ok(StmtKind::For(None, None, None, body, None))
+    Ok(StmtKind::For(None, None, Some(third), body, None))
+}
+
+fn noted(alloc: Global, note: Made<LoopNote>) -> Made<StmtKind> {
+    let note = note?;
+    let body = statement(alloc, Ok(StmtKind::Empty))?;
+    Ok(StmtKind::For(None, None, None, body, Some(note)))
 }
 
 // ---- items
@@ -389,7 +388,7 @@ fn plain_statements(rt: HostRuntime) -> Result<(), Fail> {
 #[test]
 fn statements_that_hold_statements(rt: HostRuntime) -> Result<(), Fail> {
     let alloc = rt.alloc();
-    let x = two_ways(alloc, StmtKind::Break, StmtKind::Empty);
+    let x = two_ways(alloc);
     assert!(rt;
         is_statement(
             alloc,
@@ -397,30 +396,34 @@ fn statements_that_hold_statements(rt: HostRuntime) -> Result<(), Fail> {
             b"int f ( void ) {\nif ( NULL ) break ;\nelse ;\n}\n"
         )?
     );
-    assert!(rt;
-        is_statement(
-            alloc,
-            repetition(alloc, sum(alloc)),
-            b"int f ( void ) {\nwhile ( a + b ) ;\n}\n"
-        )?
-    );
-    assert!(rt;
-        is_statement(
-            alloc,
-            endless(alloc),
-            b"int f ( void ) {\nfor ( ;\n;\n) break ;\n}\n"
-        )?
-    );
+    let x = repetition(alloc, sum(alloc));
+    assert!(rt; is_statement(alloc, x, b"int f ( void ) {\nwhile ( a + b ) ;\n}\n")?);
+    Ok(())
+}
+
+#[test]
+fn loops_have_three_parts(rt: HostRuntime) -> Result<(), Fail> {
+    let alloc = rt.alloc();
+    let wanted = b"int f ( void ) {\nfor ( int i = 0 ;\n0 ;\n) continue ;\n}\n";
+    assert!(rt; is_statement(alloc, counted(alloc), wanted)?);
+    let wanted = b"int f ( void ) {\nfor ( ;\n;\ni += 1 ) break ;\n}\n";
+    assert!(rt; is_statement(alloc, stepping(alloc), wanted)?);
+    Ok(())
+}
+
+#[test]
+fn an_annotation_begins_a_line(rt: HostRuntime) -> Result<(), Fail> {
+    let alloc = rt.alloc();
     let reduce = and(
         one(alloc, reduced(alloc, RedOp::Add, b"s")),
         reduced(alloc, RedOp::Max, b"t"),
     );
     let x = choice(
         alloc,
-        counted(alloc, note(Policy::Waw, CommitOrder::OutOfOrder, reduce)),
+        noted(alloc, note(Policy::Waw, CommitOrder::OutOfOrder, reduce)),
     );
     let wanted =
-        b"int f ( void ) {\nif ( a ) \n#pragma alter WAW OutOfOrder reduce ( + : s ) reduce ( max : t ) \nfor ( int i = 0 ;\n0 ;\ni += 1 ) continue ;\n}\n";
+        b"int f ( void ) {\nif ( a ) \n#pragma alter WAW OutOfOrder reduce ( + : s ) reduce ( max : t ) \nfor ( ;\n;\n) ;\n}\n";
     assert!(rt; is_statement(alloc, x, wanted)?);
     Ok(())
 }

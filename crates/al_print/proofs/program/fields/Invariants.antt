@@ -1,4 +1,4 @@
-use Rattle.std.proofs.Common.{◌≡◌, ◌++◌, length}
+use Rattle.std.proofs.Common.{◌≡◌, length}
 use Rattle.al_print.specs.Tokens.{fields}
 use Rattle.al_print.specs.Writing.{all_written}
 use Rattle.al_print.proofs.program.fields.Given as goal

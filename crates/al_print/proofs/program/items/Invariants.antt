@@ -1,4 +1,4 @@
-use Rattle.std.proofs.Common.{◌≡◌, ◌++◌, length}
+use Rattle.std.proofs.Common.{◌≡◌, length}
 use Rattle.al_print.specs.Tokens.{items_tokens}
 use Rattle.al_print.specs.Writing.{all_written}
 use Rattle.al_print.proofs.program.items.Given as goal

@@ -1,4 +1,4 @@
-use Rattle.std.proofs.Common.{◌≡◌, ◌++◌, length}
+use Rattle.std.proofs.Common.{◌≡◌, length}
 use Rattle.al_print.specs.Writing.{appended}
 use Rattle.al_print.proofs.writer.Writer.bytes.Given as goal
 
