@@ -1,5 +1,5 @@
 -- What may be done with what an expression is.
-use Rattle.std.specs.Prelude.{◌==◌, Bool, true, false, if◌then◌else◌, List, [], ◌∷◌, length, Option, Some, None, is_none, Ok, Err, pos}
+use Rattle.std.specs.Prelude.{◌==◌, Bool, true, false, if◌then◌else◌, List, [], ◌∷◌, length, Option, Some, None, is_none, option_map, Ok, Err, pos}
 use Rattle.std.specs.Ordering.{int_eq}
 use Rattle.al_source.specs.declared.operators.UnOp.{UnOp}
 use Rattle.al_source.specs.declared.operators.UnOp.TheVariants.{Neg, BitNot, Not}
@@ -133,9 +133,9 @@ abbrev pub of_variable : Named → Operand
 of_variable (named_local k a) = Variable k a
 of_variable (named_global k a) = Place a (p.Global k)
 
--- the element type of an operand that is an array
+-- the elements' type and the place of an operand that is an array
 abbrev pub array_in : Operand → Option (CType × TPlace)
-array_in (Place a q) = elim (element a) [ Some b ↦ Some (b, q) | None ↦ None ]
+array_in (Place a q) = option_map (λ b. (b, q)) (element a)
 array_in _ = None
 
 abbrev pub element_place : Known → CType → TPlace → Operand → Checked Operand

@@ -81,9 +81,13 @@ items_checked items before (i ∷ is) = and_then (item_checked items before i) (
 
 -- ---- main
 
+abbrev pub main_by : ℕ → Option Func → Result ℕ TypeFault
+main_by k None = Err (At Main 1)
+main_by k (Some f) = if is_empty f.params && is_int f.result then Ok k else Err (At Main f.line)
+
 abbrev pub main_at : List Func → Option ℕ → Result ℕ TypeFault
 main_at fs None = Err (At Main 1)
-main_at fs (Some k) = elim (slice_get fs k) [ None ↦ Err (At Main 1) | Some f ↦ if is_empty f.params && is_int f.result then Ok k else Err (At Main f.line) ]
+main_at fs (Some k) = main_by k (slice_get fs k)
 
 -- the function `main` has no parameters and gives an integer
 abbrev pub main_of : List Func → Result ℕ TypeFault

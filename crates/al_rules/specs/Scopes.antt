@@ -15,7 +15,7 @@ use Rattle.al_rules.specs.declared.layout.StructLayout.{StructLayout}
 use Rattle.al_rules.specs.declared.faults.TypeKind.TheVariants.{Unknown, Mismatch}
 use Rattle.al_rules.specs.Names.{Name, place_named, any_named}
 use Rattle.al_rules.specs.Layouts.{words_of}
-use Rattle.al_rules.specs.Checks.{Checked}
+use Rattle.al_rules.specs.Checks.{Checked, some_or}
 
 -- ---- locals
 
@@ -138,7 +138,7 @@ function_named name fs =
 
 abbrev pub callee_by : Known → Name → Option Variable → Checked Callee
 callee_by known name (Some v) = Err Mismatch
-callee_by known name None = elim (first_some (function_named name known.funcs) (built_in name)) [ Some c ↦ Ok c | None ↦ Err Unknown ]
+callee_by known name None = some_or (first_some (function_named name known.funcs) (built_in name)) Unknown
 
 -- a variable may not be called
 abbrev pub callee_named : Known → List Binding → Name → Checked Callee

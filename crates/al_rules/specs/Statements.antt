@@ -10,6 +10,7 @@ use Rattle.al_source.specs.declared.source_tree.CType.{CType, out-CType}
 use Rattle.al_source.specs.declared.source_tree.CType.TheOpen.{CType-F}
 use Rattle.al_source.specs.declared.source_tree.Expr.{Expr}
 use Rattle.al_source.specs.declared.source_tree.Stmt.{Stmt, fold-Stmt}
+use Rattle.al_source.specs.declared.source_tree.StmtKind.{StmtKind, fold-StmtKind}
 use Rattle.al_source.specs.declared.source_tree.StmtKind.TheOpen.{Stmt-F, StmtKind-F}
 use Rattle.al_core.specs.declared.choices.Choice.{Choice}
 use Rattle.al_core.specs.declared.choices.Red.{Red}
@@ -238,6 +239,9 @@ module _ (known : Known) (func : ℕ) (result : CType) where
 
   unfoldable pub part : Stmt → Part
   part = fold-Stmt KindPart Part kind_case stmt_case
+
+  unfoldable pub kind_part : StmtKind → KindPart
+  kind_part = fold-StmtKind KindPart Part kind_case stmt_case
 
   abbrev pub statements : Bool → List Stmt → Walk (List TStmt)
   statements looped [] = pure []
