@@ -1,0 +1,5 @@
+pub mod Steps
+pub mod Forms
+pub mod NameLists
+pub mod Bindings
+pub mod Meanings
