@@ -1,3 +1,1 @@
-pub mod NameLookups
-pub mod ScopeLists
-pub mod TypeOuts
+pub mod StatementRules

@@ -1,5 +1,4 @@
 pub mod Steps
-pub mod Forms
-pub mod NameLists
-pub mod Bindings
-pub mod Meanings
+pub mod Sorts
+pub mod Parts
+pub mod Functions

@@ -1,15 +1,15 @@
-//! What the names and types of a program mean: its typed tree, or its first type fault.
+//! The types of a program: its typed tree, or its first type fault.
 #![tactic(auto)]
 
-mod fault;
-mod known;
-mod names;
+mod bodies;
+mod checker;
+mod items;
+mod program;
 mod progress;
-mod scope;
-mod table;
-mod types;
+mod sorts;
 
 pub use al_core::Typed;
 pub use al_layout::Layout;
 pub use al_rules::{TypeFault, TypeKind};
 pub use al_source::Program;
+pub use program::check;

@@ -2,9 +2,9 @@ ghost use Rattle.std.specs.Prelude.{◌≡◌, ◌≤◌, [], ◌∷◌, ◌++�
 ghost use Rattle.al_rules.specs.Walks as spec;
 ghost use Rattle.al_types.specs.Steps.{Walks};
 
-use crate::fault::number;
-use crate::scope::{Binding, Scope};
-use crate::types::kind_of;
+use al_names::fault::number;
+use al_names::scope::{Binding, Scope};
+use al_names::types::kind_of;
 use al_core::{Choice, Kind, TLocal, TNote};
 use al_rules::TypeFault;
 use al_source::CType;
@@ -43,7 +43,7 @@ fn push(loops: &mut Vec<TNote>, note: TNote) -> Result<(), AllocError>
 
 impl<'a> Progress<'a> {
     ghost use Rattle.al_rules.specs.Scopes as scopes;
-    ghost use Rattle.al_types.specs.Bindings.{without_inner};
+    ghost use Rattle.al_names.specs.Bindings.{without_inner};
 
     /// No names and locals yet, and the annotated loops of earlier functions.
     pub fn new(alloc: Global, loops: Vec<TNote>) -> Progress<'a>

@@ -1,0 +1,4 @@
+pub mod ArrayCases
+pub mod CallCases
+pub mod Gathered
+pub mod OperandCases

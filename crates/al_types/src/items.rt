@@ -1,0 +1,136 @@
+ghost use Rattle.std.specs.Prelude.{◌≡◌, [], Ok, IfOk};
+ghost use Rattle.al_rules.specs.Checks.{and_then};
+ghost use Rattle.al_rules.specs.Programs as spec;
+ghost use Rattle.al_rules.specs.Scopes.{is_struct, structs_in, known_of};
+ghost use Rattle.al_names.specs.Definitions as by;
+ghost use Rattle.al_names.specs.NameLists.{named_in};
+ghost use Rattle.al_names.specs.Roles.{allowed_for};
+ghost use Rattle.al_names.specs.Steps.{Checks, Gives};
+
+use al_names::fault::{Fault, at_line, ensure};
+use al_names::known::Known;
+use al_names::names::Names;
+use al_operands::operands::is_zero;
+use al_names::types::{Role, is_int, is_pointer};
+use al_layout::Layout;
+use al_rules::{TypeFault, TypeKind};
+use al_source::{CType, Field, Func, GlobalDef, Item, Program, Start, StructDef};
+use std::alloc::{AllocError, Global};
+
+/// Each name is new among those before it, and then its type is looked at.
+fn check_fields(
+    alloc: Global,
+    known: &Known<'_>,
+    anywhere: &Names<'_>,
+    role: Role,
+    fields: &[Field],
+) -> Result<(), Fault>
+    ensures { Checks (by.fields_by (is_struct known.now.structs) (named_in anywhere.now) (allowed_for role) [] fields.now) result }
+{
+    let mut names = Names::new(alloc);
+    for field in fields {
+        let is_new = names.add(field.name.as_slice())?;
+        ensure(is_new, TypeKind::Twice)?;
+        known.check_item_type(anywhere, role, &field.ty)?;
+    }
+    Ok(())
+}
+
+fn check_struct(
+    alloc: Global,
+    known: &Known<'_>,
+    anywhere: &Names<'_>,
+    s: &StructDef,
+) -> Result<(), Fault>
+    ensures { Checks (by.struct_by known.now (named_in anywhere.now) s.now) result }
+{
+    ensure(!known.is_struct(s.name.as_slice()), TypeKind::Twice)?;
+    ensure(!s.fields.is_empty(), TypeKind::Shape)?;
+    check_fields(alloc, known, anywhere, Role::Held, s.fields.as_slice())
+}
+
+/// A number starts an integer, and null a pointer. The number 0 is null too.
+fn may_start(start: Start, ty: &CType) -> bool
+    ensures { result ≡ spec.may_start start ty.now }
+{
+    match start {
+        Start::Zero => true,
+        Start::Number(n) => is_int(ty) || (is_pointer(ty) && is_zero(n)),
+        Start::Null => is_pointer(ty),
+    }
+}
+
+fn check_global(known: &Known<'_>, anywhere: &Names<'_>, g: &GlobalDef) -> Result<(), Fault>
+    ensures { Checks (by.global_by known.now (named_in anywhere.now) g.now) result }
+{
+    ensure(!known.is_taken(g.name.as_slice()), TypeKind::Twice)?;
+    known.check_item_type(anywhere, Role::Held, &g.ty)?;
+    ensure(may_start(g.start, &g.ty), TypeKind::Mismatch)
+}
+
+fn check_func(
+    alloc: Global,
+    known: &Known<'_>,
+    anywhere: &Names<'_>,
+    f: &Func,
+) -> Result<(), Fault>
+    ensures { Checks (by.func_by known.now (named_in anywhere.now) f.now) result }
+{
+    ensure(!known.is_taken(f.name.as_slice()), TypeKind::Twice)?;
+    known.check_item_type(anywhere, Role::Given, &f.result)?;
+    check_fields(alloc, known, anywhere, Role::Local, f.params.as_slice())
+}
+
+fn with_item<'a>(
+    alloc: Global,
+    known: Known<'a>,
+    anywhere: &Names<'_>,
+    item: &'a Item,
+) -> Result<Known<'a>, TypeFault>
+    ensures { Gives (and_then (by.item_by known.entry (named_in anywhere.now) item.entry.now) (λ _. Ok (by.with_definition known.entry item.entry.now))) result }
+{
+    match item {
+        Item::Struct(s) => {
+            at_line(s.line, check_struct(alloc, &known, anywhere, s))?;
+            Ok(known.with_struct(s)?)
+        }
+        Item::Global(g) => {
+            at_line(g.line, check_global(&known, anywhere, g))?;
+            Ok(known.with_global(g)?)
+        }
+        Item::Func(f) => {
+            at_line(f.line, check_func(alloc, &known, anywhere, f))?;
+            Ok(known.with_func(f)?)
+        }
+    }
+}
+
+/// The names of all structs.
+fn struct_names<'a>(alloc: Global, mut items: &'a [Item]) -> Result<Names<'a>, AllocError>
+    ensures { IfOk result (λ names. named_in names ≡ is_struct (structs_in items.entry.now)) }
+{
+    let mut names = Names::new(alloc);
+    while let [item, rest @ ..] = items {
+        if let Item::Struct(s) = item {
+            names.add(s.name.as_slice())?;
+        }
+        items = rest;
+    }
+    Ok(names)
+}
+
+/// What a program defines, where its items have no fault.
+pub fn definitions<'a>(
+    alloc: Global,
+    program: &'a Program,
+    layout: &'a Layout,
+) -> Result<Known<'a>, TypeFault>
+    ensures { Gives (and_then (spec.items_checked program.entry.now.items [] program.entry.now.items) (λ _. Ok (known_of layout.entry.now program.entry.now.items))) result }
+{
+    let anywhere = struct_names(alloc, program.items.as_slice())?;
+    let mut known = Known::new(alloc, layout);
+    for item in program.items.as_slice() {
+        known = with_item(alloc, known, &anywhere, item)?;
+    }
+    Ok(known)
+}
