@@ -1,3 +1,5 @@
 pub mod Lists
+pub mod Induction
 pub mod ExprNodes
 pub mod StmtNodes
+pub mod Terms

@@ -1,9 +1,10 @@
 ghost use Rattle.std.specs.Prelude.{◌≡◌, ◌∷◌, ◌++◌, OnOk};
 ghost use Rattle.std.specs.List.{flat_map};
 ghost use Rattle.al_core.specs.Accepted as spec;
+ghost use Rattle.al_loops.specs.Walks.{any_joined, part_joined, called};
 
-use al_core::{TExpr, TPlace};
-use sqlite_items::Items;
+use al_core::{TExpr, TKind, TPlace, TStmt};
+use sqlite_items::{Boxed, Items};
 use std::alloc::AllocError;
 
 #[cycle(expressions)]
@@ -76,6 +77,78 @@ fn in_exprs(es: &[TExpr], out: &mut Items<u32>) -> Result<(), AllocError>
 {
     for e in es {
         in_expr(e, out)?;
+    }
+    Ok(())
+}
+
+fn in_test(e: &Option<TExpr>, out: &mut Items<u32>) -> Result<(), AllocError>
+    ensures { OnOk result (out.new ≡ out.old ++ any_joined spec.calls e.now) }
+{
+    match e {
+        Some(e) => in_expr(e, out),
+        None => Ok(()),
+    }
+}
+
+/// Adds the functions that the statement calls, in source order.
+#[cycle(statements)]
+#[tactic(auto, using(crate::proofs::StmtNodes::stmt_nodes), unfolding(crate::specs::Walks::called))]
+pub fn in_stmt(s: &TStmt, out: &mut Items<u32>) -> Result<(), AllocError>
+    ensures { OnOk result (out.new ≡ out.old ++ called s.now) }
+{
+    match &s.kind {
+        TKind::Empty | TKind::Break | TKind::Continue => Ok(()),
+        TKind::SetLocal(_, e) | TKind::UpdateLocal(_, _, e) | TKind::Call(e) => in_expr(e, out),
+        TKind::Store(p, e) => {
+            in_place(p, out)?;
+            in_expr(e, out)?;
+            Ok(())
+        }
+        TKind::UpdateAt(_, p, e) => {
+            in_place(p, out)?;
+            in_expr(e, out)?;
+            Ok(())
+        }
+        TKind::Print(_, es) => in_exprs(es.as_slice(), out),
+        TKind::If(e, a, b) => {
+            in_expr(e, out)?;
+            in_stmt(a.get(), out)?;
+            in_part(b, out)?;
+            Ok(())
+        }
+        TKind::While(e, a) => {
+            in_expr(e, out)?;
+            in_stmt(a.get(), out)?;
+            Ok(())
+        }
+        TKind::For(first, test, third, body, _) => {
+            in_part(first, out)?;
+            in_test(test, out)?;
+            in_part(third, out)?;
+            in_stmt(body.get(), out)?;
+            Ok(())
+        }
+        TKind::Block(ss) => in_stmts(ss.as_slice(), out),
+        TKind::Return(e) => in_test(e, out),
+    }
+}
+
+#[cycle(statements)]
+fn in_part(s: &Option<Boxed<TStmt>>, out: &mut Items<u32>) -> Result<(), AllocError>
+    ensures { OnOk result (out.new ≡ out.old ++ part_joined called s.now) }
+{
+    match s {
+        Some(s) => in_stmt(s.get(), out),
+        None => Ok(()),
+    }
+}
+
+#[cycle(statements)]
+pub fn in_stmts(ss: &[TStmt], out: &mut Items<u32>) -> Result<(), AllocError>
+    ensures { OnOk result (out.new ≡ out.old ++ flat_map called ss.now) }
+{
+    for s in ss {
+        in_stmt(s, out)?;
     }
     Ok(())
 }
