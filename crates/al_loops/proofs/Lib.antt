@@ -3,3 +3,9 @@ pub mod Induction
 pub mod ExprNodes
 pub mod StmtNodes
 pub mod Terms
+pub mod LoopNodes
+pub mod Called
+pub mod Paths
+pub mod Reaching
+pub mod Noted
+pub mod Chosen

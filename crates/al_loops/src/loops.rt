@@ -1,8 +1,8 @@
-ghost use Rattle.std.specs.Prelude.{◌≡◌, ◌++◌, OnOk, map};
-ghost use Rattle.std.specs.List.{flat_map};
+ghost use Rattle.std.specs.Prelude.{◌≡◌, ◌==◌, ◌++◌, OnOk, map};
+ghost use Rattle.std.specs.List.{find, flat_map};
 ghost use Rattle.std.specs.Option.{option_copied};
 ghost use Rattle.al_rules.specs.ForLoops as spec;
-ghost use Rattle.al_loops.specs.Found.{loop_of, part_loops};
+ghost use Rattle.al_loops.specs.Found.{loop_of, this_one, part_loops};
 
 use al_core::{TExpr, TKind, TStmt};
 use sqlite_items::{Boxed, Items};
@@ -27,9 +27,31 @@ fn part(s: &Option<Boxed<TStmt>>) -> Option<&TStmt>
     }
 }
 
+/// Adds the loop of these parts where it has a number, which an annotated loop has.
+fn add<'a>(
+    first: &'a Option<Boxed<TStmt>>,
+    test: &'a Option<TExpr>,
+    third: &'a Option<Boxed<TStmt>>,
+    body: &'a TStmt,
+    number: Option<u32>,
+    out: &mut Items<Loop<'a>>,
+) -> Result<(), AllocError>
+    ensures { OnOk result (map loop_of out.new ≡ map loop_of out.old ++ this_one first.now test.now third.now body.now number) }
+{
+    match number {
+        Some(number) => {
+            let first = part(first);
+            let test = test.as_ref();
+            let third = part(third);
+            out.push(Loop { number, first, test, third, body })
+        }
+        None => Ok(()),
+    }
+}
+
 #[cycle(statements)]
-#[tactic(auto, using(crate::proofs::StmtNodes::stmt_nodes), unfolding(al_rules::specs::ForLoops::for_loops))]
-pub fn in_stmt<'a>(s: &'a TStmt, out: &mut Items<Loop<'a>>) -> Result<(), AllocError>
+#[tactic(auto, using(crate::proofs::LoopNodes::loop_nodes), unfolding(al_rules::specs::ForLoops::for_loops))]
+fn in_stmt<'a>(s: &'a TStmt, out: &mut Items<Loop<'a>>) -> Result<(), AllocError>
     ensures { OnOk result (map loop_of out.new ≡ map loop_of out.old ++ spec.for_loops s.now) }
 {
     match &s.kind {
@@ -40,15 +62,7 @@ pub fn in_stmt<'a>(s: &'a TStmt, out: &mut Items<Loop<'a>>) -> Result<(), AllocE
         }
         TKind::While(_, a) => in_stmt(a.get(), out),
         TKind::For(first, test, third, body, number) => {
-            if let Some(number) = number {
-                out.push(Loop {
-                    number: *number,
-                    first: part(first),
-                    test: test.as_ref(),
-                    third: part(third),
-                    body: body.get(),
-                })?;
-            }
+            add(first, test, third, body.get(), *number, out)?;
             in_part(first, out)?;
             in_part(third, out)?;
             in_stmt(body.get(), out)?;
@@ -69,6 +83,7 @@ fn in_part<'a>(s: &'a Option<Boxed<TStmt>>, out: &mut Items<Loop<'a>>) -> Result
     }
 }
 
+/// Adds the annotated loops in the statements, in source order.
 #[cycle(statements)]
 pub fn in_stmts<'a>(ss: &'a [TStmt], out: &mut Items<Loop<'a>>) -> Result<(), AllocError>
     ensures { OnOk result (map loop_of out.new ≡ map loop_of out.old ++ flat_map spec.for_loops ss.now) }
