@@ -52,7 +52,8 @@ another seen more names i a grown within is there =
 -- ---- the first ones that count
 
 take_all : {A : Type 0} (n : ℕ) (xs : List A) → length xs ≤ n → take n xs ≡ xs
-take_all n [] h = refl
+take_all zero [] h = refl
+take_all (suc n) [] h = refl
 take_all zero (x ∷ xs) h = absurd (omega arith)
 take_all (suc n) (x ∷ xs) h = ap (λ l. x ∷ l) (take_all n xs (omega arith))
 

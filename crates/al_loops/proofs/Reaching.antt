@@ -1,5 +1,5 @@
 -- How the marks come to tell which functions are reached.
-use Rattle.std.proofs.Common.{◌≡◌, ℕ, zero, suc, ◌+◌, ◌<◌, ◌≤◌, ◌≢◌, ◌⊎◌, inl, inr, List, [], ◌∷◌, ◌++◌, length, get_or, set, replicate, Option, Some, None, refl, sym, ap, ◌∙◌, arith, subst, absurd, length-append}
+use Rattle.std.proofs.Common.{◌≡◌, ℕ, zero, suc, ◌+◌, ◌<◌, ◌≤◌, ◌≢◌, ◌⊎◌, inl, inr, List, [], ◌∷◌, ◌++◌, length, get_or, set, replicate, Option, Some, None, refl, sym, ap, ◌∙◌, arith, subst, length-append}
 use Rattle.std.proofs.lemmas.Bool.{or_left, or_right, eqb-true, eq-eqb, cases_lt, false≢true}
 use Rattle.std.proofs.lemmas.Bool.Decides.{eqb_tells}
 use Rattle.std.proofs.lemmas.List.{append-nil, get_or-set_same, get_or-set_other, get_or-replicate, length-set}
@@ -193,3 +193,21 @@ fewer_by funcs marks rest n None b func mark = ap (λ (l : List ℕ). calls_left
 -- a visit leaves one less
 pub fewer : (funcs : List TFunc) (marks : List Bool) (rest : List ℕ) (n : ℕ) → calls_left funcs (marked funcs marks n) + length (rest ++ new_calls funcs marks n) < calls_left funcs marks + length (rest ++ n ∷ [])
 fewer funcs marks rest n = let same = fewer_by funcs marks rest n (slice_get funcs n) (slice_get marks n) refl refl in one_less _ _ rest n same
+
+-- ---- as the loop goes
+
+pub begun : (typed : Typed) (s : TStmt) (marks : List Bool) (todo : List ℕ) → marks ≡ replicate (length typed.funcs) false → todo ≡ called s → Reaching typed s marks todo
+begun typed s marks todo m t = subst (λ (l : List ℕ). Reaching typed s marks l) (sym t) (subst (λ (l : List Bool). Reaching typed s l (called s)) (sym m) (begins typed s))
+
+pub gone : (typed : Typed) (s : TStmt) (funcs : List TFunc) (marks marks' : List Bool) (todo rest todo' : List ℕ) (n : ℕ) → funcs ≡ typed.funcs → Reaching typed s marks todo → todo ≡ rest ++ n ∷ [] → marks' ≡ marked funcs marks n → todo' ≡ rest ++ new_calls funcs marks n → Reaching typed s marks' todo'
+gone typed s funcs marks marks' todo rest todo' n f r t m t' =
+    subst (λ (l : List ℕ). Reaching typed s marks' l) (sym (t' ∙ ap (λ (fs : List TFunc). rest ++ new_calls fs marks n) f))
+    (subst (λ (l : List Bool). Reaching typed s l (rest ++ new_calls typed.funcs marks n)) (sym (m ∙ ap (λ (fs : List TFunc). marked fs marks n) f))
+    (goes typed s marks rest n (subst (λ (l : List ℕ). Reaching typed s marks l) t r)))
+
+pub less : (typed : Typed) (funcs : List TFunc) (marks marks' : List Bool) (todo rest todo' : List ℕ) (n : ℕ) → funcs ≡ typed.funcs → todo ≡ rest ++ n ∷ [] → marks' ≡ marked funcs marks n → todo' ≡ rest ++ new_calls funcs marks n → calls_left typed.funcs marks' + length todo' < calls_left typed.funcs marks + length todo
+less typed funcs marks marks' todo rest todo' n f t m t' =
+    rw (t, m, t', f) (fewer typed.funcs marks rest n)
+
+pub ended : (typed : Typed) (s : TStmt) (marks : List Bool) (todo : List ℕ) → Reaching typed s marks todo → todo ≡ [] → IsReach typed s marks
+ended typed s marks todo r t = ends typed s marks (subst (λ (l : List ℕ). Reaching typed s marks l) t r)

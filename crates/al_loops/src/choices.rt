@@ -70,6 +70,7 @@ fn body<'a>(loops: &[Loop<'a>], number: u32) -> Option<&'a TStmt>
 }
 
 /// The choices that are tried for a loop by its entry, in the order in which they are tried. They do not depend on its written annotation.
+#[tactic(auto, using(crate::proofs::LoopNodes::loops_in), unfolding(al_rules::specs::Candidates::choices))]
 pub fn candidates(alloc: Global, typed: &Typed, info: &LoopInfo) -> Result<Items<Choice>, AllocError>
     ensures { IfOk result (λ list. list ≡ spec.choices typed.now info.now) }
 {

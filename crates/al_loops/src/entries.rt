@@ -145,6 +145,7 @@ fn entry(alloc: Global, typed: &Typed, locals: &[TLocal], l: Loop<'_>, note: &TN
     }
 }
 
+#[tactic(auto, unfolding(crate::specs::Entries::noted_one))]
 fn add_entry(alloc: Global, typed: &Typed, locals: &[TLocal], l: Loop<'_>, infos: &mut Items<LoopInfo>) -> Result<(), NoteFault>
     ensures { Puts result infos.new (noted_one typed.now locals.now infos.old (loop_of l.entry)) }
 {
@@ -169,6 +170,7 @@ fn add_entries(alloc: Global, typed: &Typed, f: &TFunc, infos: &mut Items<LoopIn
 }
 
 /// The entries of the annotated loops, in source order, or the first fault: loops are taken in source order, and for each the kinds of fault in the order of `NoteKind`. The line is that of the `for`.
+#[tactic(auto, using(crate::proofs::Noted::notes_are))]
 pub fn notes(alloc: Global, typed: &Typed) -> Result<Items<LoopInfo>, NoteFault>
     ensures { Gives result (spec.notes_of typed.now) }
 {

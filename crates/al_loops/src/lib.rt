@@ -13,6 +13,8 @@ mod names;
 mod reach;
 mod reductions;
 mod takes;
+#[cfg(test)]
+mod tests;
 mod updates;
 mod variables;
 
