@@ -71,4 +71,8 @@ module _ {A B : Type 0} (on_kind : TKind-F A B → A) (on_stmt : TStmt-F A B →
   pub on-Continue : fold-TKind A B on_kind on_stmt k.Continue ≡ on_kind TKind-F.Continue
   on-Continue = of_kind TKind-F.Continue _ k.rolls-Continue
 
+  pub on-for_stmt : (s : TStmt) (first : Option TStmt) (test : Option TExpr) (third : Option TStmt) (body : TStmt) (number : Option ℕ) → s.kind ≡ k.For first test third body number → fold-TStmt A B on_kind on_stmt s ≡ on_stmt (record { line = s.line; kind = on_kind (TKind-F.For (option_map (fold-TStmt A B on_kind on_stmt) first) test (option_map (fold-TStmt A B on_kind on_stmt) third) (fold-TStmt A B on_kind on_stmt body) number) })
+  on-for_stmt s first test third body number is =
+      on-stmt s ∙ ap (λ (d : TKind). on_stmt (record { line = s.line; kind = kind d })) is ∙ ap (λ (a : A). on_stmt (record { line = s.line; kind = a })) (on-For first test third body number)
+
 pub ruleset stmt_nodes = (each, on-stmt, on-Empty, on-SetLocal, on-Store, on-UpdateLocal, on-UpdateAt, on-Call, on-Print, on-If, on-While, on-For, on-Block, on-Return, on-Break, on-Continue)
