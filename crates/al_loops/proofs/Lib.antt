@@ -9,3 +9,4 @@ pub mod Paths
 pub mod Reaching
 pub mod Noted
 pub mod Chosen
+pub mod Choosing

@@ -1,6 +1,6 @@
 -- The entries of all loops, one after another.
-use Rattle.std.proofs.Common.{◌≡◌, ◌<◌, ◌+◌, ℕ, List, [], ◌∷◌, ◌++◌, length, drop, get_or, map, Option, Some, None, Result, Ok, Err, refl, sym, ap, ◌∙◌, append_assoc}
-use Rattle.std.proofs.lemmas.List.{append-nil, drop_more}
+use Rattle.std.proofs.Common.{◌≡◌, ◌<◌, ◌+◌, ℕ, List, [], ◌∷◌, ◌++◌, length, drop, get_or, map, Option, Some, None, Result, Ok, Err, refl, sym, ap, subst, ◌∙◌, append_assoc}
+use Rattle.std.proofs.lemmas.List.{append-nil, drop_more, length-map, get_or-map}
 use Rattle.std.specs.Prelude.{slice_get}
 use Rattle.al_core.specs.declared.choices.LoopInfo.{LoopInfo}
 use Rattle.al_core.specs.declared.typed_tree.TFunc.{TFunc}
@@ -11,6 +11,10 @@ use Rattle.al_rules.specs.declared.faults.NoteFault.{NoteFault}
 use Rattle.al_rules.specs.Checks.{and_then}
 use Rattle.al_rules.specs.ForLoops.{ForLoop, for_loops_in}
 use Rattle.al_rules.specs.Notes.{entry_of, with_entry, entries_by, entries, entries_in, notes_of}
+use Rattle.al_rules.specs.declared.faults.NoteFault.TheVariants.{At, Memory}
+use Rattle.al_loops.specs.declared.loops.Loop.{Loop}
+use Rattle.al_loops.specs.Answers.{Gives, Puts}
+use Rattle.al_loops.specs.Found.{loop_of}
 use Rattle.al_loops.specs.Entries.{noted_by, noted_one, noted}
 
 abbrev Told : Type 0
@@ -67,10 +71,33 @@ notes_are typed = sym (noted_in_is typed typed.funcs [] ∙ onto_none (entries_i
 
 -- ---- steps of the loops
 
-pub one_more : (typed : Typed) (locals : List TLocal) (done : List LoopInfo) (ls : List ForLoop) (i : ℕ) (l : ForLoop) → i < length ls → l ≡ get_or ls i l → noted typed locals done (drop i ls) ≡ and_then (noted_one typed locals done l) (λ more. noted typed locals more (drop (i + 1) ls))
-one_more typed locals done ls i l within is =
-    ap (noted typed locals done) (drop_more ls i l within) ∙ ap (λ (x : ForLoop). and_then (noted_one typed locals done x) (λ more. noted typed locals more (drop (i + 1) ls))) (sym is)
+module _ (typed : Typed) (locals : List TLocal) (done : List LoopInfo) (items : List Loop) (i : ℕ) (l : Loop) (within : i < length items) (is : l ≡ get_or items i l) where
+  next_loop : drop i (map loop_of items) ≡ loop_of l ∷ drop (i + 1) (map loop_of items)
+  next_loop =
+      drop_more (map loop_of items) i (loop_of l) (subst (λ (n : ℕ). i < n) (sym (length-map items loop_of)) within)
+      ∙ ap (λ (x : ForLoop). x ∷ drop (i + 1) (map loop_of items)) (get_or-map loop_of items i l (loop_of l) within ∙ ap loop_of (sym is))
 
-pub func_more : (typed : Typed) (done : List LoopInfo) (fs : List TFunc) (i : ℕ) (f : TFunc) → i < length fs → f ≡ get_or fs i f → noted_in typed done (drop i fs) ≡ and_then (noted typed f.locals done (for_loops_in f.body)) (λ more. noted_in typed more (drop (i + 1) fs))
-func_more typed done fs i f within is =
-    ap (noted_in typed done) (drop_more fs i f within) ∙ ap (λ (x : TFunc). and_then (noted typed x.locals done (for_loops_in x.body)) (λ more. noted_in typed more (drop (i + 1) fs))) (sym is)
+  pub noted_next : (more : List LoopInfo) → noted_one typed locals done (loop_of l) ≡ Ok more → noted typed locals done (drop i (map loop_of items)) ≡ noted typed locals more (drop (i + 1) (map loop_of items))
+  noted_next more one = rw (next_loop, one) refl
+
+  pub noted_stops : (fault : NoteFault) → noted_one typed locals done (loop_of l) ≡ Err fault → noted typed locals done (drop i (map loop_of items)) ≡ Err fault
+  noted_stops fault one = rw (next_loop, one) refl
+
+module _ (typed : Typed) (done : List LoopInfo) (funcs : List TFunc) (i : ℕ) (f : TFunc) (all : funcs ≡ typed.funcs) (within : i < length funcs) (is : f ≡ get_or funcs i f) where
+  next_func : drop i typed.funcs ≡ f ∷ drop (i + 1) typed.funcs
+  next_func = rw (← all) (drop_more funcs i f within ∙ ap (λ (x : TFunc). x ∷ drop (i + 1) funcs) (sym is))
+
+  pub funcs_next : (more : List LoopInfo) → noted typed f.locals done (for_loops_in f.body) ≡ Ok more → noted_in typed done (drop i typed.funcs) ≡ noted_in typed more (drop (i + 1) typed.funcs)
+  funcs_next more one = rw (next_func, one) refl
+
+  pub funcs_stop : (fault : NoteFault) → noted typed f.locals done (for_loops_in f.body) ≡ Err fault → noted_in typed done (drop i typed.funcs) ≡ Err fault
+  funcs_stop fault one = rw (next_func, one) refl
+
+-- a fault of a part is that of the whole
+pub puts_fault : (fault : NoteFault) (new : List LoopInfo) (part whole : Told) → ((e : NoteFault) → part ≡ Err e → whole ≡ Err e) → Puts (Err fault) new part → Puts (Err fault) new whole
+puts_fault (At kind line) new part whole h is = h (At kind line) is
+puts_fault Memory new part whole h is = is
+
+pub gives_fault : (fault : NoteFault) (new : List LoopInfo) (part whole : Told) → ((e : NoteFault) → part ≡ Err e → whole ≡ Err e) → Puts (Err fault) new part → Gives (Err fault) whole
+gives_fault (At kind line) new part whole h is = h (At kind line) is
+gives_fault Memory new part whole h is = is

@@ -1,4 +1,4 @@
-ghost use Rattle.std.specs.Prelude.{◌≡◌, IfOk};
+ghost use Rattle.std.specs.Prelude.{◌≡◌, ◌||◌, IfOk};
 ghost use Rattle.std.specs.List.{list_any};
 ghost use Rattle.al_core.specs.Orders as orders;
 ghost use Rattle.al_rules.specs.Bodies as bodies;
@@ -38,7 +38,6 @@ fn stands_in(a: &Red, reds: &[Red]) -> bool
     false
 }
 
-/// Whether a variable stands twice in the list.
 fn stand_twice(reds: &[Red]) -> bool
     ensures { result ≡ spec.stand_twice reds.now }
 {
@@ -61,6 +60,13 @@ fn has_counter_or_bound(info: &LoopInfo, reds: &[Red]) -> bool
         }
     }
     false
+}
+
+/// Whether a variable stands twice, or is the counter or the bound.
+fn is_misnamed(info: &LoopInfo, reds: &[Red]) -> bool
+    ensures { result ≡ (spec.stand_twice reds.now || list_any (λ r. spec.is_counter_or_bound info.now r.at) reds.now) }
+{
+    stand_twice(reds) || has_counter_or_bound(info, reds)
 }
 
 fn has_taken(typed: &Typed, reds: &[Red]) -> bool
@@ -100,7 +106,7 @@ fn wrong(alloc: Global, typed: &Typed, info: &LoopInfo, body: &TStmt) -> Result<
         Ok(Some(NoteKind::BoundChanges))
     } else if leaves::leaves(body) {
         Ok(Some(NoteKind::Leaves))
-    } else if stand_twice(reds) || has_counter_or_bound(info, reds) {
+    } else if is_misnamed(info, reds) {
         Ok(Some(NoteKind::ReductionName))
     } else if has_taken(typed, reds) {
         Ok(Some(NoteKind::ReductionAddress))
