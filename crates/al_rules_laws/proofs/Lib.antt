@@ -8,3 +8,4 @@ pub mod ExpressionsComplete
 pub mod WalkFacts
 pub mod StatementsSound
 pub mod StatementsComplete
+pub mod ProgramsSound
