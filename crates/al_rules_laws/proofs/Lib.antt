@@ -9,3 +9,5 @@ pub mod WalkFacts
 pub mod StatementsSound
 pub mod StatementsComplete
 pub mod ProgramsSound
+pub mod ProgramsComplete
+pub mod TypingLaw

@@ -220,7 +220,7 @@ main_found fs (Some n) k is e = by (slice_get fs n) refl e
 
 -- ---- functions
 
-params_are : (fs : List Field) (s : Progress) → block (with_params s fs).scope ≡ p.params_of fs (block s.scope)
+pub params_are : (fs : List Field) (s : Progress) → block (with_params s fs).scope ≡ p.params_of fs (block s.scope)
 params_are [] s = refl
 params_are (f ∷ fs) s = params_are fs (record s {
   scope = with_binding (record { name = f.name; number = length s.locals; ty = f.ty }) s.scope;
