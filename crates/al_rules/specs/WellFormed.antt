@@ -15,6 +15,7 @@ use Rattle.al_core.specs.declared.typed_tree.TExpr.{TExpr, fold-TExpr, out-TExpr
 use Rattle.al_core.specs.declared.typed_tree.TPlace.{TPlace, fold-TPlace}
 use Rattle.al_core.specs.declared.typed_tree.TExpr.TheOpen.{TExpr-F, TPlace-F}
 use Rattle.al_core.specs.declared.typed_tree.TStmt.{TStmt, fold-TStmt}
+use Rattle.al_core.specs.declared.typed_tree.TKind.{TKind, fold-TKind}
 use Rattle.al_core.specs.declared.typed_tree.TKind.TheOpen.{TKind-F}
 use Rattle.al_core.specs.declared.typed_tree.TLocal.{TLocal}
 use Rattle.al_core.specs.declared.typed_tree.TGlobal.{TGlobal}
@@ -171,6 +172,9 @@ module _ (typed : Typed) (results : List (Option Kind)) (locals : List TLocal) w
   unfoldable pub formed : Option Kind → TStmt → Bool → Bool
   formed result = fold-TStmt (Bool → Bool) (Bool → Bool) (kind_formed result) (λ s. s.kind)
 
+  unfoldable pub formed_in : Option Kind → TKind → Bool → Bool
+  formed_in result = fold-TKind (Bool → Bool) (Bool → Bool) (kind_formed result) (λ s. s.kind)
+
   abbrev pub body_formed : Option Kind → List TStmt → Bool
   body_formed result ss = list_all (λ s. formed result s false) ss
 
@@ -225,6 +229,9 @@ kind_counted func _ line = none_counted
 
 unfoldable pub counted : ℕ → TStmt → Counted
 counted func = fold-TStmt (ℕ → Counted) Counted (kind_counted func) (λ s. s.kind s.line)
+
+unfoldable pub counted_in : ℕ → TKind → ℕ → Counted
+counted_in func = fold-TKind (ℕ → Counted) Counted (kind_counted func) (λ s. s.kind s.line)
 
 abbrev pub counted_all : ℕ → List TStmt → Counted
 counted_all func [] = none_counted
