@@ -372,7 +372,7 @@ module _ (known : Known) (scope : List Binding) where
   built_in_called name (Choose op) _ _ q nv b (more d (more h (more i is'))) other is = absurd cc
 
   -- no built-in function is one of the program
-  no_function_built_in : (name : Name) (k : ℕ) (f : Func) → built_in name ≡ Some (Function k f) → ⊥
+  pub no_function_built_in : (name : Name) (k : ℕ) (f : Func) → built_in name ≡ Some (Function k f) → ⊥
   no_function_built_in name k f is = by (bytes_eq name (codes "input")) (bytes_eq name (codes "inputs")) (bytes_eq name (codes "min")) (bytes_eq name (codes "max")) is
     where
       by : (a b c d : Bool) → (if a then Some Input else (if b then Some Inputs else (if c then Some (Choose Min) else (if d then Some (Choose Max) else None)))) ≡ Some (Function k f) → ⊥

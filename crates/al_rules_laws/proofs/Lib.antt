@@ -11,3 +11,4 @@ pub mod StatementsComplete
 pub mod ProgramsSound
 pub mod ProgramsComplete
 pub mod TypingLaw
+pub mod FormedExpressions
