@@ -13,14 +13,14 @@ use Rattle.al_core.specs.declared.typed_tree.TExpr.TheViews.{roll-TExpr, roll-TP
 use Rattle.al_core.specs.declared.typed_tree.TExpr.TheOpen.{TExpr-F, TPlace-F}
 use Rattle.al_core.specs.declared.typed_tree.TExpr.TheVariants as e
 use Rattle.al_core.specs.declared.typed_tree.TPlace.TheVariants as p
-use Rattle.al_core.specs.declared.typed_tree.TStmt.{TStmt, roll-TStmt, fold-TStmt, fold-roll-TStmt}
-use Rattle.al_core.specs.declared.typed_tree.TKind.{TKind, map-TKind, fold-TKind, fold-roll-TKind}
+use Rattle.al_core.specs.declared.typed_tree.TStmt.{TStmt, out-TStmt, roll-TStmt, out-roll-TStmt, fold-TStmt, fold-roll-TStmt, para-TStmt, para-roll-TStmt}
+use Rattle.al_core.specs.declared.typed_tree.TKind.{TKind, out-TKind, map-TKind, fold-TKind, fold-roll-TKind, para-TKind, para-roll-TKind}
 use Rattle.al_core.specs.declared.typed_tree.TKind.TheViews.{roll-TKind}
-use Rattle.al_core.specs.declared.typed_tree.TKind.TheOpen.{TKind-F}
+use Rattle.al_core.specs.declared.typed_tree.TKind.TheOpen.{TStmt-F, TKind-F}
 use Rattle.al_core.specs.declared.typed_tree.TKind.TheVariants as k
 use Rattle.al_core.specs.declared.typed_tree.TLocal.{TLocal}
 use Rattle.al_core.specs.declared.typed_tree.Typed.{Typed}
-use Rattle.al_rules.specs.WellFormed.{FitsKind, PlaceKind, is_one, is_int_local, local_kind, is_some_kind, may_want, fits_either, fits_want, fit_params, gives, global_kind, operand_fits, expr_fits, place_kind_case, fits, place_kind, call_formed, sets_formed, test_formed, return_formed, if_formed, all_formed, kind_formed, formed, formed_in, Counted, none_counted, both_counted, if_counted, all_counted, for_counted, kind_counted, counted, counted_in, counted_all}
+use Rattle.al_rules.specs.WellFormed.{FitsKind, PlaceKind, is_one, is_int_local, local_kind, is_some_kind, may_want, fits_either, fits_want, fit_params, gives, global_kind, operand_fits, expr_fits, place_kind_case, fits, place_kind, call_formed, sets_formed, test_formed, return_formed, simple_kind, is_simple, FormedStmt, FormedKind, all_formed, kind_formed, formed, formed_in, Counted, none_counted, both_counted, if_counted, all_counted, for_counted, kind_counted, counted, counted_in, counted_all}
 
 module _ (typed : Typed) (results : List (Option Kind)) (locals : List TLocal) where
   of_fits : (x : TExpr-F TExpr TPlace) (d : TExpr) → roll-TExpr x ≡ d → fits typed results locals d ≡ expr_fits typed results locals (map-TExpr TExpr TPlace FitsKind PlaceKind (fits typed results locals) (place_kind typed results locals) x)
@@ -89,17 +89,21 @@ module _ (typed : Typed) (results : List (Option Kind)) (locals : List TLocal) w
   place-Elem q x n = of_place (TPlace-F.Elem q x n) _ (p.rolls-Elem q x n)
 
 module _ (typed : Typed) (results : List (Option Kind)) (locals : List TLocal) (result : Option Kind) where
-  abbrev pub formed_any : Option TStmt → Option (Bool → Bool)
-  formed_any (Some s) = Some (formed typed results locals result s)
-  formed_any None = None
+  abbrev pub formed_any : Option TStmt → Bool → Bool
+  formed_any (Some s) looped = formed typed results locals result s looped
+  formed_any None looped = true
 
-  of_formed : (x : TKind-F TKind TStmt) (d : TKind) → roll-TKind x ≡ d → formed_in typed results locals result d ≡ kind_formed typed results locals result (map-TKind TKind TStmt (Bool → Bool) (Bool → Bool) (formed_in typed results locals result) (formed typed results locals result) x)
+  abbrev pub simple_any : Option TStmt → Bool → Bool
+  simple_any (Some s) looped = is_simple s && formed typed results locals result s looped
+  simple_any None looped = true
+
+  of_formed : (x : TKind-F TKind TStmt) (d : TKind) → roll-TKind x ≡ d → formed_in typed results locals result d ≡ kind_formed typed results locals result (map-TKind TKind TStmt FormedKind FormedStmt (λ d. (d, formed_in typed results locals result d)) (λ s. (s, formed typed results locals result s)) x)
   unfolding formed formed_in
-  of_formed x d is = ap (λ d. fold-TKind (Bool → Bool) (Bool → Bool) (kind_formed typed results locals result) (λ s. s.kind) d) (sym is) ∙ fold-roll-TKind (Bool → Bool) (Bool → Bool) (kind_formed typed results locals result) (λ s. s.kind) x
+  of_formed x d is = ap (λ d. para-TKind (Bool → Bool) (Bool → Bool) (kind_formed typed results locals result) (λ s. s.kind.1) d) (sym is) ∙ para-roll-TKind (Bool → Bool) (Bool → Bool) (kind_formed typed results locals result) (λ s. s.kind.1) x
 
   pub formed-stmt : (line : ℕ) (d : TKind) → formed typed results locals result (roll-TStmt (record { line = line; kind = d })) ≡ formed_in typed results locals result d
   unfolding formed formed_in
-  formed-stmt line d = fold-roll-TStmt (Bool → Bool) (Bool → Bool) (kind_formed typed results locals result) (λ s. s.kind) (record { line = line; kind = d })
+  formed-stmt line d = para-roll-TStmt (Bool → Bool) (Bool → Bool) (kind_formed typed results locals result) (λ s. s.kind.1) (record { line = line; kind = d })
 
   pub formed-Empty : (looped : Bool) → formed_in typed results locals result k.Empty looped ≡ true
   formed-Empty looped = ap (λ (f : Bool → Bool). f looped) (of_formed TKind-F.Empty _ k.rolls-Empty)
@@ -122,14 +126,14 @@ module _ (typed : Typed) (results : List (Option Kind)) (locals : List TLocal) (
   pub formed-Print : (f : List Piece) (xs : List TExpr) (looped : Bool) → formed_in typed results locals result (k.Print f xs) looped ≡ list_all (λ x. fits typed results locals x Int) xs
   formed-Print f xs looped = ap (λ (f : Bool → Bool). f looped) (of_formed (TKind-F.Print f xs) _ (k.rolls-Print f xs))
 
-  pub formed-If : (x : TExpr) (s : TStmt) (t : Option TStmt) (looped : Bool) → formed_in typed results locals result (k.If x s t) looped ≡ (fits_either (fits typed results locals x) && formed typed results locals result s looped && if_formed typed results locals (formed_any t) looped)
+  pub formed-If : (x : TExpr) (s : TStmt) (t : Option TStmt) (looped : Bool) → formed_in typed results locals result (k.If x s t) looped ≡ (fits_either (fits typed results locals x) && formed typed results locals result s looped && formed_any t looped)
   formed-If x s (Some t) looped = ap (λ (f : Bool → Bool). f looped) (of_formed (TKind-F.If x s (Some t)) _ (k.rolls-If x s (Some t)))
   formed-If x s None looped = ap (λ (f : Bool → Bool). f looped) (of_formed (TKind-F.If x s None) _ (k.rolls-If x s None))
 
   pub formed-While : (x : TExpr) (s : TStmt) (looped : Bool) → formed_in typed results locals result (k.While x s) looped ≡ (fits_either (fits typed results locals x) && formed typed results locals result s true)
   formed-While x s looped = ap (λ (f : Bool → Bool). f looped) (of_formed (TKind-F.While x s) _ (k.rolls-While x s))
 
-  pub formed-For : (first : Option TStmt) (test : Option TExpr) (third : Option TStmt) (body : TStmt) (number : Option ℕ) (looped : Bool) → formed_in typed results locals result (k.For first test third body number) looped ≡ (if_formed typed results locals (formed_any first) looped && test_formed typed results locals test && if_formed typed results locals (formed_any third) looped && formed typed results locals result body true)
+  pub formed-For : (first : Option TStmt) (test : Option TExpr) (third : Option TStmt) (body : TStmt) (number : Option ℕ) (looped : Bool) → formed_in typed results locals result (k.For first test third body number) looped ≡ (simple_any first looped && test_formed typed results locals test && simple_any third looped && formed typed results locals result body true)
   formed-For (Some first) test (Some third) body number looped = ap (λ (f : Bool → Bool). f looped) (of_formed (TKind-F.For (Some first) test (Some third) body number) _ (k.rolls-For (Some first) test (Some third) body number))
   formed-For (Some first) test None body number looped = ap (λ (f : Bool → Bool). f looped) (of_formed (TKind-F.For (Some first) test None body number) _ (k.rolls-For (Some first) test None body number))
   formed-For None test (Some third) body number looped = ap (λ (f : Bool → Bool). f looped) (of_formed (TKind-F.For None test (Some third) body number) _ (k.rolls-For None test (Some third) body number))
@@ -144,12 +148,16 @@ module _ (typed : Typed) (results : List (Option Kind)) (locals : List TLocal) (
   pub formed-Continue : (looped : Bool) → formed_in typed results locals result k.Continue looped ≡ looped
   formed-Continue looped = ap (λ (f : Bool → Bool). f looped) (of_formed TKind-F.Continue _ k.rolls-Continue)
 
-  each_formed : (ss : List TStmt) (looped : Bool) → all_formed typed results locals (map (formed typed results locals result) ss) looped ≡ list_all (λ s. formed typed results locals result s looped) ss
+  each_formed : (ss : List TStmt) (looped : Bool) → all_formed typed results locals (map (λ s. (s, formed typed results locals result s)) ss) looped ≡ list_all (λ s. formed typed results locals result s looped) ss
   each_formed [] looped = refl
   each_formed (s ∷ ss) looped = ap (λ b. formed typed results locals result s looped && b) (each_formed ss looped)
 
   pub formed-Block : (ss : List TStmt) (looped : Bool) → formed_in typed results locals result (k.Block ss) looped ≡ list_all (λ s. formed typed results locals result s looped) ss
   formed-Block ss looped = ap (λ (f : Bool → Bool). f looped) (of_formed (TKind-F.Block ss) _ (k.rolls-Block ss)) ∙ each_formed ss looped
+
+pub simple-stmt : (line : ℕ) (d : TKind) → is_simple (roll-TStmt (record { line = line; kind = d })) ≡ simple_kind (out-TKind d)
+unfolding is_simple
+simple-stmt line d = ap (λ (s : TStmt-F TKind TStmt). simple_kind (out-TKind s.kind)) (out-roll-TStmt (record { line = line; kind = d }))
 
 module _ (func : ℕ) where
   abbrev pub counted_any : Option TStmt → Option Counted
