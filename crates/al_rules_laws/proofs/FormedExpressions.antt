@@ -123,7 +123,7 @@ module _ (typed : Typed) (results : List (Option Kind)) (locals : List TLocal) (
   local_fits m a v stands is k e =
       fits-Local typed results locals m k ∙ ap (λ w. is_some_kind (local_kind w) k) stands ∙ ap (λ j. is_one j k) (some_is (sym is ∙ e)) ∙ one_refl k
 
-  may_load : (w : Option Kind) (k : Kind) → ((j : Kind) → w ≡ Some j → j ≡ k) → may_want w k ≡ true
+  pub may_load : (w : Option Kind) (k : Kind) → ((j : Kind) → w ≡ Some j → j ≡ k) → may_want w k ≡ true
   may_load None k h = refl
   may_load (Some j) k h = ap (λ i. is_one i k) (h j refl) ∙ one_refl k
 
@@ -223,6 +223,18 @@ module _ (typed : Typed) (results : List (Option Kind)) (locals : List TLocal) (
   pub fitting_fits : (p : Operand) (a : CType) (v : TExpr) → Good p → o.fitting a p ≡ Ok v → (k : Kind) → kind_of a ≡ Some k → Fit v k
   unfolding o.fitting
   fitting_fits p a v h f = fitting_by p a v h (out-CType a) refl f
+
+  kind_by : (p : Operand) (a : CType) (v : TExpr) (y : CType-F CType) → out-CType a ≡ y → o.fitting_case y p ≡ Ok v → (k : Kind) × (kind_of a ≡ Some k)
+  kind_by p a v CType-F.Int is f = (kind.Int, int_kind a is)
+  kind_by p a v (CType-F.Ptr b) is f = (kind.Ptr, pointer_kind a b is)
+  kind_by p a v CType-F.Void is f = absurd cc
+  kind_by p a v (CType-F.Struct name) is f = absurd cc
+  kind_by p a v (CType-F.Array b m) is f = absurd cc
+
+  -- only an integer or a pointer is fitted
+  pub fitting_kind : (p : Operand) (a : CType) (v : TExpr) → o.fitting a p ≡ Ok v → (k : Kind) × (kind_of a ≡ Some k)
+  unfolding o.fitting
+  fitting_kind p a v f = kind_by p a v (out-CType a) refl f
 
   -- ---- operators
 

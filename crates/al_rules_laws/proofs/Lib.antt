@@ -12,3 +12,4 @@ pub mod ProgramsSound
 pub mod ProgramsComplete
 pub mod TypingLaw
 pub mod FormedExpressions
+pub mod FormedSteps
