@@ -13,3 +13,4 @@ pub mod ProgramsComplete
 pub mod TypingLaw
 pub mod FormedExpressions
 pub mod FormedSteps
+pub mod FormedStatements
