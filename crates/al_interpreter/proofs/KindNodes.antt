@@ -121,14 +121,18 @@ module _ {S : Type 0} (world : World S) (here : Where) (input : List ℤ) (call 
       ∙ ap (option_map (with_line (out-TStmt s).line)) (kind_sets_of (out-TStmt s).kind)
       ∙ line_of (out-TStmt s).line (set_by s)
 
+  of_first : (line : ℕ) (o : Option (ℕ × TExpr)) → option_map (valued_at line) o ≡ option_map (λ (p : ℕ × TExpr × ℕ). (p.0, value world here input call p.1 p.2)) (option_map (λ (p : ℕ × TExpr). (p.0, p.1, line)) o)
+  of_first line None = refl
+  of_first line (Some p) = refl
+
   pub does-Annotated : (first : Option TStmt) (test : Option TExpr) (third : Option TStmt) (body : TStmt) (number line : ℕ) → does_kind world here input call (k.For first test third body (Some number)) line ≡ annotated_loop world here number line (first_sets world here input call first) (bound_of test) (execute world here input call body)
   does-Annotated None test third body number line = of_kind world here input call (TKind-F.For None test third body (Some number)) _ line (k.rolls-For None test third body (Some number))
   does-Annotated (Some first) test third body number line =
       of_kind world here input call (TKind-F.For (Some first) test third body (Some number)) _ line (k.rolls-For (Some first) test third body (Some number))
-      ∙ ap (λ sets. annotated_loop world here number line sets (bound_of test) (execute world here input call body)) (sets-stmt first)
+      ∙ ap (λ sets. annotated_loop world here number line sets (bound_of test) (execute world here input call body)) (sets-stmt first ∙ of_first (out-TStmt first).line (set_by first))
 
 pub ruleset does_nodes = (does-SetLocal, does-Store, does-UpdateLocal, does-UpdateAt, does-Call, does-Print, does-Return)
 
-pub ruleset other_nodes = (does-Empty, does-If, does-While, does-For, does-Block, does-Break, does-Continue, does-Annotated)
+pub ruleset other_nodes = (does-Empty, does-If, does-Block, does-Break, does-Continue, does-Annotated)
 
 pub ruleset does_stmts = (does-stmt)

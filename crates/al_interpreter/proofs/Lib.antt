@@ -4,4 +4,8 @@ pub mod Binds
 pub mod KindNodes
 pub mod Printed
 pub mod Sequences
+pub mod Turning
+pub mod Annotated
+pub mod LoopNodes
+pub mod Calling
 pub mod Zeros

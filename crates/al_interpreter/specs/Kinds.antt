@@ -30,6 +30,11 @@ set_in _ = None
 abbrev pub set_by : TStmt → Option (ℕ × TExpr)
 set_by s = set_in (out-TKind (out-TStmt s).kind)
 
+-- the same of a loop's first part, with the line of that part
+abbrev pub first_set : Option TStmt → Option (ℕ × TExpr × ℕ)
+first_set (Some s) = option_map (λ p. (p.0, p.1, (out-TStmt s).line)) (set_by s)
+first_set None = None
+
 module _ {S : Type 0} (world : World S) (here : Where) (input : List ℤ) (call : ℕ → List Val → At S Val) where
   unfoldable pub kind_part : TKind → PartAt S
   kind_part = fold-TKind (PartAt S) (Part S) (kind_case world here input call) (stmt_case world here input call)
@@ -43,5 +48,4 @@ module _ {S : Type 0} (world : World S) (here : Where) (input : List ℤ) (call 
 
   -- what an annotated loop reads of its first part: the local that it sets, and to what
   abbrev pub first_sets : Option TStmt → Option (ℕ × Act S Val)
-  first_sets (Some s) = option_map (λ p. (p.0, value world here input call p.1 (out-TStmt s).line)) (set_by s)
-  first_sets None = None
+  first_sets first = option_map (λ p. (p.0, value world here input call p.1 p.2)) (first_set first)

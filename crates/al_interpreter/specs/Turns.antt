@@ -1,21 +1,100 @@
--- A turn of a loop.
-use Rattle.std.specs.Prelude.{◌≡◌, ⊤, ℕ, if◌then◌else◌, Result, Ok, Err}
+-- Turns of a loop, and what is done before one.
+use Rattle.std.specs.Prelude.{◌≡◌, ⊤, ℕ, zero, suc, Bool, if◌then◌else◌, List, Option, Some, None, Result, Ok, Err, ℤ}
+use Rattle.std.specs.Int.{int_max}
+use Rattle.al_core.specs.declared.choices.Bound.{Bound}
 use Rattle.al_core.specs.declared.values.Val.{Val}
-use Rattle.al_core.specs.Values.{truth}
-use Rattle.al_core.specs.Action.{State, Answer, Act, pure, spend, ◌>>=◌, ◌>>◌}
-use Rattle.al_core.specs.Meaning.{Flow, Next, then_flow, turn_end}
+use Rattle.al_core.specs.declared.values.Val.TheVariants.{Int}
+use Rattle.al_core.specs.declared.values.Trap.TheVariants as trap
+use Rattle.al_core.specs.World.{World}
+use Rattle.al_core.specs.Values.{truth, number}
+use Rattle.al_core.specs.declared.typed_tree.TExpr.{TExpr}
+use Rattle.al_core.specs.declared.typed_tree.TStmt.{TStmt}
+use Rattle.al_core.specs.declared.typed_tree.TKind.{TKind}
+use Rattle.al_core.specs.declared.typed_tree.TKind.TheOpen.{TKind-F}
+use Rattle.al_core.specs.Action.{State, Answer, Act, At, pure, lift, spend, get_budget, set_local, ◌>>=◌, ◌>>◌}
+use Rattle.al_core.specs.Meaning.{Flow, Next, Where, bound_value, then_flow, turn_end, test_value, execute}
 use Rattle.al_interpreter.specs.declared.fault.Fault.{Fault}
 use Rattle.al_interpreter.specs.declared.fault.Fault.TheVariants as fault
+use Rattle.al_interpreter.specs.declared.flow.Flow.{Flow as Kept}
+use Rattle.al_interpreter.specs.declared.flow.Flow.TheVariants as kept
 use Rattle.al_interpreter.specs.declared.flow.Turn.{Turn}
 use Rattle.al_interpreter.specs.declared.flow.Turn.TheVariants as turn
-use Rattle.al_interpreter.specs.Kinds.{flow_of}
+use Rattle.al_interpreter.specs.declared.loops.Range.{Range}
+use Rattle.al_interpreter.specs.Kinds.{flow_of, any_does}
 
--- a turn, and then what comes again
-abbrev pub one_turn : {S : Type 0} → ℕ → Act S Val → Act S Flow → Act S Flow → Act S Flow → Act S Flow
-one_turn line test body third again =
-    spend line >> (test >>= (λ v. if truth v then body >>= turn_end (third >>= then_flow again) else pure Next))
+-- ---- what comes after a statement
 
--- it goes on to what comes again, or is over, or traps, whatever comes again
+-- in a sequence, what follows
+abbrev pub in_sequence : Kept → Turn
+in_sequence kept.Next = turn.Again
+in_sequence f = turn.Over f
+
+-- in a loop, the next turn, or what follows the loop
+abbrev pub in_loop : Kept → Turn
+in_loop kept.Next = turn.Again
+in_loop kept.Broke = turn.Over kept.Next
+in_loop kept.Continued = turn.Again
+in_loop (kept.Returned v) = turn.Over (kept.Returned v)
+
+-- ---- what comes first, and then whatever comes next
+
+module _ {S : Type 0} where
+  abbrev pub test_first : ℕ → Act S Val → (Bool → Act S Flow) → Act S Flow
+  test_first line test next = spend line >> (test >>= (λ v. next (truth v)))
+
+  abbrev pub trip_first : World S → ℕ → ℕ → ℤ → (Unit {0} → Act S Flow) → Act S Flow
+  trip_first world line counter n next = spend line >> (set_local world counter (Int n) line >>= next)
+
+  abbrev pub range_first : World S → Option (ℕ × Act S Val) → Bound → ℕ → (Option Range → Act S Flow) → Act S Flow
+  range_first world (Some (counter, start)) bound line next =
+      start >>= (λ v. lift line (number v) >>= (λ lo. bound_value world bound line >>= (λ hi. next (Some (record { counter = counter; lo = lo; hi = hi })))))
+  range_first world None bound line next = next None
+
+  -- what comes after an annotated loop's trips
+  abbrev pub loop_end : World S → ℕ → ℕ → ℤ → ℤ → Act S Flow
+  loop_end world line counter lo hi = set_local world counter (Int (int_max lo hi)) line >> pure Next
+
+-- ---- the turns of a loop
+
+-- a loop's test, body and third part
+pub record LoopParts : Type 0 where
+  pub test : Option TExpr
+  pub body : TStmt
+  pub third : Option TStmt
+
+-- those of a kind of statement, where it is a loop
+abbrev pub loop_in : TKind-F TKind TStmt → Option LoopParts
+loop_in (TKind-F.While e a) = Some (record { test = Some e; body = a; third = None })
+loop_in (TKind-F.For first test third body number) = Some (record { test = test; body = body; third = third })
+loop_in _ = None
+
+module _ {S : Type 0} where
+  abbrev pub one_turn : ℕ → Act S Val → Act S Flow → Act S Flow → Act S Flow → Act S Flow
+  one_turn line test body third again =
+      spend line >> (test >>= (λ v. if truth v then body >>= turn_end (third >>= then_flow again) else pure Next))
+
+  -- at most so many turns
+  abbrev pub again_and_again : ℕ → ℕ → (Act S Flow → Act S Flow) → Act S Flow
+  again_and_again zero line one = lift line (Err trap.Steps)
+  again_and_again (suc n) line one = one (again_and_again n line one)
+
+module _ {S : Type 0} (world : World S) (here : Where) (input : List ℤ) (call : ℕ → List Val → At S Val) where
+  abbrev pub loop_turn : Option LoopParts → ℕ → Act S Flow → Act S Flow
+  loop_turn (Some p) line again =
+      one_turn line (test_value world here input call p.test line) (execute world here input call p.body) (any_does world here input call p.third) again
+  loop_turn None line again = pure Next
+
+  -- as many turns as there are steps left, and one more
+  abbrev pub loop_turns : Option LoopParts → ℕ → Act S Flow
+  loop_turns parts line = get_budget >>= (λ n. again_and_again (suc n) line (loop_turn parts line))
+
+-- It leads to what comes next, from an answer, or traps, whatever comes next.
+abbrev pub Leads : {A S : Type 0} → ((A → Act S Flow) → Answer Flow × State S) → Result A Fault → State S → Type 0
+Leads {A = A} {S = S} told (Ok a) new = (next : A → Act S Flow) → told next ≡ next a new
+Leads {A = A} {S = S} told (Err (fault.Trap t line)) new = (next : A → Act S Flow) → told next ≡ (Err (t, line), new)
+Leads {A = A} {S = S} told (Err fault.Memory) new = ⊤
+
+-- It goes on to what comes again, or is over, or traps, whatever comes again.
 abbrev pub Turns : {S : Type 0} → (Act S Flow → Answer Flow × State S) → Result Turn Fault → State S → Type 0
 Turns {S = S} told (Ok turn.Again) new = (again : Act S Flow) → told again ≡ again new
 Turns {S = S} told (Ok (turn.Over f)) new = (again : Act S Flow) → told again ≡ (Ok (flow_of f), new)

@@ -1,12 +1,14 @@
 //! The plain interpreter: it computes what a program means by walking its tree, on one thread.
 #![tactic(auto)]
 
+pub mod blocks;
 pub mod calls;
 pub mod expressions;
 pub mod fault;
 pub mod flow;
 pub mod frame;
 pub mod ground;
+pub mod loops;
 pub mod machine;
 pub mod parts;
 pub mod printing;

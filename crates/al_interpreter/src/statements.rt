@@ -66,9 +66,9 @@ impl<F> Walker<F> {
         requires { Calls (G.world (setting_of on.now)) G.place on.now self.now.room (F.pre self.now.call) (F.post self.now.call) }
         ensures { Does (does_kind (G.world (setting_of on.now)) G.place on.now.input.now (call_to (G.world (setting_of on.now)) G.place on.now.typed.now.funcs on.now.input.now self.now.room) (kind.Store p.now e.now) line m.old) (flowed result) m.new }
     {
-        let at = self.place(on, m, p, line)?;
-        let v = self.value(on, m, e, line)?;
-        m.store(on, at, v, line)?;
+        let to = self.place(on, m, p, line)?;
+        let new = self.value(on, m, e, line)?;
+        m.store(on, to, new, line)?;
         Ok(Flow::Next)
     }
 

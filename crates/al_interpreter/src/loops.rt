@@ -1,0 +1,162 @@
+ghost use Rattle.std.specs.Prelude.{◌≡◌, option_map};
+ghost use Rattle.std.specs.Option.{option_copied};
+ghost use Rattle.al_core.specs.Action.{visit};
+ghost use Rattle.al_core.specs.Values as arithmetic;
+ghost use Rattle.al_core.specs.Loops as loops;
+ghost use Rattle.al_core.specs.Meaning as meaning;
+ghost use Rattle.al_core.specs.Meaning.{call_to};
+ghost use Rattle.al_interpreter.specs.Does.{Does, setting_of};
+ghost use Rattle.al_interpreter.specs.Calls.{Calls};
+ghost use Rattle.al_interpreter.specs.Kinds as spec;
+ghost use Rattle.al_interpreter.specs.Kinds.{flow_of, flowed};
+ghost use Rattle.al_interpreter.specs.Turns.{Leads, test_first, trip_first, range_first, loop_end};
+
+use crate::fault::Fault;
+use crate::flow::Flow;
+use crate::ground::Ground;
+use crate::machine::Machine;
+use crate::parts::set_in;
+use crate::setting::Setting;
+use crate::walker::Walker;
+use al_core::operations::{number, trips, truth};
+use al_core::{TExpr, TStmt, Trap, Val};
+use sqlite_items::{Boxed, Items};
+use std::alloc::Global;
+
+/// The counter of an annotated loop, its start and its bound.
+#[derive(Clone, Copy, Debug, PartialEq, Eq)]
+pub struct Range {
+    pub counter: u32,
+    pub lo: i64,
+    pub hi: i64,
+}
+
+/// What a loop's first part sets, to what, and the line of that part.
+fn first_set(first: &Option<Boxed<TStmt>>) -> Option<(u32, &TExpr, u32)>
+    ensures { option_map (λ p. (p.0, p.1.now, p.2)) result ≡ spec.first_set first.now }
+{
+    let first = first.as_ref()?.get();
+    let (counter, e) = set_in(&first.kind)?;
+    Some((counter, e, first.line))
+}
+
+impl Range {
+    /// How many trips it makes.
+    pub fn trips(self) -> Result<u64, Trap>
+        ensures { result ≡ arithmetic.trips self.lo self.hi }
+    {
+        trips(self.lo, self.hi)
+    }
+}
+
+impl<G: Ground> Machine<G> {
+    /// Hands an annotated loop on.
+    pub fn hand_on(
+        &mut self,
+        alloc: Global,
+        on: &Setting<'_>,
+        number: u32,
+        range: Range,
+    ) -> Result<(), Fault>
+        ensures { Does (visit (G.world (setting_of on.now)) number range.lo range.hi self.old) result self.new }
+    {
+        self.visit(alloc, on, number, range.lo, range.hi)
+    }
+
+    /// Begins a trip of an annotated loop: it spends a step and sets the counter.
+    #[tactic(auto, unfolding(al_core::specs::Action::bind))]
+    pub fn begin_trip(
+        &mut self,
+        on: &Setting<'_>,
+        counter: u32,
+        n: i64,
+        line: u32,
+    ) -> Result<(), Fault>
+        ensures { Leads (λ next. trip_first (G.world (setting_of on.now)) line counter n next self.old) result self.new }
+    {
+        self.spend(line)?;
+        self.set_local(on, counter, Val::Int(n), line)
+    }
+
+    /// What comes after an annotated loop's trips: the counter ends at the greater of its start and its bound.
+    #[tactic(auto, unfolding(al_core::specs::Action::bind, al_core::specs::Action::pure))]
+    pub fn past_loop(
+        &mut self,
+        on: &Setting<'_>,
+        flow: Flow,
+        range: Range,
+        line: u32,
+    ) -> Result<Flow, Fault>
+        ensures { Does (meaning.then_flow (loop_end (G.world (setting_of on.now)) line range.counter range.lo range.hi) (flow_of flow) self.old) (flowed result) self.new }
+    {
+        match flow {
+            Flow::Next => {
+                let end = Val::Int(range.lo.max(range.hi));
+                self.set_local(on, range.counter, end, line)?;
+                Ok(Flow::Next)
+            }
+            Flow::Broke | Flow::Continued | Flow::Returned(_) => Ok(flow),
+        }
+    }
+}
+
+impl<F> Walker<F> {
+    /// Spends a step and tests whether a loop goes on.
+    #[tactic(auto, unfolding(al_core::specs::Action::bind, al_core::specs::Action::pure))]
+    pub fn holds<G: Ground>(
+        &self,
+        on: &Setting<'_>,
+        m: &mut Machine<G>,
+        test: Option<&TExpr>,
+        line: u32,
+    ) -> Result<bool, Fault>
+    where
+        F: Fn(
+            Global,
+            &Setting<'_>,
+            u32,
+            &mut Machine<G>,
+            u32,
+            Items<Val>,
+            u32,
+        ) -> Result<Val, Fault>,
+        requires { Calls (G.world (setting_of on.now)) G.place on.now self.now.room (F.pre self.now.call) (F.post self.now.call) }
+        ensures { Leads (λ next. test_first line (meaning.test_value (G.world (setting_of on.now)) G.place on.now.input.now (call_to (G.world (setting_of on.now)) G.place on.now.typed.now.funcs on.now.input.now self.now.room) (option_copied test.entry) line) next m.old) result m.new }
+    {
+        m.spend(line)?;
+        let v = self.test(on, m, test, line)?;
+        Ok(truth(v))
+    }
+
+    /// Evaluates the start of an annotated loop and then reads its bound. A loop whose first part sets no local has none.
+    #[tactic(auto, unfolding(al_core::specs::Action::bind, al_core::specs::Action::pure))]
+    pub fn range<G: Ground>(
+        &self,
+        on: &Setting<'_>,
+        m: &mut Machine<G>,
+        first: &Option<Boxed<TStmt>>,
+        test: &Option<TExpr>,
+        line: u32,
+    ) -> Result<Option<Range>, Fault>
+    where
+        F: Fn(
+            Global,
+            &Setting<'_>,
+            u32,
+            &mut Machine<G>,
+            u32,
+            Items<Val>,
+            u32,
+        ) -> Result<Val, Fault>,
+        requires { Calls (G.world (setting_of on.now)) G.place on.now self.now.room (F.pre self.now.call) (F.post self.now.call) }
+        ensures { Leads (λ next. range_first (G.world (setting_of on.now)) (spec.first_sets (G.world (setting_of on.now)) G.place on.now.input.now (call_to (G.world (setting_of on.now)) G.place on.now.typed.now.funcs on.now.input.now self.now.room) first.now) (loops.bound_of test.now) line next m.old) result m.new }
+    {
+        let Some((counter, e, at)) = first_set(first) else {
+            return Ok(None);
+        };
+        let v = self.value(on, m, e, at)?;
+        let lo = m.lift(line, number(v))?;
+        let hi = self.bound(on, m, test, line)?;
+        Ok(Some(Range { counter, lo, hi }))
+    }
+}
