@@ -12,7 +12,7 @@ use Rattle.al_cli.specs.First.{Spot, Part, ◌>>=◌, past, after_word, counted,
 use Rattle.al_cli.specs.FirstRun.{printed, printed_by, IsSum, number as is_number, plus, IsPrint, print, IsFirst, main_of_prints}
 use Rattle.al_cli.specs.declared.first_fault.FirstFault.{FirstFault}
 use Rattle.al_cli.specs.Spots.{Gives}
-use Rattle.al_cli.specs.Shown.{finished}
+use Rattle.al_cli.specs.Shown.{ran}
 use Rattle.al_cli.proofs.Runs.{IsRunOf, prints_are_printed}
 
 bind_some : {A B : Type 0} (r : Option A) (f : A → Option B) (y : B) → (r >>= f) ≡ Some y → (x : A) × (r ≡ Some x) × (f x ≡ Some y)
@@ -114,7 +114,7 @@ tree_is_first source t h =
 
 -- ---- what such a tree prints
 
-pub first_runs : (t : Typed) → IsFirst t → IsRunOf (printed_by t.funcs) (finished t)
+pub first_runs : (t : Typed) → IsFirst t → IsRunOf (printed_by t.funcs) (ran t)
 first_runs _ (main_of_prints line body s all few) = prints_are_printed line body s all few
 
 pub gives_first : (source : List ℕ) (r : Result Typed FirstFault) → Gives (λ t. t) r (first_tree source) → IfOk r IsFirst

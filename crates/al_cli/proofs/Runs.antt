@@ -28,7 +28,7 @@ use Rattle.al_core.specs.Run.{Setting, Whole, outside, start, whole_run}
 use Rattle.al_core.specs.Report.{report, by_choices}
 use Rattle.al_cli.specs.First.{Spot, printing, pieces, arguments_of, only_main, most_bytes}
 use Rattle.al_cli.specs.FirstRun.{worth, worth_case, printed, IsSum, number, plus, IsPrint, print}
-use Rattle.al_cli.specs.Shown.{finished, default_sizes, own_choices}
+use Rattle.al_cli.specs.Shown.{ran, default_sizes, own_choices}
 
 -- ---- what a sum is worth
 
@@ -126,7 +126,7 @@ main_runs g f calls n line s all h =
 abbrev pub IsRunOf : List ℕ → Report → Type 0
 IsRunOf bytes r = (r.output ≡ bytes) × (r.ending ≡ ending.Done)
 
-pub prints_are_printed : (line : ℕ) (body : List TStmt) (s : Spot) → AllByRecursion IsPrint body → length body ≤ most_bytes → IsRunOf (flat_map printed body) (finished (only_main line body s))
+pub prints_are_printed : (line : ℕ) (body : List TStmt) (s : Spot) → AllByRecursion IsPrint body → length body ≤ most_bytes → IsRunOf (flat_map printed body) (ran (only_main line body s))
 unfolding report whole_run access.print
 prints_are_printed line body s all few =
     let t = only_main line body s in

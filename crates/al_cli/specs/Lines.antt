@@ -1,7 +1,7 @@
 -- The lines that are written to standard error.
 use Rattle.std.specs.Prelude.{ℕ, List, [], ◌∷◌, ◌++◌, slice_get, unwrap_or, codes}
 use Rattle.al_cli.specs.declared.words.WordFault.{WordFault}
-use Rattle.al_cli.specs.declared.words.WordFault.TheVariants.{NoCommand, BadCommand, Unknown, Allocations}
+use Rattle.al_cli.specs.declared.words.WordFault.TheVariants.{NoCommand, BadCommand, Unknown, Names}
 
 -- `alter: `, a text round a name, and a line feed
 abbrev pub line : List ℕ → List ℕ → List ℕ → List ℕ
@@ -14,7 +14,7 @@ abbrev pub word_line : List (List ℕ) → WordFault → List ℕ
 word_line words NoCommand = line (codes "no command") [] []
 word_line words (BadCommand at) = line (codes "unknown command: ") (word_at words at) []
 word_line words (Unknown at) = line (codes "unknown option: ") (word_at words at) []
-word_line words Allocations = line (codes "wrong number of names") [] []
+word_line words Names = line (codes "wrong number of names") [] []
 
 abbrev pub unread_line : List ℕ → List ℕ
 unread_line name = line (codes "cannot read ") name []

@@ -30,14 +30,14 @@ default_sizes = record { lanes = 4; chunk = 16; iter_steps = 1000000; serial_ste
 abbrev pub own_choices : Typed → List (Option Choice)
 own_choices typed = map (λ (note : TNote). Some note.own) typed.loops
 
-abbrev pub finished : Typed → Report
-finished typed = report typed [] default_sizes (own_choices typed)
+abbrev pub ran : Typed → Report
+ran typed = report typed [] default_sizes (own_choices typed)
 
 -- ---- the command
 
 -- A source that has not the form that is read so far is refused.
 abbrev pub of_tree : List ℕ → Option Typed → Answer
-of_tree name (Some typed) = done (finished typed).output
+of_tree name (Some typed) = done (ran typed).output
 of_tree name None = failed 1 (refused_line name)
 
 abbrev pub of_source : List ℕ → List ℕ → Answer

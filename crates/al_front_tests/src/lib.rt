@@ -1,0 +1,9 @@
+//! Tests of the front end as a whole: from sources to trees.
+#![tactic(auto)]
+
+#[cfg(test)]
+mod programs;
+#[cfg(test)]
+mod sources;
+#[cfg(test)]
+mod tests;

@@ -1,0 +1,93 @@
+ghost use Rattle.std.specs.Prelude.{◌≡◌, sum};
+ghost use Rattle.std.specs.List.{list_any};
+ghost use Rattle.al_source.specs.declared.source_tree.Item.TheVariants as item;
+ghost use Rattle.al_rules.specs.Layouts as spec;
+ghost use Rattle.al_layout.specs.Steps.{Gives, Finds};
+
+use crate::types::{holds, words};
+use al_rules::{Layout, LayoutFault, StructLayout};
+use al_source::{Field, GlobalDef, Item, Program, StructDef};
+use sqlite_items::Items;
+use std::alloc::Global;
+
+const MOST_WORDS: u32 = 4_194_304;
+
+fn any_holds(name: &[u8], fields: &[Field]) -> bool
+    ensures { result ≡ list_any (λ f. spec.holds name.now f.ty) fields.now }
+{
+    fields.iter().any(|f| holds(name, &f.ty))
+}
+
+fn struct_layout(
+    alloc: Global,
+    structs: &[StructLayout],
+    s: &StructDef,
+) -> Result<StructLayout, LayoutFault>
+    ensures { Finds (spec.too_large (spec.words_of_fields structs.now s.now.fields) s.now.line) (λ l. l ≡ spec.struct_layout structs.now s.now) result }
+{
+    let mut offsets = Items::new(alloc);
+    let mut at: u32 = 0;
+    let mut fields = s.fields.as_slice();
+    while let [field, rest @ ..] = fields {
+        offsets.push(at)?;
+        at = at.saturating_add(words(structs, &field.ty));
+        if MOST_WORDS < at {
+            return Err(LayoutFault::TooLarge(s.line));
+        }
+        fields = rest;
+    }
+    Ok(StructLayout {
+        name: Items::from_slice(alloc, s.name.as_slice())?,
+        words: at,
+        offsets,
+    })
+}
+
+fn add_struct(alloc: Global, done: &mut Layout, s: &StructDef) -> Result<(), LayoutFault>
+    ensures { Finds (spec.layout_fault_at done.old (item.Struct s.now)) (λ _. done.new ≡ spec.with_item done.old (item.Struct s.now)) result }
+{
+    if any_holds(s.name.as_slice(), s.fields.as_slice()) {
+        return Err(LayoutFault::SelfHolding(s.line));
+    }
+    let known = struct_layout(alloc, done.structs.as_slice(), s)?;
+    done.structs.push(known)?;
+    Ok(())
+}
+
+/// `total` is the words of all globals so far, and then with this one.
+fn add_global(done: &mut Layout, total: u32, g: &GlobalDef) -> Result<u32, LayoutFault>
+    requires { total ≡ sum done.old.globals }
+    ensures { Finds (spec.layout_fault_at done.old (item.Global g.now)) (λ all. (done.new ≡ spec.with_item done.old (item.Global g.now)) × (all ≡ sum done.new.globals)) result }
+{
+    let words = words(done.structs.as_slice(), &g.ty);
+    let total = total.saturating_add(words);
+    if MOST_WORDS < total {
+        return Err(LayoutFault::TooLarge(g.line));
+    }
+    done.globals.push(words)?;
+    Ok(total)
+}
+
+/// The sizes of a program whose structs and globals have at most 4,194,304 words each, or else its first fault in source order.
+///
+/// A struct by value is known where an earlier item defines it (C99 6.7.2.3p1). One that is not known has no words.
+#[tactic(auto, unfolding(al_rules::specs::Layouts::layout_of))]
+pub fn layout(alloc: Global, program: &Program) -> Result<Layout, LayoutFault>
+    ensures { Gives (spec.layout_of program.now) result }
+{
+    let mut done = Layout {
+        structs: Items::new(alloc),
+        globals: Items::new(alloc),
+    };
+    let mut total = 0;
+    let mut items = program.items.as_slice();
+    while let [item, rest @ ..] = items {
+        match item {
+            Item::Struct(s) => add_struct(alloc, &mut done, s)?,
+            Item::Global(g) => total = add_global(&mut done, total, g)?,
+            Item::Func(_) => {}
+        }
+        items = rest;
+    }
+    Ok(done)
+}

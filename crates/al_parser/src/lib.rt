@@ -1,0 +1,11 @@
+//! The parser: from tokens to the source tree, exactly as the grammar derives it.
+#![tactic(auto)]
+
+mod items;
+mod program;
+mod statements;
+#[cfg(test)]
+mod tests;
+
+pub use al_source::ParseFault;
+pub use program::parse;

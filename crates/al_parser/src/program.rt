@@ -1,0 +1,48 @@
+//! Programs.
+
+ghost use Rattle.std.specs.Prelude.{◌≡◌, ◌<◌, length, OnOk, IfOk, MatchResult, []};
+ghost use Rattle.al_source.specs.declared.source_tree.Program.{Program};
+ghost use Rattle.al_source.specs.declared.faults.ParseFault.TheVariants.{Memory};
+ghost use Rattle.al_grammar.specs.Programs.{Derives};
+ghost use Rattle.al_grammar.specs.ProgramParser as spec;
+ghost use Rattle.al_expressions.specs.Answers.{Answers};
+
+use crate::items::next_item;
+use al_expressions::Cursor;
+use al_source::{Item, ParseFault, Program, Token};
+use sqlite_items::Items;
+use std::alloc::Global;
+
+/// The items, to the last token.
+#[tactic(auto, using(al_grammar::proofs::Loops::items_end, al_grammar::proofs::Loops::items_more, crate::proofs::Taken::items_shrink))]
+pub fn all_items(cursor: &mut Cursor<'_>) -> Result<Items<Item>, ParseFault>
+    ensures { Answers (spec.all_items cursor.old.rest.now) result cursor.new.rest.now }
+{
+    let mut found = Items::new(cursor.alloc);
+    while !cursor.rest.is_empty() {
+        found = next_item(cursor, found)?;
+    }
+    Ok(found)
+}
+
+/// The program that the tokens derive.
+///
+/// # Errors
+///
+/// `Syntax` exactly where they derive none, and `Memory`.
+pub fn parse(alloc: Global, tokens: &[Token]) -> Result<Program, ParseFault>
+    // What is found is derived.
+    ensures derived { IfOk result (λ p. Derives tokens.now p) }
+    // What is derived is found, unless memory runs out.
+    ensures found { (p : Program) → Derives tokens.now p → MatchResult result (λ q. q ≡ p) (λ e. e ≡ Memory) }
+{
+    let mut cursor = Cursor {
+        alloc,
+        rest: tokens,
+        room: 0,
+    };
+    match all_items(&mut cursor) {
+        Ok(items) => Ok(Program { items }),
+        Err(fault) => Err(fault),
+    }
+}

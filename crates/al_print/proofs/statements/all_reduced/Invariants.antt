@@ -1,0 +1,11 @@
+use Rattle.std.proofs.Common.{◌≡◌, length}
+use Rattle.al_print.specs.Tokens.{all_reduced}
+use Rattle.al_print.specs.Writing.{all_written}
+use Rattle.al_print.proofs.statements.all_reduced.Given as goal
+
+-- what is written and what is left give the whole
+abbrev pub invariant-loop-left : goal.invariant-loop-left
+invariant-loop-left l = all_written l.w (all_reduced l.left) ≡ all_written l.initial.w (all_reduced l.initial.left)
+
+abbrev pub decreases-loop-left : goal.decreases-loop-left
+decreases-loop-left l = length l.left

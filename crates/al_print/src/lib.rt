@@ -1,0 +1,14 @@
+//! The canonical text of a source tree.
+#![tactic(auto)]
+
+mod expressions;
+mod program;
+mod spellings;
+mod statements;
+mod tables;
+#[cfg(test)]
+mod tests;
+mod types;
+mod writer;
+
+pub use program::print_program;

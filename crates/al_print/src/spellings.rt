@@ -1,0 +1,105 @@
+//! The bytes of the reserved words and of the marks.
+
+ghost use Rattle.std.specs.Prelude.{◌≡◌};
+ghost use Rattle.al_grammar.specs.Words as spec;
+
+use al_source::{Key, Mark};
+
+pub fn key_text(key: Key) -> &'static [u8]
+    ensures { result.now ≡ spec.key_text key }
+{
+    match key {
+        Key::Auto => b"auto",
+        Key::Break => b"break",
+        Key::Case => b"case",
+        Key::Char => b"char",
+        Key::Const => b"const",
+        Key::Continue => b"continue",
+        Key::Default => b"default",
+        Key::Do => b"do",
+        Key::Double => b"double",
+        Key::Else => b"else",
+        Key::Enum => b"enum",
+        Key::Extern => b"extern",
+        Key::Float => b"float",
+        Key::For => b"for",
+        Key::Goto => b"goto",
+        Key::If => b"if",
+        Key::Inline => b"inline",
+        Key::Int => b"int",
+        Key::Long => b"long",
+        Key::Register => b"register",
+        Key::Restrict => b"restrict",
+        Key::Return => b"return",
+        Key::Short => b"short",
+        Key::Signed => b"signed",
+        Key::Sizeof => b"sizeof",
+        Key::Static => b"static",
+        Key::Struct => b"struct",
+        Key::Switch => b"switch",
+        Key::Typedef => b"typedef",
+        Key::Union => b"union",
+        Key::Unsigned => b"unsigned",
+        Key::Void => b"void",
+        Key::Volatile => b"volatile",
+        Key::While => b"while",
+        Key::Bool => b"_Bool",
+        Key::Complex => b"_Complex",
+        Key::Imaginary => b"_Imaginary",
+        Key::Null => b"NULL",
+        Key::Printf => b"printf",
+        Key::Calloc => b"calloc",
+        Key::Free => b"free",
+    }
+}
+
+pub fn mark_text(mark: Mark) -> &'static [u8]
+    ensures { result.now ≡ spec.mark_text mark }
+{
+    match mark {
+        Mark::LeftParen => b"(",
+        Mark::RightParen => b")",
+        Mark::LeftBracket => b"[",
+        Mark::RightBracket => b"]",
+        Mark::LeftBrace => b"{",
+        Mark::RightBrace => b"}",
+        Mark::Semicolon => b";",
+        Mark::Comma => b",",
+        Mark::Dot => b".",
+        Mark::Colon => b":",
+        Mark::Arrow => b"->",
+        Mark::Assign => b"=",
+        Mark::PlusAssign => b"+=",
+        Mark::MinusAssign => b"-=",
+        Mark::StarAssign => b"*=",
+        Mark::SlashAssign => b"/=",
+        Mark::PercentAssign => b"%=",
+        Mark::AmpersandAssign => b"&=",
+        Mark::PipeAssign => b"|=",
+        Mark::CaretAssign => b"^=",
+        Mark::ShiftLeftAssign => b"<<=",
+        Mark::ShiftRightAssign => b">>=",
+        Mark::Increment => b"++",
+        Mark::Decrement => b"--",
+        Mark::Plus => b"+",
+        Mark::Minus => b"-",
+        Mark::Star => b"*",
+        Mark::Slash => b"/",
+        Mark::Percent => b"%",
+        Mark::Tilde => b"~",
+        Mark::Bang => b"!",
+        Mark::Ampersand => b"&",
+        Mark::Pipe => b"|",
+        Mark::Caret => b"^",
+        Mark::AndAnd => b"&&",
+        Mark::OrOr => b"||",
+        Mark::ShiftLeft => b"<<",
+        Mark::ShiftRight => b">>",
+        Mark::Less => b"<",
+        Mark::LessEqual => b"<=",
+        Mark::Greater => b">",
+        Mark::GreaterEqual => b">=",
+        Mark::EqualEqual => b"==",
+        Mark::NotEqual => b"!=",
+    }
+}

@@ -1,0 +1,13 @@
+pub mod LayoutFacts
+pub mod Logic
+pub mod SourceInduction
+pub mod TypeFacts
+pub mod NameFacts
+pub mod ExpressionsSound
+pub mod ExpressionsComplete
+pub mod WalkFacts
+pub mod StatementsSound
+pub mod StatementsComplete
+pub mod ProgramsSound
+pub mod ProgramsComplete
+pub mod TypingLaw

@@ -1,0 +1,5 @@
+//! Laws over the static rules. A law stands on a function that does nothing.
+#![tactic(auto)]
+
+pub mod layouts;
+pub mod typing;
