@@ -1,0 +1,3 @@
+mod Options
+mod Comings
+pub mod Outcomes

@@ -1,0 +1,5 @@
+pub mod Seen
+pub mod Lines
+pub mod Plans
+pub mod Outcome
+pub mod Tried

@@ -1,0 +1,109 @@
+ghost use Rattle.std.specs.Prelude.{◌≡◌, IfSome, ◌≤◌};
+ghost use Rattle.al_words.specs.Words as spec;
+
+use crate::range::number_in;
+use al_core::Knobs;
+
+/// An option, which sets a number of a run.
+#[derive(Clone, Copy, Debug, PartialEq, Eq)]
+pub enum Knob {
+    Lanes,
+    Chunk,
+    IterSteps,
+    Steps,
+}
+
+/// The values that were given to the options so far.
+#[derive(Clone, Copy, Debug, PartialEq, Eq)]
+pub struct Given {
+    pub lanes: Option<u32>,
+    pub chunk: Option<u32>,
+    pub iter_steps: Option<u32>,
+    pub steps: Option<u32>,
+}
+
+impl Knob {
+    /// The option that a word names.
+    pub fn of(word: &[u8]) -> Option<Knob>
+        ensures { result ≡ spec.knob_of word.now }
+    {
+        if word == b"--lanes" {
+            Some(Knob::Lanes)
+        } else if word == b"--chunk" {
+            Some(Knob::Chunk)
+        } else if word == b"--iter-steps" {
+            Some(Knob::IterSteps)
+        } else if word == b"--steps" {
+            Some(Knob::Steps)
+        } else {
+            None
+        }
+    }
+
+    /// The greatest number that it takes; the least is 1.
+    pub fn greatest(self) -> u32
+        ensures { result ≡ spec.greatest self }
+    {
+        match self {
+            Knob::Lanes => 64,
+            Knob::Chunk => 65536,
+            Knob::IterSteps | Knob::Steps => 1000000000,
+        }
+    }
+
+    /// The number that a word gives to it.
+    pub fn value(self, word: &[u8]) -> Option<u32>
+        ensures { result ≡ spec.value_of self word.now }
+    {
+        number_in(1, self.greatest(), word)
+    }
+}
+
+impl Given {
+    pub fn nothing() -> Given
+        ensures { result ≡ spec.nothing }
+    {
+        Given {
+            lanes: None,
+            chunk: None,
+            iter_steps: None,
+            steps: None,
+        }
+    }
+
+    /// The value that was given to an option.
+    pub fn get(&self, knob: Knob) -> Option<u32>
+        ensures { result ≡ spec.given_to self.now knob }
+    {
+        match knob {
+            Knob::Lanes => self.lanes,
+            Knob::Chunk => self.chunk,
+            Knob::IterSteps => self.iter_steps,
+            Knob::Steps => self.steps,
+        }
+    }
+
+    pub fn set(&mut self, knob: Knob, n: u32)
+        ensures { self.new ≡ spec.give self.old knob n }
+    {
+        match knob {
+            Knob::Lanes => self.lanes = Some(n),
+            Knob::Chunk => self.chunk = Some(n),
+            Knob::IterSteps => self.iter_steps = Some(n),
+            Knob::Steps => self.steps = Some(n),
+        }
+    }
+
+    /// The numbers of a run: those that were given, and else the defaults.
+    pub fn knobs(&self) -> Knobs
+        ensures { result ≡ spec.knobs_of self.now }
+    {
+        Knobs {
+            lanes: self.lanes.unwrap_or(4),
+            chunk: self.chunk.unwrap_or(16),
+            threads: 4,
+            iter_steps: u64::from(self.iter_steps.unwrap_or(1000000)),
+            serial_steps: u64::from(self.steps.unwrap_or(10000000)),
+        }
+    }
+}

@@ -1,0 +1,73 @@
+ghost use Rattle.std.specs.Prelude.{◌≡◌, map, string_bytes};
+ghost use Rattle.al_words.specs.Words as spec;
+
+use crate::command::{Command, Job, WordFault};
+use crate::range::number_in;
+use crate::verb::Verb;
+use crate::walk::Walk;
+
+/// The command that the words after the program's name ask for, or the first fault in them. It takes no memory.
+pub fn read_words(words: &[String]) -> Result<Command, WordFault>
+    ensures exact { result ≡ spec.command (map string_bytes words.now) }
+{
+    let Some((first, rest)) = words.split_first() else {
+        return Err(WordFault::NoCommand);
+    };
+    let Some(verb) = Verb::of(first.as_str()) else {
+        return Err(WordFault::BadCommand(0));
+    };
+    let walk = walk(verb, rest)?;
+    if let Some(waiting) = walk.waiting {
+        return Err(WordFault::NoValue(waiting.at));
+    }
+    if !verb.takes(walk.count) {
+        return Err(WordFault::Names);
+    }
+    let job = Job {
+        names: walk.names,
+        count: walk.count as u32,
+        knobs: walk.given.knobs(),
+    };
+    match verb {
+        Verb::Run => Ok(Command::Run(job)),
+        Verb::Plain => Ok(Command::Plain(job)),
+        Verb::Trace => Ok(Command::Trace(job)),
+        Verb::Check => Ok(Command::Check(job)),
+        Verb::Demo => demo(words, job),
+    }
+}
+
+/// What the words after the first say.
+fn walk(verb: Verb, rest: &[String]) -> Result<Walk, WordFault>
+    ensures { result ≡ spec.walked (spec.begin verb) 1 (map string_bytes rest.now) }
+{
+    let mut walk = Walk::begin(verb);
+    for (i, word) in rest.iter().enumerate() {
+        walk.take(i as u64 + 1, word.as_bytes())?;
+    }
+    Ok(walk)
+}
+
+/// The two numbers of the generated program.
+fn demo(words: &[String], job: Job) -> Result<Command, WordFault>
+    ensures { result ≡ spec.demo (map string_bytes words.now) job }
+{
+    let [start_at, size_at, ..] = job.names;
+    let Some(start) = number_at(words, start_at, 0, 2147483647) else {
+        return Err(WordFault::BadNumber(start_at));
+    };
+    let Some(size) = number_at(words, size_at, 1, 100000) else {
+        return Err(WordFault::BadNumber(size_at));
+    };
+    Ok(Command::Demo(start, size, job.knobs))
+}
+
+/// The number that the word at a place is, where it is one of the range.
+fn number_at(words: &[String], at: u32, least: u32, most: u32) -> Option<u32>
+    ensures { result ≡ spec.number_in least most (spec.word_at (map string_bytes words.now) at) }
+{
+    match words.get(at as usize) {
+        Some(word) => number_in(least, most, word.as_bytes()),
+        None => number_in(least, most, b""),
+    }
+}
