@@ -3,7 +3,7 @@ use Rattle.std.specs.Prelude.{◌≡◌, ℕ, ◌+◌, if◌then◌else◌, ◌=
 use Rattle.std.specs.List.{starts_with}
 use Rattle.std.specs.Str.{bytes_eq}
 use Rattle.al_core.specs.declared.choices.Knobs.{Knobs}
-use Rattle.al_text.specs.Numeral.{numeral}
+use Rattle.al_text.specs.Digits.{numeral}
 use Rattle.al_words.specs.declared.command.Command.{Command}
 use Rattle.al_words.specs.declared.command.Command.TheVariants.{Run, Plain, Trace, Check, Demo}
 use Rattle.al_words.specs.declared.command.Job.{Job}

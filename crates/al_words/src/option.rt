@@ -24,19 +24,15 @@ pub struct Given {
 
 impl Knob {
     /// The option that a word names.
-    pub fn of(word: &[u8]) -> Option<Knob>
+    pub fn of(word: &str) -> Option<Knob>
         ensures { result ≡ spec.knob_of word.now }
     {
-        if word == b"--lanes" {
-            Some(Knob::Lanes)
-        } else if word == b"--chunk" {
-            Some(Knob::Chunk)
-        } else if word == b"--iter-steps" {
-            Some(Knob::IterSteps)
-        } else if word == b"--steps" {
-            Some(Knob::Steps)
-        } else {
-            None
+        match word {
+            "--lanes" => Some(Knob::Lanes),
+            "--chunk" => Some(Knob::Chunk),
+            "--iter-steps" => Some(Knob::IterSteps),
+            "--steps" => Some(Knob::Steps),
+            _ => None,
         }
     }
 
@@ -52,10 +48,10 @@ impl Knob {
     }
 
     /// The number that a word gives to it.
-    pub fn value(self, word: &[u8]) -> Option<u32>
+    pub fn value(self, word: &str) -> Option<u32>
         ensures { result ≡ spec.value_of self word.now }
     {
-        number_in(1, self.greatest(), word)
+        number_in(1, self.greatest(), word.as_bytes())
     }
 }
 

@@ -16,11 +16,20 @@ pub fn read_words(words: &[String]) -> Result<Command, WordFault>
     let Some(verb) = Verb::of(first.as_str()) else {
         return Err(WordFault::BadCommand(0));
     };
-    let walk = walk(verb, rest)?;
+    match walk(verb, rest) {
+        Ok(walk) => ended(words, &walk),
+        Err(fault) => Err(fault),
+    }
+}
+
+/// The command of a walk over all words.
+fn ended(words: &[String], walk: &Walk) -> Result<Command, WordFault>
+    ensures { result ≡ spec.ended (map string_bytes words.now) walk.now walk.now.waiting }
+{
     if let Some(waiting) = walk.waiting {
         return Err(WordFault::NoValue(waiting.at));
     }
-    if !verb.takes(walk.count) {
+    if !walk.verb.takes(walk.count) {
         return Err(WordFault::Names);
     }
     let job = Job {
@@ -28,6 +37,12 @@ pub fn read_words(words: &[String]) -> Result<Command, WordFault>
         count: walk.count as u32,
         knobs: walk.given.knobs(),
     };
+    asked(words, walk.verb, job)
+}
+
+fn asked(words: &[String], verb: Verb, job: Job) -> Result<Command, WordFault>
+    ensures { result ≡ spec.asked (map string_bytes words.now) verb job }
+{
     match verb {
         Verb::Run => Ok(Command::Run(job)),
         Verb::Plain => Ok(Command::Plain(job)),
@@ -43,7 +58,7 @@ fn walk(verb: Verb, rest: &[String]) -> Result<Walk, WordFault>
 {
     let mut walk = Walk::begin(verb);
     for (i, word) in rest.iter().enumerate() {
-        walk.take(i as u64 + 1, word.as_bytes())?;
+        walk.take(i as u64 + 1, word.as_str())?;
     }
     Ok(walk)
 }

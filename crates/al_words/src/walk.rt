@@ -40,7 +40,7 @@ impl Walk {
     }
 
     /// Takes the word at a place.
-    pub fn take(&mut self, at: u64, word: &[u8]) -> Result<(), WordFault>
+    pub fn take(&mut self, at: u64, word: &str) -> Result<(), WordFault>
         requires fits { Fits at self.now }
         requires further { at + 1 < 2 ^ 64 }
         ensures taken { spec.Takes (spec.step self.old at word.now) result self.new }
@@ -48,13 +48,13 @@ impl Walk {
     {
         match self.waiting {
             Some(waiting) => self.value(waiting, word),
-            None if word.starts_with(b"-") => self.option(at, word),
+            None if word.as_bytes().starts_with(b"-") => self.option(at, word),
             None => Ok(self.name(at)),
         }
     }
 
     /// Takes the value of an option.
-    fn value(&mut self, waiting: Waiting, word: &[u8]) -> Result<(), WordFault>
+    fn value(&mut self, waiting: Waiting, word: &str) -> Result<(), WordFault>
         ensures { spec.Takes (spec.valued self.old waiting (spec.value_of waiting.knob word.now)) result self.new }
     {
         let Some(n) = waiting.knob.value(word) else {
@@ -66,7 +66,7 @@ impl Walk {
     }
 
     /// Takes an option.
-    fn option(&mut self, at: u64, word: &[u8]) -> Result<(), WordFault>
+    fn option(&mut self, at: u64, word: &str) -> Result<(), WordFault>
         ensures { spec.Takes (spec.optioned self.old at (spec.knob_for self.old.verb word.now)) result self.new }
     {
         let Some(knob) = self.knob(word) else {
@@ -80,7 +80,7 @@ impl Walk {
     }
 
     /// The option of this command that a word names.
-    fn knob(&self, word: &[u8]) -> Option<Knob>
+    fn knob(&self, word: &str) -> Option<Knob>
         ensures { result ≡ spec.knob_for self.now.verb word.now }
     {
         if self.verb.has_options() {

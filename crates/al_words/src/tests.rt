@@ -1,0 +1,103 @@
+//! Words with the command or the fault that they give, by the table of commands and options.
+use super::*;
+use al_core::Knobs;
+use std::alloc::{AllocError, Global};
+use std::test::Fail;
+
+const DEFAULTS: Knobs = Knobs {
+    lanes: 4,
+    chunk: 16,
+    threads: 4,
+    iter_steps: 1000000,
+    serial_steps: 10000000,
+};
+
+const SET: Knobs = Knobs {
+    lanes: 64,
+    chunk: 65536,
+    threads: 4,
+    iter_steps: 1,
+    serial_steps: 1000000000,
+};
+
+/// A job whose names stand at these two places; 0 is none.
+fn job(first: u32, second: u32, knobs: Knobs) -> Job {
+    let mut names = [0; 17];
+    names[0] = first;
+    names[1] = second;
+    Job {
+        names,
+        count: if second == 0 { 1 } else { 2 },
+        knobs,
+    }
+}
+
+fn gives(
+    alloc: Global,
+    text: &str,
+    wanted: Result<Command, WordFault>,
+) -> Result<bool, AllocError> {
+    let mut words = Vec::new(alloc);
+    for word in text.split(' ') {
+        words.push(String::from_str(alloc, word)?)?;
+    }
+    Ok(read_words(words.as_slice()) == wanted)
+}
+
+#[test]
+fn words_are_commands(rt: HostRuntime) -> Result<(), Fail> {
+    let rows: [(&str, Command); 7] = [
+        ("run p1.c", Command::Run(job(1, 0, DEFAULTS))),
+        ("plain p9.c n.txt", Command::Plain(job(1, 2, DEFAULTS))),
+        (
+            "trace --lanes 64 p.c --chunk 65536 --iter-steps 1 n.txt --steps 1000000000",
+            Command::Trace(job(3, 8, SET)),
+        ),
+        ("check p1.c", Command::Check(job(1, 0, DEFAULTS))),
+        ("demo 0 1", Command::Demo(0, 1, DEFAULTS)),
+        (
+            "demo 2147483647 100000",
+            Command::Demo(2147483647, 100000, DEFAULTS),
+        ),
+        ("run run", Command::Run(job(1, 0, DEFAULTS))),
+    ];
+    for (text, command) in rows {
+        assert!(rt; gives(rt.alloc(), text, Ok(command))?, "{text}");
+    }
+    Ok(())
+}
+
+#[test]
+fn words_have_faults(rt: HostRuntime) -> Result<(), Fail> {
+    let rows: [(&str, WordFault); 24] = [
+        ("walk p1.c", WordFault::BadCommand(0)),
+        ("infer p1.c", WordFault::BadCommand(0)),
+        ("", WordFault::BadCommand(0)),
+        ("run --lanes 65 p1.c", WordFault::BadValue(1)),
+        ("run --lanes 0 p1.c", WordFault::BadValue(1)),
+        ("run --lanes 04 p1.c", WordFault::BadValue(1)),
+        ("run --lanes -4 p1.c", WordFault::BadValue(1)),
+        ("run p1.c --chunk 65537", WordFault::BadValue(2)),
+        ("run p1.c --steps 1000000001", WordFault::BadValue(2)),
+        ("run p1.c --iter-steps x", WordFault::BadValue(2)),
+        ("run --lanes 2 --lanes 2 p1.c", WordFault::Repeated(3)),
+        ("run p1.c --lanes", WordFault::NoValue(2)),
+        ("run --lanes=2 p1.c", WordFault::Unknown(1)),
+        ("run -- p1.c", WordFault::Unknown(1)),
+        ("run p1.c --threads 2", WordFault::Unknown(2)),
+        ("check p1.c --lanes 2", WordFault::Unknown(2)),
+        ("demo -1 3", WordFault::Unknown(1)),
+        ("run", WordFault::Names),
+        ("run a b c", WordFault::Names),
+        ("check a b", WordFault::Names),
+        ("demo 1", WordFault::Names),
+        ("demo 2147483648 x", WordFault::BadNumber(1)),
+        ("demo 1 0", WordFault::BadNumber(2)),
+        ("demo 1 100001", WordFault::BadNumber(2)),
+    ];
+    for (text, fault) in rows {
+        assert!(rt; gives(rt.alloc(), text, Err(fault))?, "{text}");
+    }
+    assert!(rt; read_words(&[]) == Err(WordFault::NoCommand));
+    Ok(())
+}
