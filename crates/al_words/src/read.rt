@@ -1,4 +1,5 @@
-ghost use Rattle.std.specs.Prelude.{◌≡◌, map, string_bytes};
+ghost use Rattle.std.specs.Prelude.{◌≡◌, map, string_bytes, IfOk};
+ghost use Rattle.al_words.specs.Ranges.{HasRanges};
 ghost use Rattle.al_words.specs.Words as spec;
 
 use crate::command::{Command, Job, WordFault};
@@ -9,6 +10,14 @@ use crate::walk::Walk;
 /// The command that the words after the program's name ask for, or the first fault in them. It takes no memory.
 pub fn read_words(words: &[String]) -> Result<Command, WordFault>
     ensures exact { result ≡ spec.command (map string_bytes words.now) }
+    // The numbers of a command are in their ranges.
+    ensures ranges { IfOk result HasRanges }
+{
+    read(words)
+}
+
+fn read(words: &[String]) -> Result<Command, WordFault>
+    ensures { result ≡ spec.command (map string_bytes words.now) }
 {
     let Some((first, rest)) = words.split_first() else {
         return Err(WordFault::NoCommand);

@@ -1,5 +1,0 @@
-pub mod Turns
-pub mod Comings
-pub mod Runs
-pub mod Forms
-pub mod Outcomes
