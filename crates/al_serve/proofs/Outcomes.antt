@@ -107,6 +107,7 @@ module _ (plan : Plan) (f g : FilesSeen) (o p e q : SinkSeen) where
         wide n (inr (inr (inr (inl h)))) = inr (inr (inr (inl h)))
         wide n (inr (inr (inr (inr (inl h))))) = inr (inr (inr (inr (inr (inl h)))))
         wide n (inr (inr (inr (inr (inr h))))) = elim h [ ]
+
         wider : (p : Plan) → AllAnswers (λ a. IsOneOf (0 ∷ 1 ∷ 2 ∷ 3 ∷ 7 ∷ []) a.status) p → AllAnswers (λ a. IsOneOf (0 ∷ 1 ∷ 2 ∷ 3 ∷ 4 ∷ 7 ∷ []) a.status) p
         wider (Reads name most next) h = λ bytes. wider (next bytes) (h bytes)
         wider (Answers a) h = wide a.status h
@@ -152,6 +153,7 @@ module _ (plan : Plan) (f g : FilesSeen) (o p e q : SinkSeen) where
         wide n (inr (inr (inr (inr (inl h))))) = inr (inr (inr (inr (inl h))))
         wide n (inr (inr (inr (inr (inr (inl h)))))) = inr (inr (inr (inr (inr (inr (inr (inl h)))))))
         wide n (inr (inr (inr (inr (inr (inr h)))))) = elim h [ ]
+
         by_status : IsOneOf (0 ∷ 1 ∷ 2 ∷ 3 ∷ 4 ∷ 7 ∷ []) a.status → (s ≡ a.status) ⊎ (s ≡ 5) → IsOneOf (0 ∷ 1 ∷ 2 ∷ 3 ∷ 4 ∷ 5 ∷ 6 ∷ 7 ∷ []) s
         by_status is (inl h) = subst (IsOneOf (0 ∷ 1 ∷ 2 ∷ 3 ∷ 4 ∷ 5 ∷ 6 ∷ 7 ∷ [])) (sym h) (wide a.status is)
         by_status is (inr h) = inr (inr (inr (inr (inr (inl h)))))

@@ -22,20 +22,20 @@ pub data Came : Plan → FilesSeen → FilesSeen → Answer → Type 0 where
   planned : (a : Answer) (files : FilesSeen) → Came (Answers a) files files a
   -- a file was read
   read_on : (name : List ℕ) (most : ℕ) (next : List ℕ → Plan) (old mid new : FilesSeen) (bytes : List ℕ) (a : Answer)
-    → ReadsOnce old mid → IsBeginning old name most bytes → Came (next bytes) mid new a → Came (Reads name most next) old new a
+      → ReadsOnce old mid → IsBeginning old name most bytes → Came (next bytes) mid new a → Came (Reads name most next) old new a
   -- the contents are told, and lack the file
   not_there : (name : List ℕ) (most : ℕ) (next : List ℕ → Plan) (old new : FilesSeen)
-    → ReadsOnce old new → IsSomeAnd old.contents (λ contents. contents_of contents name ≡ None) → Came (Reads name most next) old new (absent name)
+      → ReadsOnce old new → IsSomeAnd old.contents (λ contents. contents_of contents name ≡ None) → Came (Reads name most next) old new (absent name)
   -- the read failed
   not_read : (name : List ℕ) (most : ℕ) (next : List ℕ → Plan) (old new : FilesSeen)
-    → TriesOnce old new → MayHaveRisen old.faults new.faults → Came (Reads name most next) old new (failed 4 (unread_line name))
+      → TriesOnce old new → MayHaveRisen old.faults new.faults → Came (Reads name most next) old new (failed 4 (unread_line name))
 
 -- what was read where memory ran out
 pub data Starved : Plan → FilesSeen → FilesSeen → Type 0 where
   at_once : (p : Plan) (files : FilesSeen) → Starved p files files
   at_read : (name : List ℕ) (most : ℕ) (next : List ℕ → Plan) (old new : FilesSeen) → TriesOnce old new → Starved (Reads name most next) old new
   later : (name : List ℕ) (most : ℕ) (next : List ℕ → Plan) (old mid new : FilesSeen) (bytes : List ℕ)
-    → ReadsOnce old mid → IsBeginning old name most bytes → Starved (next bytes) mid new → Starved (Reads name most next) old new
+      → ReadsOnce old mid → IsBeginning old name most bytes → Starved (next bytes) mid new → Starved (Reads name most next) old new
 
 -- what reading one file comes to
 abbrev pub Reading : List ℕ → ℕ → FilesSeen → FilesSeen → FileRead → Type 0

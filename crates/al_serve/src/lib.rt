@@ -10,3 +10,6 @@ pub use answers::Answer;
 pub use delivering::deliver;
 pub use lines::line;
 pub use reading::{FileRead, failed, read_file};
+
+#[cfg(test)]
+mod tests;

@@ -1,0 +1,13 @@
+//! The command line: what words ask for, what is read, and what is written.
+#![tactic(auto)]
+
+mod lines;
+mod serving;
+mod tasks;
+mod top_call;
+
+pub use al_words::{Command, Job, WordFault, read_words};
+pub use top_call::alter;
+
+#[cfg(test)]
+mod tests;
