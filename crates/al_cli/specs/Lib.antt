@@ -1,2 +1,5 @@
 pub mod Lines
 pub mod Shown
+pub mod Steps
+pub mod Why
+pub mod Headline

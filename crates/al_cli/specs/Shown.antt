@@ -9,10 +9,10 @@ use Rattle.al_core.specs.declared.typed_tree.TNote.{TNote}
 use Rattle.al_core.specs.declared.typed_tree.Typed.{Typed}
 use Rattle.al_core.specs.Run.{sizes_of}
 use Rattle.al_core.specs.Report.{report}
-use Rattle.al_gen.specs.Made.{made_source, made_input}
+use Rattle.al_gen.specs.Generated.{source as made_source, input as made_input}
 use Rattle.al_io.specs.Contents.{Contents}
-use Rattle.al_report.specs.Traces.{trace_text, totals_text}
-use Rattle.al_report.specs.Faults.{input_text, trap_text}
+use Rattle.al_report.specs.Traces.{trace_text, totals_text, trap_text}
+use Rattle.al_report.specs.Faults.{input_text}
 use Rattle.al_rules.specs.declared.faults.Refusal.{Refusal}
 use Rattle.al_rules.specs.Refusals.{accepted}
 use Rattle.al_serve.specs.declared.answers.Answer.{Answer}
@@ -104,11 +104,12 @@ source_name words job = word_at words (place job.names 0)
 abbrev pub input_name : List (List ℕ) → Job → Option (List ℕ)
 input_name words job = if job.count == 2 then Some (word_at words (place job.names 1)) else None
 
--- the source, then the input, then the run
+-- the input, and then the run
+abbrev pub after_source : Task → List (List ℕ) → Job → Typed → Plan
+after_source t words job typed = input_plan (input_name words job) (λ input. Answers (task_of t job.knobs (source_name words job) typed input))
+
 abbrev pub job_plan : Task → List (List ℕ) → Job → Plan
-job_plan t words job =
-    source_plan (source_name words job) (λ typed. input_plan (input_name words job) (λ input.
-    Answers (task_of t job.knobs (source_name words job) typed input)))
+job_plan t words job = source_plan (source_name words job) (after_source t words job)
 
 abbrev pub check_plan : List (List ℕ) → Job → Plan
 check_plan words job = source_plan (source_name words job) (λ typed. Answers (done (codes "ok\n")))

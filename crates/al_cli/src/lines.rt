@@ -55,16 +55,16 @@ pub fn word_at(words: &[String], at: u64) -> &str
 }
 
 /// The line of a refused source.
-pub fn refusal_line(alloc: Global, name: &[u8], cause: Refusal) -> Result<Items<u8>, AllocError>
+pub fn refusal_line(alloc: Global, name: &str, cause: Refusal) -> Result<Items<u8>, AllocError>
     requires { IsCause cause }
     ensures { IfOk result (λ l. l ≡ spec.refusal_line name.now cause) }
 {
     match cause {
-        Refusal::Lexical(fault) => lex_text(alloc, name, fault),
-        Refusal::Grammar(fault) => parse_text(alloc, name, fault),
-        Refusal::Layout(fault) => layout_text(alloc, name, fault),
-        Refusal::Types(fault) => type_text(alloc, name, fault),
-        Refusal::Notes(fault) => note_text(alloc, name, fault),
-        Refusal::Lowering(fault) => lower_text(alloc, name, fault),
+        Refusal::Lexical(fault) => lex_text(alloc, name, &fault),
+        Refusal::Grammar(fault) => parse_text(alloc, name, &fault),
+        Refusal::Layout(fault) => layout_text(alloc, name, &fault),
+        Refusal::Types(fault) => type_text(alloc, name, &fault),
+        Refusal::Notes(fault) => note_text(alloc, name, &fault),
+        Refusal::Lowering(fault) => lower_text(alloc, name, &fault),
     }
 }

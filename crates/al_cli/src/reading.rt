@@ -65,7 +65,7 @@ pub fn source_step<F: Files>(
     match resolve(alloc, source.as_slice()) {
         Ok(typed) => Ok(SourceStep::Accepted(typed)),
         Err(FrontFault::Refused(cause)) => {
-            let line = refusal_line(alloc, name.as_bytes(), cause)?;
+            let line = refusal_line(alloc, name, cause)?;
             Ok(SourceStep::Answered(failed(alloc, REFUSED, line)))
         }
         Err(FrontFault::Memory) => Err(AllocError),
@@ -110,7 +110,7 @@ fn numbers_of<F: Files>(
         Ok(input) => Ok(InputStep::Numbers(input)),
         Err(InputFault::Memory) => Err(AllocError),
         Err(fault) => {
-            let line = input_text(alloc, name.as_bytes(), fault)?;
+            let line = input_text(alloc, name, &fault)?;
             Ok(InputStep::Answered(failed(alloc, INPUT_REFUSED, line)))
         }
     }

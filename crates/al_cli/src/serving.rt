@@ -105,7 +105,7 @@ fn input_answer<F: Files>(
 {
     match input_step(alloc, words, job, files)? {
         InputStep::Numbers(input) => {
-            let name = source_name(words, job).as_bytes();
+            let name = source_name(words, job);
             task_of(alloc, task, &job.knobs, name, typed, input.as_slice())
         }
         InputStep::Answered(answer) => Ok(answer),

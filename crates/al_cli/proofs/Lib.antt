@@ -1,0 +1,3 @@
+pub mod Plans
+pub mod Valid
+pub mod Comings
