@@ -1,0 +1,232 @@
+use super::*;
+use al_core::{Ending, Event, Judged, Report, Trap, Verdict};
+use al_source::{Bytes, LexFault, ParseFault};
+use al_text::InputFault;
+use sqlite_items::Items;
+use std::alloc::{AllocError, Global};
+use std::test::Fail;
+
+/// A run of one loop that prints nothing.
+fn report(
+    alloc: Global,
+    events: Items<Event>,
+    ending: Ending,
+    counts: [u64; 3],
+    span: u128,
+) -> Report {
+    Report {
+        output: Items::new(alloc),
+        ending,
+        loops: 1,
+        rounds: counts[0],
+        attempts: counts[1],
+        aborted: counts[2],
+        span,
+        events,
+    }
+}
+
+fn enter(line: u32, trips: u64, chunks: u64) -> Event {
+    Event::Enter {
+        number: 0,
+        execution: 0,
+        line,
+        trips,
+        chunks,
+    }
+}
+
+/// A round of chunks in a row, from the first on.
+fn round(alloc: Global, first: u64, verdicts: &[Verdict]) -> Result<Event, AllocError>
+    requires { first + length verdicts.now < 2 ^ 64 }
+{
+    let mut judged = Items::new(alloc);
+    for (at, verdict) in verdicts.iter().enumerate() {
+        judged.push(Judged {
+            chunk: first + at as u64,
+            verdict: *verdict,
+        })?;
+    }
+    Ok(Event::Round(judged))
+}
+
+#[test]
+fn a_loop_of_no_trips(rt: HostRuntime) -> Result<(), Fail> {
+    let alloc = rt.alloc();
+    let mut events = Items::new(alloc);
+    events.push(enter(4, 0, 0))?;
+    let run = report(alloc, events, Ending::Done, [0, 0, 0], 5);
+    let expected = "loop 0 execution 0 line 4 trips 0 chunks 0\nend done\nloops 1 rounds 0 attempts 0 aborted 0 span 5\n";
+    assert!(rt; trace_text(alloc, &run)?.as_slice() == expected.as_bytes());
+    Ok(())
+}
+
+#[test]
+fn a_failed_chunk_runs_again(rt: HostRuntime) -> Result<(), Fail> {
+    let alloc = rt.alloc();
+    let mut events = Items::new(alloc);
+    events.push(enter(5, 2, 2))?;
+    events.push(round(alloc, 0, &[Verdict::Commit, Verdict::Fail])?)?;
+    events.push(round(alloc, 1, &[Verdict::Commit])?)?;
+    let run = report(alloc, events, Ending::Done, [2, 3, 1], 13);
+    let totals = "loops 1 rounds 2 attempts 3 aborted 1 span 13\n";
+    assert!(rt; totals_text(alloc, &run)?.as_slice() == totals.as_bytes());
+    let expected = "loop 0 execution 0 line 5 trips 2 chunks 2\nround 0: 0 commit, 1 fail\nround 1: 1 commit\nend done\nloops 1 rounds 2 attempts 3 aborted 1 span 13\n";
+    assert!(rt; trace_text(alloc, &run)?.as_slice() == expected.as_bytes());
+    Ok(())
+}
+
+#[test]
+fn chunks_commit_one_by_one(rt: HostRuntime) -> Result<(), Fail> {
+    let alloc = rt.alloc();
+    let all = [
+        Verdict::Commit,
+        Verdict::Fail,
+        Verdict::After,
+        Verdict::After,
+    ];
+    let mut events = Items::new(alloc);
+    events.push(enter(5, 6, 6))?;
+    for (first, lanes) in [(0u64, 4usize), (1, 4), (2, 4), (3, 3), (4, 2), (5, 1)] {
+        events.push(round(alloc, first, &all[..lanes])?)?;
+    }
+    let run = report(alloc, events, Ending::Done, [6, 18, 12], 60);
+    let expected = "loop 0 execution 0 line 5 trips 6 chunks 6\nround 0: 0 commit, 1 fail, 2 after, 3 after\nround 1: 1 commit, 2 fail, 3 after, 4 after\nround 2: 2 commit, 3 fail, 4 after, 5 after\nround 3: 3 commit, 4 fail, 5 after\nround 4: 4 commit, 5 fail\nround 5: 5 commit\nend done\nloops 1 rounds 6 attempts 18 aborted 12 span 60\n";
+    assert!(rt; trace_text(alloc, &run)?.as_slice() == expected.as_bytes());
+    Ok(())
+}
+
+#[test]
+fn a_trap_ends_the_trace(rt: HostRuntime) -> Result<(), Fail> {
+    let alloc = rt.alloc();
+    let mut events = Items::new(alloc);
+    events.push(enter(5, 5, 5))?;
+    let verdicts = [
+        Verdict::Commit,
+        Verdict::Commit,
+        Verdict::Commit,
+        Verdict::CommitTrap,
+    ];
+    events.push(round(alloc, 0, &verdicts)?)?;
+    let run = report(alloc, events, Ending::Trap(Trap::Bounds, 7), [1, 4, 0], 7);
+    let expected = "loop 0 execution 0 line 5 trips 5 chunks 5\nround 0: 0 commit, 1 commit, 2 commit, 3 trap\nend trap 7 out of bounds\nloops 1 rounds 1 attempts 4 aborted 0 span 7\n";
+    assert!(rt; trace_text(alloc, &run)?.as_slice() == expected.as_bytes());
+    Ok(())
+}
+
+#[test]
+fn rounds_are_counted_anew(rt: HostRuntime) -> Result<(), Fail> {
+    let alloc = rt.alloc();
+    let mut events = Items::new(alloc);
+    events.push(enter(5, 3, 1))?;
+    events.push(round(alloc, 0, &[Verdict::Commit])?)?;
+    events.push(Event::Enter {
+        number: 7,
+        execution: 1,
+        line: 9,
+        trips: 16_777_216,
+        chunks: 16_777_216,
+    })?;
+    events.push(round(alloc, 16_777_215, &[Verdict::Commit])?)?;
+    let run = report(alloc, events, Ending::Done, [2, 2, 0], u128::MAX);
+    let expected = "loop 0 execution 0 line 5 trips 3 chunks 1\nround 0: 0 commit\nloop 7 execution 1 line 9 trips 16777216 chunks 16777216\nround 0: 16777215 commit\nend done\nloops 1 rounds 2 attempts 2 aborted 0 span 340282366920938463463374607431768211455\n";
+    assert!(rt; trace_text(alloc, &run)?.as_slice() == expected.as_bytes());
+    Ok(())
+}
+
+#[test]
+fn traps_have_their_line(rt: HostRuntime) -> Result<(), Fail> {
+    let table = [
+        ("a.c", Trap::Null, 3, "alter: a.c:3: trap: null pointer\n"),
+        (
+            "b.c",
+            Trap::Missing,
+            4_294_967_295,
+            "alter: b.c:4294967295: trap: missing object\n",
+        ),
+        (
+            "p13.c",
+            Trap::Bounds,
+            7,
+            "alter: p13.c:7: trap: out of bounds\n",
+        ),
+        (
+            "p11.c",
+            Trap::Kind,
+            6,
+            "alter: p11.c:6: trap: word of the other kind\n",
+        ),
+        (
+            "p6.c",
+            Trap::Divide,
+            6,
+            "alter: p6.c:6: trap: divide by zero\n",
+        ),
+        ("c.c", Trap::Input, 10, "alter: c.c:10: trap: no such input\n"),
+        (
+            "p12.c",
+            Trap::Trips,
+            5,
+            "alter: p12.c:5: trap: too many trips\n",
+        ),
+        (
+            "p7.c",
+            Trap::Steps,
+            6,
+            "alter: p7.c:6: trap: step budget spent\n",
+        ),
+        (
+            "d e.c",
+            Trap::Alloc,
+            1,
+            "alter: d e.c:1: trap: too many words allocated\n",
+        ),
+        (
+            "demo",
+            Trap::Depth,
+            2,
+            "alter: demo:2: trap: calls nested too deep\n",
+        ),
+    ];
+    for (name, trap, line, expected) in table {
+        let text = trap_text(rt.alloc(), name, trap, line)?;
+        assert!(rt; text.as_slice() == expected.as_bytes());
+    }
+    Ok(())
+}
+
+fn is_line(text: Bytes, expected: &str) -> bool {
+    text.as_slice() == expected.as_bytes()
+}
+
+#[test]
+fn lexical_faults_have_their_line(rt: HostRuntime) -> Result<(), Fail> {
+    let alloc = rt.alloc();
+    let text = lex_text(alloc, "open.c", &LexFault::OpenComment(1))?;
+    assert!(rt; is_line(text, "alter: open.c:1: open comment\n"));
+    let text = lex_text(alloc, "a.c", &LexFault::BadByte(2))?;
+    assert!(rt; is_line(text, "alter: a.c:2: bad byte\n"));
+    let text = lex_text(alloc, "a.c", &LexFault::BadNumber(30))?;
+    assert!(rt; is_line(text, "alter: a.c:30: bad number\n"));
+    let text = lex_text(alloc, "a.c", &LexFault::BadText(4))?;
+    assert!(rt; is_line(text, "alter: a.c:4: bad text\n"));
+    let text = lex_text(alloc, "a.c", &LexFault::TooLong)?;
+    assert!(rt; is_line(text, "alter: a.c: source too long\n"));
+    let text = parse_text(alloc, "cut.c", &ParseFault::Syntax)?;
+    assert!(rt; is_line(text, "alter: cut.c: not a program\n"));
+    Ok(())
+}
+
+#[test]
+fn faults_of_inputs_have_their_line(rt: HostRuntime) -> Result<(), Fail> {
+    let alloc = rt.alloc();
+    let text = input_text(alloc, "big.txt", &InputFault::OutOfRange(2))?;
+    assert!(rt; is_line(text, "alter: big.txt:2: out of range\n"));
+    let text = input_text(alloc, "n.txt", &InputFault::NotNumber(1))?;
+    assert!(rt; is_line(text, "alter: n.txt:1: not a number\n"));
+    let text = input_text(alloc, "n.txt", &InputFault::TooMany)?;
+    assert!(rt; is_line(text, "alter: n.txt: too many numbers\n"));
+    let text = input_text(alloc, "n.txt", &InputFault::TooLong)?;
+    assert!(rt; is_line(text, "alter: n.txt: input too long\n"));
+    Ok(())
+}

@@ -1,0 +1,4 @@
+pub mod LayoutNodes
+pub mod TypeNodes
+pub mod ExpressionNodes
+pub mod StatementNodes

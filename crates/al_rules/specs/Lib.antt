@@ -1,0 +1,15 @@
+pub mod Names
+pub mod Layouts
+pub mod Checks
+pub mod Types
+pub mod Scopes
+pub mod Operands
+pub mod Expressions
+pub mod Walks
+pub mod Statements
+pub mod Programs
+pub mod ForLoops
+pub mod Bodies
+pub mod Notes
+pub mod Candidates
+pub mod Refusals

@@ -1,0 +1,4 @@
+pub mod DigitLemmas
+pub mod WordLemmas
+pub mod DecimalLemmas
+pub mod ReadingBack
