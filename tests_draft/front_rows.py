@@ -8,7 +8,7 @@ lexical=[
 ("/* x","OpenComment(1)"),("x\n/*/","OpenComment(2)"),("/* \n */ @","BadByte(2)"),
 ("#define X 1","BadByte(1)"),("x #include <a>","BadByte(1)"),("x /*\n*/ #include <a>","BadByte(2)"),
 ("#pragma alter #","BadByte(1)"),("# /* open","OpenComment(1)"),("#define X /* open","BadByte(1)"),("#\nint x;","BadByte(1)"),
-("#includes <a>","BadByte(1)"),('#include "a/*b"',"OpenComment(1)"),("'a'","BadByte(1)"),
+("#includes <a>","BadByte(1)"),('#include "a/*b"',"OpenComment(1)"),("'a'","BadByte(1)"),(body("x = a ? b : c;"),"BadByte(1)"),
 ]
 syntax=["int x","int ;","x;","1","int x y;","int x,;","long long long x;","long int int x;","int *********p;","int a[0];","int a[4194305];",
 "int a[1][1][1][1][1];","int a[];","int a[n];","int x = 1 + 2;","int x = y;","int *p = - NULL;","int x = - - 1;","void x;","struct s { };","struct { int a; };",
@@ -16,7 +16,7 @@ syntax=["int x","int ;","x;","1","int x y;","int x,;","long long long x;","long 
 "int f(void) {","int f(void) }","int a[2] f(void) {}",
 body("x = 1"),body("1;"),body("x;"),body("a = b = c;"),body("x++ + 1;"),body("x = y++;"),body("else x = 1;"),body("if (x) y = 1 else z = 2;"),body("if x y = 1;"),
 body("if () ;"),body("if (x) int y;"),body("while () ;"),body("do x = 1; while (x);"),body("for (;) ;"),body("for (int i; ; ) ;"),body("for (int i = 0, j = 0; ; ) ;"),
-body("for (; ; int i = 0) ;"),body("for (i = 0, j = 0; ; ) ;"),body("switch (x) {}"),body("goto x;"),body("return return;"),body("break 1;"),body("x = a ? b : c;"),body("x = +1;"),
+body("for (; ; int i = 0) ;"),body("for (i = 0, j = 0; ; ) ;"),body("switch (x) {}"),body("goto x;"),body("return return;"),body("break 1;"),body("x = +1;"),
 body("x = (long)1;"),body("x = sizeof x;"),body("x = sizeof(int[2]);"),body("x = sizeof(void);"),body("x = calloc(1);"),body("x = calloc(1, 8);"),body("free(p);"),body("x = printf;"),
 body("printf(x);"),body("printf();"),body('x = printf("a");'),body('printf("a" "b");'),body('x = "a";'),body("x = f(1,);"),body("x = f(,1);"),body("x = a -- b;"),body("x = a b;"),body("x = (a;"),
 body("x = a[1;"),body("x = a->1;"),body("x =;"),body("x ==;"),body("unsigned x;"),body("int x[2]"),body("void x;"),body("struct s { int a; } x;"),
@@ -81,3 +81,85 @@ out=[]
 for name,rs in [('FAULTS',[r for r in rows if r[1].endswith(')') and r[1][0] in 'BO' and '(' in r[1] and '\n' not in r[1]]),('REFUSED',[r for r in rows if r[1]=='Syntax']),('TEXTS',[r for r in rows if r[1]!='Syntax' and not (r[1].endswith(')') and r[1][:3] in ('Bad','Ope'))])]:
     out.append(f"const {name}: [Row; {len(rs)}] = [\n"+"".join(f"    ({q(a)}, {q(b)}),\n" for a,b in rs)+"];\n")
 open('/work/me/tests_draft/front_rows.rt','w').write("\n".join(out))
+faults=[r for r in rows if r[1][:3] in ('Bad','Ope') and '\n' not in r[1]]
+refused=[r for r in rows if r[1]=='Syntax']
+texts=[r for r in rows if r not in faults and r not in refused]
+import re
+def fault(s):
+    m=re.match(r'(\w+)\((\d+)\)',s); return f"LexFault::{m.group(1)}({m.group(2)})"
+o='''//! Sources with what is read of them, by the rules of tokens and the grammar: a fault with its line, no program, or the
+//! canonical text.
+use al_lexer::lex;
+use al_parser::parse;
+use al_print::print_program;
+use al_source::{LexFault, ParseFault, Program};
+use std::alloc::{AllocError, Global};
+use std::test::Fail;
+
+/// Sources that spell no tokens.
+'''
+o+=f"const FAULTS: [(&str, LexFault); {len(faults)}] = [\n"+"".join(f"    ({q(a)}, {fault(b)}),\n" for a,b in faults)+"];\n\n"
+o+=f"/// Sources whose tokens derive no program.\nconst REFUSED: [&str; {len(refused)}] = [\n"+"".join(f"    {q(a)},\n" for a,b in refused)+"];\n\n"
+o+=f"/// Sources with their canonical text.\nconst TEXTS: [(&str, &str); {len(texts)}] = [\n"+"".join(f"    ({q(a)}, {q(b)}),\n" for a,b in texts)+"];\n\n"
+o+='''/// What reading a source comes to.
+enum Reading {
+    Fault(LexFault),
+    NoProgram,
+    Read(Program),
+}
+
+fn read(alloc: Global, source: &[u8]) -> Result<Reading, AllocError> {
+    match lex(alloc, source) {
+        Ok(tokens) => match parse(alloc, tokens.as_slice()) {
+            Ok(program) => Ok(Reading::Read(program)),
+            Err(ParseFault::Syntax) => Ok(Reading::NoProgram),
+            Err(ParseFault::Memory) => Err(AllocError),
+        },
+        Err(LexFault::Memory) => Err(AllocError),
+        Err(fault) => Ok(Reading::Fault(fault)),
+    }
+}
+
+/// Whether the canonical text of a source is this one, and its own canonical text.
+fn has_text(alloc: Global, source: &str, text: &str) -> Result<bool, AllocError> {
+    let Reading::Read(program) = read(alloc, source.as_bytes())? else {
+        return Ok(false);
+    };
+    let first = print_program(alloc, &program)?;
+    let Reading::Read(again) = read(alloc, first.as_slice())? else {
+        return Ok(false);
+    };
+    let second = print_program(alloc, &again)?;
+    Ok(first.as_slice() == text.as_bytes() && second.as_slice() == text.as_bytes())
+}
+
+#[test]
+fn sources_have_lexical_faults(rt: HostRuntime) -> Result<(), Fail> {
+    for (source, fault) in FAULTS {
+        let Reading::Fault(found) = read(rt.alloc(), source.as_bytes())? else {
+            assert!(rt; false, "{source}");
+            continue;
+        };
+        assert!(rt; found == fault, "{source}");
+    }
+    Ok(())
+}
+
+#[test]
+fn sources_derive_no_program(rt: HostRuntime) -> Result<(), Fail> {
+    for source in REFUSED {
+        assert!(rt; matches!(read(rt.alloc(), source.as_bytes())?, Reading::NoProgram), "{source}");
+    }
+    Ok(())
+}
+
+#[test]
+fn sources_have_canonical_text(rt: HostRuntime) -> Result<(), Fail> {
+    for (source, text) in TEXTS {
+        assert!(rt; has_text(rt.alloc(), source, text)?, "{source}");
+    }
+    Ok(())
+}
+'''
+open('/work/me/tests_draft/sources.rt','w').write(o)
+print(len(faults),len(refused),len(texts))

@@ -1,4 +1,4 @@
-const FAULTS: [Row; 27] = [
+const FAULTS: [Row; 28] = [
     ("@", "BadByte(1)"),
     ("int x;\n$", "BadByte(2)"),
     ("x = 08;", "BadNumber(1)"),
@@ -26,9 +26,10 @@ const FAULTS: [Row; 27] = [
     ("#includes <a>", "BadByte(1)"),
     ("#include \"a/*b\"", "OpenComment(1)"),
     ("'a'", "BadByte(1)"),
+    ("int f(void) { x = a ? b : c; }", "BadByte(1)"),
 ];
 
-const REFUSED: [Row; 98] = [
+const REFUSED: [Row; 97] = [
     ("int x", "Syntax"),
     ("int ;", "Syntax"),
     ("x;", "Syntax"),
@@ -84,7 +85,6 @@ const REFUSED: [Row; 98] = [
     ("int f(void) { goto x; }", "Syntax"),
     ("int f(void) { return return; }", "Syntax"),
     ("int f(void) { break 1; }", "Syntax"),
-    ("int f(void) { x = a ? b : c; }", "Syntax"),
     ("int f(void) { x = +1; }", "Syntax"),
     ("int f(void) { x = (long)1; }", "Syntax"),
     ("int f(void) { x = sizeof x; }", "Syntax"),

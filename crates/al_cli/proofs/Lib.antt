@@ -1,3 +1,4 @@
 pub mod Plans
 pub mod Valid
 pub mod Comings
+pub mod Clauses

@@ -2,6 +2,8 @@
 #![tactic(auto)]
 
 mod lines;
+mod reading;
+mod runs;
 mod serving;
 mod tasks;
 mod top_call;

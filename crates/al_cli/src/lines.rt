@@ -1,5 +1,7 @@
 ghost use Rattle.std.specs.Prelude.{◌≡◌, map, string_bytes, IfOk};
 ghost use Rattle.al_cli.specs.Lines as spec;
+ghost use Rattle.al_front.specs.Answers.{IsCause};
+ghost use Rattle.al_words.specs.declared.command.WordFault.TheVariants.{BadValue};
 ghost use Rattle.al_words.specs.Words as words_spec;
 
 use al_report::{layout_text, lex_text, lower_text, note_text, parse_text, type_text};

@@ -40,7 +40,7 @@ pub enum InputStep {
 }
 
 /// The name of the source.
-pub fn source_name(words: &[String], job: &Job) -> &str
+pub fn source_name<'a>(words: &'a [String], job: &Job) -> &'a str
     ensures { result.now ≡ spec.source_name (map string_bytes words.now) job.now }
 {
     let [name, ..] = job.names;

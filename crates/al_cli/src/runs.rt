@@ -77,7 +77,7 @@ fn shown_of(alloc: Global, typed: &Typed, input: &[i64], knobs: &Knobs) -> Resul
     let report = in_lockstep(alloc, typed, input, knobs, false)?;
     let totals = totals_text(alloc, &report)?;
     let mut out = report.output;
-    out.extend_from_slice(totals.as_slice())?;
+    out.append(totals)?;
     ended(alloc, "demo", report.ending, out)
 }
 

@@ -57,6 +57,7 @@ pub fn alter<F: Files, O: Sink, E: Sink>(
     ensures told { result ≢ 4 → result ≢ 5 → result ≢ 6 → IfSome (F.contents files.old) (λ contents.
         Writes (spec.shown (map string_bytes words.now) contents) result
         (O.written out.old) (O.written out.new) (E.written err.old) (E.written err.new)) }
+    ensures words_refused { IsErr (words_spec.command (map string_bytes words.now)) → IsOneOf (2 ∷ 5 ∷ 6 ∷ []) result }
     ensures not_read { result ≡ 4 → MayHaveRisen (F.faults files.old) (F.faults files.new)
         ⊎ Absent (spec.names_of (map string_bytes words.now))
         (files_seen F.contents F.calls F.faults files.old) (files_seen F.contents F.calls F.faults files.new)
