@@ -1,37 +1,51 @@
 -- What the parts of a plan come to.
-use Rattle.std.proofs.Common.{◌≡◌, ℕ, List, [], Option, None, Some, Result, Ok, Err, ℤ, refl, sym, ap, subst, ◌∙◌}
+use Rattle.std.proofs.Common.{◌≡◌, ℕ, List, [], Option, None, Some, Result, Ok, Err, OnErr, ℤ, refl, sym, ap, subst, ◌∙◌}
+use Rattle.std.specs.declared.alloc.AllocError.{AllocError}
 use Rattle.al_core.specs.declared.typed_tree.Typed.{Typed}
 use Rattle.al_report.specs.Faults.{input_text}
 use Rattle.al_rules.specs.declared.faults.Refusal.{Refusal}
 use Rattle.al_rules.specs.Refusals.{accepted}
 use Rattle.al_serve.specs.declared.answers.Answer.{Answer}
+use Rattle.al_serve.specs.declared.reading.FileRead.{FileRead}
+use Rattle.al_serve.specs.declared.reading.FileRead.TheVariants as file
 use Rattle.al_serve.specs.Plans.{Plan, Reads, Answers, failed}
 use Rattle.al_serve.specs.Seen.{FilesSeen, ReadsOnce, TriesOnce}
-use Rattle.al_serve.specs.Outcome.{IsBeginning, Came, planned, read_on, Starved, at_once, at_read, later}
+use Rattle.al_serve.specs.Outcome.{IsBeginning, Reading, Came, planned, read_on, Starved, at_once, at_read, later}
 use Rattle.al_text.specs.declared.faults.InputFault.{InputFault}
 use Rattle.al_text.specs.Numbers.{numbers_of}
 use Rattle.al_cli.specs.Lines.{refusal_line}
 use Rattle.al_cli.specs.Shown.{most_of_source, most_of_input, if_accepted, source_plan, if_numbers, input_plan}
 use Rattle.al_cli.specs.Steps.{GoesOn}
 
+pub on_any_err : {A : Type 0} (r : Result A AllocError) (P : Type 0) → P → OnErr r P
+on_any_err (Ok a) P p = tt
+on_any_err (Err e) P p = p
+
+-- what a file that was read says
+pub read_bytes : (name : List ℕ) (most : ℕ) (f g : FilesSeen) (r : FileRead) (bytes : List ℕ) → r ≡ file.Bytes bytes → Reading name most f g r → ReadsOnce f g × IsBeginning f name most bytes
+read_bytes name most f g r bytes is h = subst (Reading name most f g) is h
+
 pub came_answer : (a b : Answer) (f : FilesSeen) → b ≡ a → Came (Answers a) f f b
 came_answer a b f is = subst (λ x. Came (Answers x) f f b) is (planned b f)
 
 -- ---- a source
 
-module _ (name bytes : List ℕ) (f g : FilesSeen) (once : ReadsOnce f g) (begins : IsBeginning f name most_of_source bytes) where
+module _ (name bytes : List ℕ) (f g : FilesSeen) (r : FileRead) (read : r ≡ file.Bytes bytes) (reading : Reading name most_of_source f g r) where
+  source_read : ReadsOnce f g × IsBeginning f name most_of_source bytes
+  source_read = read_bytes name most_of_source f g r bytes read reading
+
 
   pub source_goes : (typed : Typed) → accepted bytes ≡ Ok typed → GoesOn (source_plan name) f g typed
   source_goes typed is = record {
-    came = λ next last a c. read_on name most_of_source (λ source. if_accepted name next (accepted source)) f g last bytes a once begins (rw is c);
-    starved = λ next last s. later name most_of_source (λ source. if_accepted name next (accepted source)) f g last bytes once begins (rw is s);
+    came = λ next last a c. read_on name most_of_source (λ source. if_accepted name next (accepted source)) f g last bytes a source_read.0 source_read.1 (rw is c);
+    starved = λ next last s. later name most_of_source (λ source. if_accepted name next (accepted source)) f g last bytes source_read.0 source_read.1 (rw is s);
   }
 
   pub source_refused : (cause : Refusal) (a : Answer) → accepted bytes ≡ Err cause → a ≡ failed 1 (refusal_line name cause) → (next : Typed → Plan) → Came (source_plan name next) f g a
-  source_refused cause a is same next = read_on name most_of_source (λ source. if_accepted name next (accepted source)) f g g bytes a once begins (rw is (came_answer _ a g same))
+  source_refused cause a is same next = read_on name most_of_source (λ source. if_accepted name next (accepted source)) f g g bytes a source_read.0 source_read.1 (rw is (came_answer _ a g same))
 
   pub source_starved : (next : Typed → Plan) → Starved (source_plan name next) f g
-  source_starved next = later name most_of_source (λ source. if_accepted name next (accepted source)) f g g bytes once begins (at_once _ g)
+  source_starved next = later name most_of_source (λ source. if_accepted name next (accepted source)) f g g bytes source_read.0 source_read.1 (at_once _ g)
 
 pub source_untried : (name : List ℕ) (f g : FilesSeen) → TriesOnce f g → (next : Typed → Plan) → Starved (source_plan name next) f g
 source_untried name f g once next = at_read name most_of_source (λ source. if_accepted name next (accepted source)) f g once
@@ -41,18 +55,21 @@ source_untried name f g once next = at_read name most_of_source (λ source. if_a
 pub no_input : (f : FilesSeen) → GoesOn (input_plan None) f f []
 no_input f = record { came = λ next last a c. c; starved = λ next last s. s }
 
-module _ (name bytes : List ℕ) (f g : FilesSeen) (once : ReadsOnce f g) (begins : IsBeginning f name most_of_input bytes) where
+module _ (name bytes : List ℕ) (f g : FilesSeen) (r : FileRead) (read : r ≡ file.Bytes bytes) (reading : Reading name most_of_input f g r) where
+  input_read : ReadsOnce f g × IsBeginning f name most_of_input bytes
+  input_read = read_bytes name most_of_input f g r bytes read reading
+
   pub input_goes : (input : List ℤ) → numbers_of bytes ≡ Ok input → GoesOn (input_plan (Some name)) f g input
   input_goes input is = record {
-    came = λ next last a c. read_on name most_of_input (λ text. if_numbers name next (numbers_of text)) f g last bytes a once begins (rw is c);
-    starved = λ next last s. later name most_of_input (λ text. if_numbers name next (numbers_of text)) f g last bytes once begins (rw is s);
+    came = λ next last a c. read_on name most_of_input (λ text. if_numbers name next (numbers_of text)) f g last bytes a input_read.0 input_read.1 (rw is c);
+    starved = λ next last s. later name most_of_input (λ text. if_numbers name next (numbers_of text)) f g last bytes input_read.0 input_read.1 (rw is s);
   }
 
   pub input_refused : (fault : InputFault) (a : Answer) → numbers_of bytes ≡ Err fault → a ≡ failed 7 (input_text name fault) → (next : List ℤ → Plan) → Came (input_plan (Some name) next) f g a
-  input_refused fault a is same next = read_on name most_of_input (λ text. if_numbers name next (numbers_of text)) f g g bytes a once begins (rw is (came_answer _ a g same))
+  input_refused fault a is same next = read_on name most_of_input (λ text. if_numbers name next (numbers_of text)) f g g bytes a input_read.0 input_read.1 (rw is (came_answer _ a g same))
 
   pub input_starved : (next : List ℤ → Plan) → Starved (input_plan (Some name) next) f g
-  input_starved next = later name most_of_input (λ text. if_numbers name next (numbers_of text)) f g g bytes once begins (at_once _ g)
+  input_starved next = later name most_of_input (λ text. if_numbers name next (numbers_of text)) f g g bytes input_read.0 input_read.1 (at_once _ g)
 
 pub input_untried : (name : List ℕ) (f g : FilesSeen) → TriesOnce f g → (next : List ℤ → Plan) → Starved (input_plan (Some name) next) f g
 input_untried name f g once next = at_read name most_of_input (λ text. if_numbers name next (numbers_of text)) f g once

@@ -1,5 +1,5 @@
 //! Runs, and what is written of them.
-ghost use Rattle.std.specs.Prelude.{◌≡◌, IfOk, codes};
+ghost use Rattle.std.specs.Prelude.{◌≡◌, IfOk, codes, false, map};
 ghost use Rattle.al_core.specs.Limits.{AreInRange};
 ghost use Rattle.al_core.specs.Report.{watched};
 ghost use Rattle.al_serve.specs.Plans.{Answers};
