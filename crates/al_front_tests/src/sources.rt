@@ -7,6 +7,9 @@ use al_source::{LexFault, ParseFault, Program};
 use std::alloc::{AllocError, Global};
 use std::test::Fail;
 
+/// A source with its canonical text.
+type Row = (&'static str, &'static str);
+
 /// Sources that spell no tokens.
 const FAULTS: [(&str, LexFault); 28] = [
     ("@", LexFault::BadByte(1)),
@@ -40,7 +43,7 @@ const FAULTS: [(&str, LexFault); 28] = [
 ];
 
 /// Sources whose tokens derive no program.
-const REFUSED: [&str; 97] = [
+const REFUSED: [&str; 48] = [
     "int x",
     "int ;",
     "x;",
@@ -89,6 +92,9 @@ const REFUSED: [&str; 97] = [
     "int f(void) { do x = 1; while (x); }",
     "int f(void) { for (;) ; }",
     "int f(void) { for (int i; ; ) ; }",
+];
+
+const ALSO_REFUSED: [&str; 49] = [
     "int f(void) { for (int i = 0, j = 0; ; ) ; }",
     "int f(void) { for (; ; int i = 0) ; }",
     "int f(void) { for (i = 0, j = 0; ; ) ; }",
@@ -140,35 +146,15 @@ const REFUSED: [&str; 97] = [
     "int f(void) { x = a+++b; }",
 ];
 
-/// A source with its canonical text.
-type Row = (&'static str, &'static str);
-
-const ITEMS: [Row; 6] = [
+const ITEMS: [Row; 13] = [
     ("", ""),
     ("// nothing\n/* here */", ""),
     ("#include <stdio.h>\n#pragma once\nint x;", "int x ;\n"),
     ("int x;", "int x ;\n"),
     ("long long int a, *b;", "int a ;\nint * b ;\n"),
     ("long int ********p;", "int * * * * * * * * p ;\n"),
-];
-
-const STATEMENTS: [Row; 0] = [
-];
-
-const LOOPS: [Row; 0] = [
-];
-
-const SIGNS: [Row; 0] = [
-];
-
-const PLACES: [Row; 0] = [
-];
-
-const OPERATORS: [Row; 0] = [
-];
-
-const LEVELS: [Row; 0] = [
-];",
+    (
+        "int a[1][2][3][4194304];",
         "int a [ 1 ] [ 2 ] [ 3 ] [ 4194304 ] ;\n",
     ),
     (
@@ -186,6 +172,9 @@ const LEVELS: [Row; 0] = [
     ),
     ("long *f() { }", "int * f ( void ) {\n}\n"),
     ("int\nf(void){}int g;", "int f ( void ) {\n}\nint g ;\n"),
+];
+
+const STATEMENTS: [Row; 13] = [
     (
         "int f(void) { x++; ++x; x--; --x; }",
         "int f ( void ) {\nx += 1 ;\nx += 1 ;\nx -= 1 ;\nx -= 1 ;\n}\n",
@@ -232,6 +221,9 @@ const LEVELS: [Row; 0] = [
         "int f(void) { while (a) x = 1; }",
         "int f ( void ) {\nwhile ( a ) x = 1 ;\n}\n",
     ),
+];
+
+const LOOPS: [Row; 12] = [
     (
         "int f(void) { for (;;) break; }",
         "int f ( void ) {\nfor ( ;\n;\n) break ;\n}\n",
@@ -280,6 +272,9 @@ const LEVELS: [Row; 0] = [
         "int f(void) { return; return x; }",
         "int f ( void ) {\nreturn ;\nreturn x ;\n}\n",
     ),
+];
+
+const SIGNS: [Row; 12] = [
     (
         "int f(void) { x = 1 - 2 - 3; }",
         "int f ( void ) {\nx = 1 - 2 - 3 ;\n}\n",
@@ -328,6 +323,9 @@ const LEVELS: [Row; 0] = [
         "int f(void) { x = (a || b) && c; }",
         "int f ( void ) {\nx = ( a || b ) && c ;\n}\n",
     ),
+];
+
+const PLACES: [Row; 12] = [
     (
         "int f(void) { x = a || (b && c); }",
         "int f ( void ) {\nx = a || b && c ;\n}\n",
@@ -376,6 +374,9 @@ const LEVELS: [Row; 0] = [
         "int f(void) { x = (a + b)[1]; }",
         "int f ( void ) {\nx = ( a + b ) [ 1 ] ;\n}\n",
     ),
+];
+
+const OPERATORS: [Row; 12] = [
     (
         "int f(void) { x = f(1); }",
         "int f ( void ) {\nx = f ( 1 ) ;\n}\n",
@@ -424,6 +425,9 @@ const LEVELS: [Row; 0] = [
         "int f(void) { x = (a & b) == c; }",
         "int f ( void ) {\nx = ( a & b ) == c ;\n}\n",
     ),
+];
+
+const LEVELS: [Row; 12] = [
     (
         "int f(void) { x = a | b ^ c & d; }",
         "int f ( void ) {\nx = a | b ^ c & d ;\n}\n",
@@ -491,6 +495,23 @@ fn read(alloc: Global, source: &[u8]) -> Result<Reading, AllocError> {
     }
 }
 
+fn has_fault(alloc: Global, source: &str, fault: LexFault) -> Result<bool, AllocError> {
+    match read(alloc, source.as_bytes())? {
+        Reading::Fault(found) => Ok(found == fault),
+        Reading::NoProgram | Reading::Read(_) => Ok(false),
+    }
+}
+
+/// Whether no source of these derives a program, though each spells tokens.
+fn are_refused(alloc: Global, sources: &[&str]) -> Result<bool, AllocError> {
+    for source in sources {
+        if !matches!(read(alloc, source.as_bytes())?, Reading::NoProgram) {
+            return Ok(false);
+        }
+    }
+    Ok(true)
+}
+
 /// Whether the canonical text of a source is this one, and its own canonical text.
 fn has_text(alloc: Global, source: &str, text: &str) -> Result<bool, AllocError> {
     let Reading::Read(program) = read(alloc, source.as_bytes())? else {
@@ -504,30 +525,7 @@ fn has_text(alloc: Global, source: &str, text: &str) -> Result<bool, AllocError>
     Ok(first.as_slice() == text.as_bytes() && second.as_slice() == text.as_bytes())
 }
 
-#[test]
-fn sources_have_lexical_faults(rt: HostRuntime) -> Result<(), Fail> {
-    for (source, fault) in FAULTS {
-        let Reading::Fault(found) = read(rt.alloc(), source.as_bytes())? else {
-            assert!(rt; false, "{source}");
-            continue;
-        };
-        assert!(rt; found == fault, "{source}");
-    }
-    Ok(())
-}
-
-#[test]
-fn sources_derive_no_program(rt: HostRuntime) -> Result<(), Fail> {
-    for source in REFUSED {
-        assert!(rt;
-            matches!(read(rt.alloc(), source.as_bytes())?, Reading::NoProgram),
-            "{source}"
-        );
-    }
-    Ok(())
-}
-
-fn all_have_text(alloc: Global, rows: &[Row]) -> Result<bool, AllocError> {
+fn have_text(alloc: Global, rows: &[Row]) -> Result<bool, AllocError> {
     for (source, text) in rows {
         if !has_text(alloc, source, text)? {
             return Ok(false);
@@ -537,43 +535,58 @@ fn all_have_text(alloc: Global, rows: &[Row]) -> Result<bool, AllocError> {
 }
 
 #[test]
-fn items_have_canonical_text(rt: HostRuntime) -> Result<(), Fail> {
-    assert!(rt; all_have_text(rt.alloc(), &ITEMS)?);
+fn sources_have_lexical_faults(rt: HostRuntime) -> Result<(), Fail> {
+    for (source, fault) in FAULTS {
+        assert!(rt; has_fault(rt.alloc(), source, fault)?, "{source}");
+    }
     Ok(())
 }
 
 #[test]
-fn statements_have_canonical_text(rt: HostRuntime) -> Result<(), Fail> {
-    assert!(rt; all_have_text(rt.alloc(), &STATEMENTS)?);
+fn sources_derive_no_program(rt: HostRuntime) -> Result<(), Fail> {
+    assert!(rt; are_refused(rt.alloc(), &REFUSED)?);
+    assert!(rt; are_refused(rt.alloc(), &ALSO_REFUSED)?);
     Ok(())
 }
 
 #[test]
-fn loops_have_canonical_text(rt: HostRuntime) -> Result<(), Fail> {
-    assert!(rt; all_have_text(rt.alloc(), &LOOPS)?);
+fn items_have_their_text(rt: HostRuntime) -> Result<(), Fail> {
+    assert!(rt; have_text(rt.alloc(), &ITEMS)?);
     Ok(())
 }
 
 #[test]
-fn signs_have_canonical_text(rt: HostRuntime) -> Result<(), Fail> {
-    assert!(rt; all_have_text(rt.alloc(), &SIGNS)?);
+fn statements_have_their_text(rt: HostRuntime) -> Result<(), Fail> {
+    assert!(rt; have_text(rt.alloc(), &STATEMENTS)?);
     Ok(())
 }
 
 #[test]
-fn places_have_canonical_text(rt: HostRuntime) -> Result<(), Fail> {
-    assert!(rt; all_have_text(rt.alloc(), &PLACES)?);
+fn loops_have_their_text(rt: HostRuntime) -> Result<(), Fail> {
+    assert!(rt; have_text(rt.alloc(), &LOOPS)?);
     Ok(())
 }
 
 #[test]
-fn operators_have_canonical_text(rt: HostRuntime) -> Result<(), Fail> {
-    assert!(rt; all_have_text(rt.alloc(), &OPERATORS)?);
+fn signs_have_their_text(rt: HostRuntime) -> Result<(), Fail> {
+    assert!(rt; have_text(rt.alloc(), &SIGNS)?);
     Ok(())
 }
 
 #[test]
-fn levels_have_canonical_text(rt: HostRuntime) -> Result<(), Fail> {
-    assert!(rt; all_have_text(rt.alloc(), &LEVELS)?);
+fn places_have_their_text(rt: HostRuntime) -> Result<(), Fail> {
+    assert!(rt; have_text(rt.alloc(), &PLACES)?);
+    Ok(())
+}
+
+#[test]
+fn operators_have_their_text(rt: HostRuntime) -> Result<(), Fail> {
+    assert!(rt; have_text(rt.alloc(), &OPERATORS)?);
+    Ok(())
+}
+
+#[test]
+fn levels_have_their_text(rt: HostRuntime) -> Result<(), Fail> {
+    assert!(rt; have_text(rt.alloc(), &LEVELS)?);
     Ok(())
 }
