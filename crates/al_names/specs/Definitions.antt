@@ -9,16 +9,19 @@ use Rattle.al_source.specs.declared.source_tree.Item.TheVariants as item
 use Rattle.al_rules.specs.declared.faults.TypeKind.TheVariants.{Twice, Shape, Mismatch}
 use Rattle.al_rules.specs.declared.faults.TypeFault.{TypeFault}
 use Rattle.al_rules.specs.Names.{Name, any_named}
-use Rattle.al_rules.specs.Checks.{Checked, ensure, ◌>>◌}
+use Rattle.al_rules.specs.Checks.{Checked, and_then, ensure, ◌>>◌}
 use Rattle.al_rules.specs.Types.{Form, type_checked, is_held, is_scalar, is_result}
 use Rattle.al_rules.specs.Scopes.{Known, is_struct, built_in}
 use Rattle.al_rules.specs.Walks.{at_line}
 use Rattle.al_rules.specs.Programs.{is_empty, may_start}
 
-abbrev pub fields_by : (Name → Bool) → (Name → Bool) → (Form → Bool) → List Field → List Field → Checked (Unit {0})
+-- a field behind those of these names
+abbrev pub field_by : (Name → Bool) → (Name → Bool) → (Form → Bool) → List Name → Field → Checked (Unit {0})
+field_by known anywhere allowed earlier f = ensure (not (any_named (λ n. n) f.name earlier)) Twice >> type_checked known anywhere allowed f.ty
+
+abbrev pub fields_by : (Name → Bool) → (Name → Bool) → (Form → Bool) → List Name → List Field → Checked (Unit {0})
 fields_by known anywhere allowed earlier [] = Ok tt
-fields_by known anywhere allowed earlier (f ∷ fs) =
-    ensure (not (any_named (λ g. g.name) f.name earlier)) Twice >> type_checked known anywhere allowed f.ty >> fields_by known anywhere allowed (earlier ++ f ∷ []) fs
+fields_by known anywhere allowed earlier (f ∷ fs) = field_by known anywhere allowed earlier f >> fields_by known anywhere allowed (earlier ++ f.name ∷ []) fs
 
 abbrev pub is_taken_in : Known → Name → Bool
 is_taken_in known name = is_some (built_in name) || any_named (λ g. g.name) name known.globals || any_named (λ f. f.name) name known.funcs
@@ -45,3 +48,8 @@ abbrev pub with_definition : Known → Item → Known
 with_definition known (item.Struct s) = record known { structs = known.structs ++ s ∷ [] }
 with_definition known (item.Global g) = record known { globals = known.globals ++ g ∷ [] }
 with_definition known (item.Func f) = record known { funcs = known.funcs ++ f ∷ [] }
+
+-- with those of items in order, or the first fault
+abbrev pub items_by : Known → (Name → Bool) → List Item → Result Known TypeFault
+items_by known anywhere [] = Ok known
+items_by known anywhere (i ∷ is) = and_then (item_by known anywhere i) (λ _. items_by (with_definition known i) anywhere is)

@@ -78,7 +78,7 @@ impl<'k, 'a> Checker<'k, 'a> {
 
     /// Statements in order.
     #[cycle(statements)]
-    #[tactic(auto, using(al_operands::proofs::Gathered::walks_gathered), unfolding(al_rules::specs::Walks::bind, al_rules::specs::Walks::pure))]
+    #[tactic(auto, using(al_operands::proofs::Gathered::gathered_with), unfolding(al_rules::specs::Walks::bind, al_rules::specs::Walks::pure))]
     pub fn statements(
         &self,
         p: &mut Progress<'a>,

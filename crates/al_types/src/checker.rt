@@ -330,7 +330,7 @@ impl<'k, 'a> Checker<'k, 'a> {
         Ok(Red { op: r.op, at })
     }
 
-    #[tactic(auto, using(al_operands::proofs::Gathered::walks_gathered), unfolding(al_rules::specs::Walks::bind, al_rules::specs::Walks::pure))]
+    #[tactic(auto, using(al_operands::proofs::Gathered::gathered_with), unfolding(al_rules::specs::Walks::bind, al_rules::specs::Walks::pure))]
     fn reductions(
         &self,
         p: &Progress<'a>,

@@ -1,5 +1,7 @@
-ghost use Rattle.std.specs.Prelude.{◌≡◌, [], Ok, IfOk};
+ghost use Rattle.std.specs.Prelude.{◌≡◌, ◌||◌, List, [], ◌∷◌, ◌++◌, Ok, IfOk, OnOk};
+ghost use Rattle.al_source.specs.declared.source_tree.Item as tree;
 ghost use Rattle.al_rules.specs.Checks.{and_then};
+ghost use Rattle.al_rules.specs.Names.{Name};
 ghost use Rattle.al_rules.specs.Programs as spec;
 ghost use Rattle.al_rules.specs.Scopes.{is_struct, structs_in, known_of};
 ghost use Rattle.al_names.specs.Definitions as by;
@@ -17,21 +19,35 @@ use al_rules::{TypeFault, TypeKind};
 use al_source::{CType, Field, Func, GlobalDef, Item, Program, Start, StructDef};
 use std::alloc::{AllocError, Global};
 
-/// Each name is new among those before it, and then its type is looked at.
+/// Its name is new among those before it, and then its type is looked at.
+fn check_field<'f>(
+    known: &Known<'_>,
+    anywhere: &Names<'_>,
+    role: Role,
+    names: &mut Names<'f>,
+    field: &'f Field,
+) -> Result<(), Fault>
+    ensures checked { Checks (by.field_by (is_struct known.now.structs) (named_in anywhere.now) (allowed_for role) names.old field.entry.now) result }
+    ensures named { OnOk result (names.new ≡ names.old ++ field.entry.now.name ∷ []) }
+{
+    let is_new = names.add(field.name.as_slice())?;
+    ensure(is_new, TypeKind::Twice)?;
+    known.check_item_type(anywhere, role, &field.ty)
+}
+
 fn check_fields(
     alloc: Global,
     known: &Known<'_>,
     anywhere: &Names<'_>,
     role: Role,
-    fields: &[Field],
+    mut fields: &[Field],
 ) -> Result<(), Fault>
-    ensures { Checks (by.fields_by (is_struct known.now.structs) (named_in anywhere.now) (allowed_for role) [] fields.now) result }
+    ensures { Checks (by.fields_by (is_struct known.now.structs) (named_in anywhere.now) (allowed_for role) [] fields.entry.now) result }
 {
     let mut names = Names::new(alloc);
-    for field in fields {
-        let is_new = names.add(field.name.as_slice())?;
-        ensure(is_new, TypeKind::Twice)?;
-        known.check_item_type(anywhere, role, &field.ty)?;
+    while let [field, rest @ ..] = fields {
+        check_field(known, anywhere, role, &mut names, field)?;
+        fields = rest;
     }
     Ok(())
 }
@@ -105,18 +121,45 @@ fn with_item<'a>(
     }
 }
 
+/// With the name of the struct that an item defines.
+fn add_name<'a>(names: &mut Names<'a>, item: &'a Item) -> Result<(), AllocError>
+    ensures { OnOk result ((q : Name) (rest : List tree.Item) → (named_in names.new q || is_struct (structs_in rest) q) ≡ (named_in names.old q || is_struct (structs_in (item.entry.now ∷ rest)) q)) }
+{
+    match item {
+        Item::Struct(s) => {
+            names.add(s.name.as_slice())?;
+            Ok(())
+        }
+        Item::Global(_) | Item::Func(_) => Ok(()),
+    }
+}
+
 /// The names of all structs.
 fn struct_names<'a>(alloc: Global, mut items: &'a [Item]) -> Result<Names<'a>, AllocError>
-    ensures { IfOk result (λ names. named_in names ≡ is_struct (structs_in items.entry.now)) }
+    ensures { IfOk result (λ names. (q : Name) → named_in names q ≡ is_struct (structs_in items.entry.now) q) }
 {
     let mut names = Names::new(alloc);
     while let [item, rest @ ..] = items {
-        if let Item::Struct(s) = item {
-            names.add(s.name.as_slice())?;
-        }
+        add_name(&mut names, item)?;
         items = rest;
     }
     Ok(names)
+}
+
+/// The items in order behind those that are known.
+fn with_items<'a>(
+    alloc: Global,
+    mut known: Known<'a>,
+    anywhere: &Names<'_>,
+    mut items: &'a [Item],
+) -> Result<Known<'a>, TypeFault>
+    ensures { Gives (by.items_by known.entry (named_in anywhere.now) items.entry.now) result }
+{
+    while let [item, rest @ ..] = items {
+        known = with_item(alloc, known, anywhere, item)?;
+        items = rest;
+    }
+    Ok(known)
 }
 
 /// What a program defines, where its items have no fault.
@@ -127,10 +170,7 @@ pub fn definitions<'a>(
 ) -> Result<Known<'a>, TypeFault>
     ensures { Gives (and_then (spec.items_checked program.entry.now.items [] program.entry.now.items) (λ _. Ok (known_of layout.entry.now program.entry.now.items))) result }
 {
-    let anywhere = struct_names(alloc, program.items.as_slice())?;
-    let mut known = Known::new(alloc, layout);
-    for item in program.items.as_slice() {
-        known = with_item(alloc, known, &anywhere, item)?;
-    }
-    Ok(known)
+    let items = program.items.as_slice();
+    let anywhere = struct_names(alloc, items)?;
+    with_items(alloc, Known::new(alloc, layout), &anywhere, items)
 }

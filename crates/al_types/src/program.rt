@@ -1,4 +1,4 @@
-ghost use Rattle.std.specs.Prelude.{◌≡◌, IfOk};
+ghost use Rattle.std.specs.Prelude.{◌≡◌, [], IfOk};
 ghost use Rattle.al_rules.specs.Programs as spec;
 ghost use Rattle.al_types.specs.Functions.{with_notes};
 ghost use Rattle.al_names.specs.Meanings.{map_ok};
@@ -82,15 +82,20 @@ fn function<'a>(
 }
 
 /// All functions in order, and the annotated loops of the program.
+#[tactic(auto, using(al_operands::proofs::Gathered::gathered_with))]
 fn functions(alloc: Global, known: &Known<'_>) -> Result<(Items<TFunc>, Vec<TNote>), TypeFault>
     ensures { Gives (spec.funcs_typed known.now 0 known.now.funcs []) (map_ok with_notes result) }
 {
     let mut done = Items::new(alloc);
     let mut loops = Vec::new(alloc);
-    for (n, f) in known.funcs().iter().enumerate() {
+    let mut left = known.funcs();
+    let mut n = 0;
+    while let [f, rest @ ..] = left {
         let (typed, more) = function(alloc, known, number(n)?, f, loops)?;
         done.push(typed)?;
         loops = more;
+        n += 1;
+        left = rest;
     }
     Ok((done, loops))
 }
@@ -119,8 +124,10 @@ fn globals(alloc: Global, known: &Known<'_>) -> Result<Items<TGlobal>, AllocErro
     ensures { IfOk result (λ all. all ≡ spec.globals_typed known.now known.now.globals) }
 {
     let mut done = Items::new(alloc);
-    for g in known.globals() {
+    let mut left = known.globals();
+    while let [g, rest @ ..] = left {
         done.push(global(alloc, known, g)?)?;
+        left = rest;
     }
     Ok(done)
 }
