@@ -237,7 +237,7 @@ module _ (typed : Typed) (results : List (Option Kind)) (known : Known) (n : ℕ
   suc_le m k j p q = omega arith
 
   named_good : (s : Progress) (name : Name) (v : scopes.Variable) → variable_named known (in_scope s.scope) name ≡ Some v → GoodIn s s.locals (o.of_variable v)
-  named_good s name v e = good_in s s.locals (e.Var name) (o.of_variable v) (operand-Var known (in_scope s.scope) name ∙ ap (λ m. and_then (some_or m Unknown) (λ v. Ok (o.of_variable v))) e)
+  named_good s name v named = good_in s s.locals (e.Var name) (o.of_variable v) (operand-Var known (in_scope s.scope) name ∙ ap (λ m. and_then (some_or m Unknown) (λ v. Ok (o.of_variable v))) named)
 
   noted_by : (s : Progress) (name : Name) (op : RedOp) (at : Addr) (v : scopes.Variable) → variable_named known (in_scope s.scope) name ≡ Some v → w.variable_at v ≡ Ok at
       → ScopeGood s → Prefix s.locals L → (entry : TNote) → Entry s entry → IsNoted typed entry (record { op = op; at = at })

@@ -14,3 +14,4 @@ pub mod TypingLaw
 pub mod FormedExpressions
 pub mod FormedSteps
 pub mod FormedStatements
+pub mod FormedPrograms
