@@ -33,6 +33,7 @@ pub fn frame_of(f: Option<&TFunc>, args: Items<Val>) -> Result<Frame, AllocError
     }
 }
 
+/// The body of a function.
 pub fn body_of(f: Option<&TFunc>) -> &[TStmt]
     ensures { result.now ≡ meaning.body_of (option_copied f.entry) }
 {

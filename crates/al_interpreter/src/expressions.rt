@@ -43,6 +43,7 @@ fn object_words(count: Val, size: u32) -> Result<u32, Trap>
 }
 
 impl<F> Walker<F> {
+    /// The value of an expression. Both operands of an operator are evaluated, the left one first, but `&&` and `||` evaluate the right one only where it decides (C99 6.5.13, 6.5.14).
     #[cycle(expressions)]
     #[tactic(auto, using(crate::proofs::Nodes::value_nodes), unfolding(al_core::specs::Action::bind, al_core::specs::Action::pure))]
     pub fn value<G: Ground>(
@@ -130,6 +131,7 @@ impl<F> Walker<F> {
         }
     }
 
+    /// The place that is meant, which is formed without reading memory beyond its operands.
     #[cycle(expressions)]
     #[tactic(auto, using(crate::proofs::Nodes::place_nodes), unfolding(al_core::specs::Action::bind, al_core::specs::Action::pure))]
     pub fn place<G: Ground>(
@@ -170,6 +172,7 @@ impl<F> Walker<F> {
         }
     }
 
+    /// The values of expressions, from the left.
     #[cycle(expressions)]
     #[tactic(auto, using(crate::proofs::Lists::gathered), unfolding(al_core::specs::Action::bind, al_core::specs::Action::pure))]
     pub fn values<G: Ground>(

@@ -39,6 +39,7 @@ impl Frame {
         Frame { locals, own }
     }
 
+    /// Whether a local is private to the frame.
     pub fn is_private(&self, k: u32) -> bool
         ensures { result ≡ spec.is_private self.now.own k }
     {
@@ -52,6 +53,7 @@ impl Frame {
         }
     }
 
+    /// The value of a local of the frame, or 0 past its end.
     pub fn get(&self, k: u32) -> Val
         ensures { result ≡ spec.or_zero (slice_get self.now.locals k) }
     {
@@ -61,6 +63,7 @@ impl Frame {
         }
     }
 
+    /// Sets a local of the frame. Past its end nothing is set.
     pub fn set(&mut self, k: u32, v: Val)
         ensures { self.new ≡ spec.with_locals self.old (slice_set self.old.locals k v) }
     {
@@ -76,6 +79,7 @@ impl Frame {
         Items::from_slice(alloc, self.locals.as_slice())
     }
 
+    /// Sets all locals.
     pub fn replace(&mut self, locals: Items<Val>)
         ensures { self.new ≡ spec.with_locals self.old locals }
     {

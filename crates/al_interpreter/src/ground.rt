@@ -16,15 +16,19 @@ pub trait Ground {
     /// Whether the code stands inside an iteration of an annotated loop.
     ghost place: { Where };
 
+    /// Reads a word of an object as a value of a kind, or a shared local.
     fn load(&mut self, on: &Setting<'_>, at: Addr, want: Kind) -> Result<Val, ViewFault>
         ensures { Tells ((world (setting_of on.now)).load at want self.old) result self.new };
 
+    /// Writes a word of an object or a shared local.
     fn store(&mut self, on: &Setting<'_>, at: Addr, val: Val) -> Result<(), ViewFault>
         ensures { Tells ((world (setting_of on.now)).store at val self.old) result self.new };
 
+    /// Makes an object of so many words.
     fn make(&mut self, on: &Setting<'_>, words: u32) -> Result<Obj, ViewFault>
         ensures { Tells ((world (setting_of on.now)).make words self.old) result self.new };
 
+    /// Prints bytes.
     fn print(&mut self, on: &Setting<'_>, bytes: &[u8]) -> Result<(), AllocError>
         ensures { Prints ((world (setting_of on.now)).print bytes.now self.old) result self.new };
 

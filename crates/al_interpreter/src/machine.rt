@@ -88,6 +88,7 @@ impl<G: Ground> Machine<G> {
         }
     }
 
+    /// The value of a local, of the frame where it is private to it, and of the ground elsewhere.
     #[tactic(auto, unfolding(al_core::specs::Action::bind, al_core::specs::Action::pure, al_core::specs::Action::asks, al_core::specs::Action::get_frame))]
     pub fn get_local(&mut self, on: &Setting<'_>, k: u32, line: u32) -> Result<Val, Fault>
         ensures { Does (spec.get_local (G.world (setting_of on.now)) k line self.old) result self.new }
@@ -99,6 +100,7 @@ impl<G: Ground> Machine<G> {
         at_line(line, r)
     }
 
+    /// Sets a local, of the frame where it is private to it, and of the ground elsewhere.
     #[tactic(auto, unfolding(al_core::specs::Action::bind, al_core::specs::Action::asks, al_core::specs::Action::get_frame, al_core::specs::Action::set_frame))]
     pub fn set_local(&mut self, on: &Setting<'_>, k: u32, v: Val, line: u32) -> Result<(), Fault>
         ensures { Does (spec.set_local (G.world (setting_of on.now)) k v line self.old) result self.new }
@@ -111,6 +113,7 @@ impl<G: Ground> Machine<G> {
         at_line(line, r)
     }
 
+    /// Reads a word as a value of a kind.
     #[tactic(auto, unfolding(al_core::specs::Action::asks))]
     pub fn load(
         &mut self,
@@ -125,6 +128,7 @@ impl<G: Ground> Machine<G> {
         at_line(line, r)
     }
 
+    /// Writes a word.
     #[tactic(auto, unfolding(al_core::specs::Action::asks))]
     pub fn store(
         &mut self,
@@ -149,6 +153,7 @@ impl<G: Ground> Machine<G> {
         Ok(Val::Ptr(object, 0))
     }
 
+    /// Prints bytes.
     #[tactic(auto, unfolding(al_core::specs::Action::asks))]
     pub fn print(&mut self, on: &Setting<'_>, bytes: &[u8], line: u32) -> Result<(), Fault>
         ensures { Does (spec.print (G.world (setting_of on.now)) bytes.now line self.old) result self.new }

@@ -94,6 +94,7 @@ impl<F> Walker<F> {
         }
     }
 
+    /// Prints a text and the numbers of values, which are all evaluated first.
     #[tactic(auto, using(crate::proofs::KindNodes::does_nodes), unfolding(al_core::specs::Action::bind, al_core::specs::Action::pure))]
     pub fn print<G: Ground>(
         &self,

@@ -17,6 +17,7 @@ use sqlite_items::Items;
 use std::alloc::Global;
 
 impl<F> Walker<F> {
+    /// Sets a local (C99 6.5.16.1).
     #[tactic(auto, using(crate::proofs::KindNodes::does_nodes), unfolding(al_core::specs::Action::bind, al_core::specs::Action::pure))]
     pub fn assign<G: Ground>(
         &self,
@@ -44,6 +45,7 @@ impl<F> Walker<F> {
         Ok(Flow::Next)
     }
 
+    /// Stores a value: the place is formed first, and then the right side is evaluated.
     #[tactic(auto, using(crate::proofs::KindNodes::does_nodes), unfolding(al_core::specs::Action::bind, al_core::specs::Action::pure))]
     pub fn store<G: Ground>(
         &self,
@@ -72,6 +74,7 @@ impl<F> Walker<F> {
         Ok(Flow::Next)
     }
 
+    /// A compound assignment to a local (C99 6.5.16.2): the local is read before the right side is evaluated.
     #[tactic(auto, using(crate::proofs::KindNodes::does_nodes), unfolding(al_core::specs::Action::bind, al_core::specs::Action::pure))]
     pub fn update_local<G: Ground>(
         &self,
@@ -102,6 +105,7 @@ impl<F> Walker<F> {
         Ok(Flow::Next)
     }
 
+    /// A compound assignment to a place (C99 6.5.16.2): the place is formed and read before the right side is evaluated.
     #[tactic(auto, using(crate::proofs::KindNodes::does_nodes), unfolding(al_core::specs::Action::bind, al_core::specs::Action::pure))]
     pub fn update_at<G: Ground>(
         &self,
@@ -133,6 +137,7 @@ impl<F> Walker<F> {
         Ok(Flow::Next)
     }
 
+    /// Evaluates an expression for what it does (C99 6.8.3).
     #[tactic(auto, using(crate::proofs::KindNodes::does_nodes), unfolding(al_core::specs::Action::bind, al_core::specs::Action::pure))]
     pub fn call_only<G: Ground>(
         &self,
@@ -158,6 +163,7 @@ impl<F> Walker<F> {
         Ok(Flow::Next)
     }
 
+    /// Ends a function with a value, or with 0 where it has none (C99 6.8.6.4).
     #[tactic(auto, using(crate::proofs::KindNodes::does_nodes), unfolding(al_core::specs::Action::bind, al_core::specs::Action::pure))]
     pub fn give<G: Ground>(
         &self,

@@ -19,6 +19,7 @@ pub struct Walker<F> {
 }
 
 impl<F> Walker<F> {
+    /// Calls a function with arguments.
     pub fn call<G: Ground>(
         &self,
         on: &Setting<'_>,
