@@ -4,6 +4,8 @@
 #[cfg(test)]
 mod programs;
 #[cfg(test)]
+mod read_back;
+#[cfg(test)]
 mod sources;
 #[cfg(test)]
 mod tests;
