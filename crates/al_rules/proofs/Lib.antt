@@ -2,3 +2,4 @@ pub mod LayoutNodes
 pub mod TypeNodes
 pub mod ExpressionNodes
 pub mod StatementNodes
+pub mod WellFormedNodes

@@ -14,7 +14,8 @@ use Rattle.al_core.specs.declared.values.Addr.TheVariants as addr
 use Rattle.al_core.specs.declared.typed_tree.TExpr.{TExpr, fold-TExpr, out-TExpr}
 use Rattle.al_core.specs.declared.typed_tree.TPlace.{TPlace, fold-TPlace}
 use Rattle.al_core.specs.declared.typed_tree.TExpr.TheOpen.{TExpr-F, TPlace-F}
-use Rattle.al_core.specs.declared.typed_tree.TStmt.{TStmt, fold-TStmt}
+use Rattle.al_core.specs.declared.typed_tree.TStmt.{TStmt, out-TStmt, fold-TStmt, para-TStmt}
+use Rattle.al_core.specs.declared.typed_tree.TKind.{TKind, out-TKind, fold-TKind, para-TKind}
 use Rattle.al_core.specs.declared.typed_tree.TKind.TheOpen.{TKind-F}
 use Rattle.al_core.specs.declared.typed_tree.TLocal.{TLocal}
 use Rattle.al_core.specs.declared.typed_tree.TGlobal.{TGlobal}
@@ -88,6 +89,26 @@ operand_fits Neg x = x Int
 operand_fits BitNot x = x Int
 operand_fits Not x = fits_either x
 
+-- what the first and third part of a `for` may be
+abbrev pub simple_kind : TKind-F TKind TStmt → Bool
+simple_kind (TKind-F.SetLocal n x) = true
+simple_kind (TKind-F.Store p x) = true
+simple_kind (TKind-F.UpdateLocal op n x) = true
+simple_kind (TKind-F.UpdateAt op p x) = true
+simple_kind (TKind-F.Call x) = true
+simple_kind (TKind-F.Print format xs) = true
+simple_kind _ = false
+
+unfoldable pub is_simple : TStmt → Bool
+is_simple s = simple_kind (out-TKind (out-TStmt s).kind)
+
+-- a statement, and whether it is well formed in a loop or in none
+abbrev pub FormedStmt : Type 0
+FormedStmt = TStmt × (Bool → Bool)
+
+abbrev pub FormedKind : Type 0
+FormedKind = TKind × (Bool → Bool)
+
 -- in a program whose functions give these kinds, or none, and in a function with these locals
 module _ (typed : Typed) (results : List (Option Kind)) (locals : List TLocal) where
   abbrev pub expr_fits : TExpr-F FitsKind PlaceKind → FitsKind
@@ -142,16 +163,21 @@ module _ (typed : Typed) (results : List (Option Kind)) (locals : List TLocal) w
   return_formed None None = true
   return_formed _ _ = false
 
-  abbrev pub if_formed : Option (Bool → Bool) → Bool → Bool
-  if_formed (Some s) looped = s looped
+  abbrev pub if_formed : Option FormedStmt → Bool → Bool
+  if_formed (Some s) looped = s.1 looped
   if_formed None looped = true
 
-  abbrev pub all_formed : List (Bool → Bool) → Bool → Bool
+  -- the first or third part of a `for`
+  abbrev pub part_formed : Option FormedStmt → Bool → Bool
+  part_formed (Some s) looped = is_simple s.0 && s.1 looped
+  part_formed None looped = true
+
+  abbrev pub all_formed : List FormedStmt → Bool → Bool
   all_formed [] looped = true
-  all_formed (s ∷ ss) looped = s looped && all_formed ss looped
+  all_formed (s ∷ ss) looped = s.1 looped && all_formed ss looped
 
   -- a statement of a function that gives this kind, or none; in a loop or in none
-  abbrev pub kind_formed : Option Kind → TKind-F (Bool → Bool) (Bool → Bool) → Bool → Bool
+  abbrev pub kind_formed : Option Kind → TKind-F FormedKind FormedStmt → Bool → Bool
   kind_formed result TKind-F.Empty looped = true
   kind_formed result (TKind-F.SetLocal n x) looped = sets_formed (local_kind (slice_get locals n)) x
   kind_formed result (TKind-F.Store p x) looped = (place_kind p).formed && fits_want (place_kind p).wants (fits x)
@@ -159,17 +185,20 @@ module _ (typed : Typed) (results : List (Option Kind)) (locals : List TLocal) w
   kind_formed result (TKind-F.UpdateAt op p x) looped = (place_kind p).formed && may_want (place_kind p).wants Int && fits x Int
   kind_formed result (TKind-F.Call x) looped = call_formed (out-TExpr x) x
   kind_formed result (TKind-F.Print format xs) looped = list_all (λ x. fits x Int) xs
-  kind_formed result (TKind-F.If x s t) looped = fits_either (fits x) && s looped && if_formed t looped
-  kind_formed result (TKind-F.While x s) looped = fits_either (fits x) && s true
+  kind_formed result (TKind-F.If x s t) looped = fits_either (fits x) && s.1 looped && if_formed t looped
+  kind_formed result (TKind-F.While x s) looped = fits_either (fits x) && s.1 true
   kind_formed result (TKind-F.For first test third body number) looped =
-      if_formed first looped && test_formed test && if_formed third looped && body true
+      part_formed first looped && test_formed test && part_formed third looped && body.1 true
   kind_formed result (TKind-F.Block ss) looped = all_formed ss looped
   kind_formed result (TKind-F.Return x) looped = return_formed result x
   kind_formed result TKind-F.Break looped = looped
   kind_formed result TKind-F.Continue looped = looped
 
   unfoldable pub formed : Option Kind → TStmt → Bool → Bool
-  formed result = fold-TStmt (Bool → Bool) (Bool → Bool) (kind_formed result) (λ s. s.kind)
+  formed result = para-TStmt (Bool → Bool) (Bool → Bool) (kind_formed result) (λ s. s.kind.1)
+
+  unfoldable pub formed_in : Option Kind → TKind → Bool → Bool
+  formed_in result = para-TKind (Bool → Bool) (Bool → Bool) (kind_formed result) (λ s. s.kind.1)
 
   abbrev pub body_formed : Option Kind → List TStmt → Bool
   body_formed result ss = list_all (λ s. formed result s false) ss
@@ -225,6 +254,9 @@ kind_counted func _ line = none_counted
 
 unfoldable pub counted : ℕ → TStmt → Counted
 counted func = fold-TStmt (ℕ → Counted) Counted (kind_counted func) (λ s. s.kind s.line)
+
+unfoldable pub counted_in : ℕ → TKind → ℕ → Counted
+counted_in func = fold-TKind (ℕ → Counted) Counted (kind_counted func) (λ s. s.kind s.line)
 
 abbrev pub counted_all : ℕ → List TStmt → Counted
 counted_all func [] = none_counted

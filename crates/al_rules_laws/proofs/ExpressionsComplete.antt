@@ -1,5 +1,5 @@
 -- What the rules say of an expression, the walk answers.
-use Rattle.std.proofs.Common.{suc, arith, ◌*◌, ◌≡◌, ℕ, Bool, true, false, not, List, [], ◌∷◌, map, length, ◌==◌, if◌then◌else◌, Option, Some, None, option_map, Ok, Err, is_none, int_eq, ℤ, pos, refl, sym, ap, ◌∙◌, subst, ◌⊎◌, inl, inr, ⊎_elim, eq-eqb}
+use Rattle.std.proofs.Common.{suc, ◌*◌, ◌≡◌, ℕ, Bool, true, false, List, [], ◌∷◌, length, if◌then◌else◌, Option, Some, None, option_map, Ok, Err, is_none, pos, refl, sym, ap, ◌∙◌, subst, eq-eqb}
 use Rattle.al_source.specs.declared.operators.UnOp.TheVariants.{Neg, BitNot, Not}
 use Rattle.al_source.specs.declared.operators.BinOp.{BinOp}
 use Rattle.al_source.specs.declared.operators.BinOp.TheVariants.{Eq, Ne}
@@ -7,31 +7,29 @@ use Rattle.al_source.specs.declared.source_tree.CType.{CType, out-CType}
 use Rattle.al_source.specs.declared.source_tree.CType.TheVariants as t
 use Rattle.al_source.specs.declared.source_tree.CType.TheOpen.{CType-F}
 use Rattle.al_source.specs.declared.source_tree.Field.{Field}
-use Rattle.al_source.specs.declared.source_tree.Func.{Func}
 use Rattle.al_source.specs.declared.source_tree.GlobalDef.{GlobalDef}
 use Rattle.al_source.specs.declared.source_tree.Expr.{Expr}
-use Rattle.al_source.specs.declared.source_tree.Expr.TheVariants as e
 use Rattle.al_core.specs.declared.typed_tree.TExpr.{TExpr}
 use Rattle.al_core.specs.declared.typed_tree.TExpr.TheVariants as te
 use Rattle.al_core.specs.declared.typed_tree.TPlace.{TPlace}
 use Rattle.al_core.specs.declared.typed_tree.TPlace.TheVariants as tp
 use Rattle.al_core.specs.declared.values.Kind.TheVariants as kind
-use Rattle.al_rules.specs.declared.faults.TypeKind.TheVariants.{Unknown, Mismatch, Count}
+use Rattle.al_rules.specs.declared.faults.TypeKind.TheVariants.{Unknown, Mismatch}
 use Rattle.al_rules.specs.declared.operands.Operand.{Operand}
 use Rattle.al_rules.specs.declared.operands.Operand.TheVariants.{Literal, Null, Value, Variable, Place}
 use Rattle.al_rules.specs.declared.operands.Value.{Value as Used}
 use Rattle.al_rules.specs.declared.operands.Value.TheVariants.{Int, Pointer, Useless}
 use Rattle.al_rules.specs.Names.{Name}
-use Rattle.al_rules.specs.Checks.{Checked, ◌>>=◌, ◌>>◌, all, each, ensure, some_or, or_else}
-use Rattle.al_rules.specs.Types.{same_type, element, element_case, struct_name, struct_case}
-use Rattle.al_rules.specs.Scopes.{Binding, Known, Callee, Function, Input, Inputs, Choose, size, is_struct, field_of, variable_named, callee_named}
+use Rattle.al_rules.specs.Checks.{Checked, ◌>>=◌, ◌>>◌, ensure, some_or, or_else}
+use Rattle.al_rules.specs.Types.{same_type, element, element_case}
+use Rattle.al_rules.specs.Scopes.{Binding, Known, Input, Inputs, Choose, size, is_struct, field_of, variable_named}
 use Rattle.al_rules.specs.Scopes.{Variable as Named, Local as named_local, Global as named_global}
 use Rattle.al_rules.specs.Operands as o
-use Rattle.al_rules.specs.Expressions.{operand, operands, call, sized}
+use Rattle.al_rules.specs.Expressions.{operand, operands}
 use Rattle.al_rules.specs.ExpressionRules as r
 use Rattle.al_rules.proofs.ExpressionNodes.{operand-Number, operand-Null, operand-Var, operand-Unary, operand-Binary, operand-And, operand-Or, operand-Index, operand-Dot, operand-Arrow, operand-Deref, operand-Address, operand-Call, operand-SizeOf, operand-Calloc}
 use Rattle.al_rules.proofs.TypeNodes.{element-Array, name-Struct}
-use Rattle.al_rules_laws.proofs.Logic.{then_ok, ok_is, some_is}
+use Rattle.al_rules_laws.proofs.Logic.{some_is}
 use Rattle.al_rules_laws.proofs.TypeFacts.{same_sound, same_refl, sized_complete}
 use Rattle.al_rules_laws.proofs.NameFacts.{names, VariableIs, is_local, is_global, is_no_variable, variable_is, callee_function, callee_built_in, field_there, field_of_binding}
 

@@ -1,5 +1,5 @@
 -- What the walk answers of an expression, the rules say of it.
-use Rattle.std.proofs.Common.{suc, arith, ◌*◌, bytes_eq, codes, ◌≡◌, ℕ, Bool, true, false, not, List, [], ◌∷◌, map, length, ◌==◌, if◌then◌else◌, Option, Some, None, option_map, Ok, Err, is_none, int_eq, ℤ, pos, refl, sym, ap, ◌∙◌, subst, ◌⊎◌, inl, inr, ⊎_elim, eqb-true}
+use Rattle.std.proofs.Common.{suc, arith, ◌*◌, bytes_eq, codes, ◌≡◌, ℕ, Bool, true, false, List, [], ◌∷◌, length, ◌==◌, if◌then◌else◌, Option, Some, None, option_map, Ok, Err, is_none, int_eq, ℤ, pos, refl, sym, ap, ◌∙◌, subst, ⊎_elim, eqb-true}
 use Rattle.std.proofs.lemmas.Bool.Decides.{Decides-int_eq}
 use Rattle.al_source.specs.declared.operators.RedOp.TheVariants.{Min, Max}
 use Rattle.al_source.specs.declared.operators.UnOp.{UnOp}
@@ -24,18 +24,18 @@ use Rattle.al_rules.specs.declared.operands.Value.{Value as Used}
 use Rattle.al_rules.specs.declared.operands.Value.TheVariants.{Int, Pointer, Useless}
 use Rattle.al_rules.specs.Names.{Name, AllOf}
 use Rattle.al_rules.specs.Names as n
-use Rattle.al_rules.specs.Checks.{Checked, ◌>>=◌, ◌>>◌, all, each, ensure, some_or, or_else}
-use Rattle.al_rules.specs.Types.{same_type, element, element_case, struct_name, struct_case}
+use Rattle.al_rules.specs.Checks.{Checked, ◌>>=◌, ◌>>◌, ensure, some_or}
+use Rattle.al_rules.specs.Types.{element, element_case, struct_name, struct_case}
 use Rattle.al_rules.specs.Scopes.{Binding, Known, Callee, built_in, size, Function, Input, Inputs, Choose, is_struct, field_of, variable_named, callee_named}
-use Rattle.al_rules.specs.Scopes.{Variable as Named, Local as named_local, Global as named_global}
+use Rattle.al_rules.specs.Scopes.{Variable as Named}
 use Rattle.al_rules.specs.Operands as o
 use Rattle.al_rules.specs.Expressions.{operand, operands, call, sized}
 use Rattle.al_rules.specs.ExpressionRules as r
 use Rattle.al_rules.proofs.ExpressionNodes.{operand-Number, operand-Null, operand-Var, operand-Unary, operand-Binary, operand-And, operand-Or, operand-Index, operand-Dot, operand-Arrow, operand-Deref, operand-Address, operand-Call, operand-SizeOf, operand-Calloc}
-use Rattle.al_rules_laws.proofs.Logic.{then_ok, ensure_ok, some_ok, or_ok, bool_cases, ok_is, some_is}
+use Rattle.al_rules_laws.proofs.Logic.{then_ok, ensure_ok, some_ok, or_ok, ok_is, some_is}
 use Rattle.al_rules_laws.proofs.SourceInduction.{ExprCases, expr_induct}
 use Rattle.al_rules_laws.proofs.TypeFacts.{is_int_type, is_struct_type, is_pointer_type, is_array_type, same_sound, sized_sound}
-use Rattle.al_rules_laws.proofs.NameFacts.{names, none_of, VariableIs, is_local, is_global, variable_is, CalleeIs, is_function, is_built_in, callee_is, has_field, field_of_binding}
+use Rattle.al_rules_laws.proofs.NameFacts.{names, none_of, VariableIs, is_local, is_global, variable_is, CalleeIs, is_function, is_built_in, callee_is, has_field}
 
 module _ (known : Known) (scope : List Binding) where
   abbrev g : r.Names
@@ -372,7 +372,7 @@ module _ (known : Known) (scope : List Binding) where
   built_in_called name (Choose op) _ _ q nv b (more d (more h (more i is'))) other is = absurd cc
 
   -- no built-in function is one of the program
-  no_function_built_in : (name : Name) (k : ℕ) (f : Func) → built_in name ≡ Some (Function k f) → ⊥
+  pub no_function_built_in : (name : Name) (k : ℕ) (f : Func) → built_in name ≡ Some (Function k f) → ⊥
   no_function_built_in name k f is = by (bytes_eq name (codes "input")) (bytes_eq name (codes "inputs")) (bytes_eq name (codes "min")) (bytes_eq name (codes "max")) is
     where
       by : (a b c d : Bool) → (if a then Some Input else (if b then Some Inputs else (if c then Some (Choose Min) else (if d then Some (Choose Max) else None)))) ≡ Some (Function k f) → ⊥

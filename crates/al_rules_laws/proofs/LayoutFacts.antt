@@ -1,8 +1,7 @@
 -- The layout of a program is that of its sizes.
-use Rattle.std.proofs.Common.{◌≡◌, List, [], ◌∷◌, Option, Some, None, Result, Ok, Err, refl}
+use Rattle.std.proofs.Common.{◌≡◌, List, [], ◌∷◌, Option, Some, None, Result, Ok, refl}
 use Rattle.al_source.specs.declared.source_tree.Item.{Item}
 use Rattle.al_source.specs.declared.source_tree.Program.{Program}
-use Rattle.al_rules.specs.declared.faults.LayoutFault.{LayoutFault}
 use Rattle.al_rules.specs.declared.layout.Layout.{Layout}
 use Rattle.al_rules.specs.Layouts.{no_layout, with_item, with_items, layout_fault_at, unless, laid_out, layout_of, sizes}
 

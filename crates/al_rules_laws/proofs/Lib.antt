@@ -11,3 +11,7 @@ pub mod StatementsComplete
 pub mod ProgramsSound
 pub mod ProgramsComplete
 pub mod TypingLaw
+pub mod FormedExpressions
+pub mod FormedSteps
+pub mod FormedStatements
+pub mod FormedPrograms

@@ -1,5 +1,5 @@
 -- What an answer that is there says of the checks that it came through.
-use Rattle.std.proofs.Common.{◌≡◌, ℕ, Bool, true, false, not, ◌&&◌, ◌||◌, if◌then◌else◌, List, [], ◌∷◌, Option, Some, None, Result, Ok, Err, refl, sym, ap, ◌∙◌, ◌⊎◌, inl, inr}
+use Rattle.std.proofs.Common.{◌≡◌, Bool, true, false, not, ◌&&◌, ◌||◌, Option, Some, None, Result, Ok, Err, refl, ◌⊎◌, inl, inr}
 use Rattle.al_rules.specs.declared.faults.TypeKind.{TypeKind}
 use Rattle.al_rules.specs.Checks.{Checked, and_then, ensure, some_or, or_else}
 

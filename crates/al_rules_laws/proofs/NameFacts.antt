@@ -1,18 +1,17 @@
 -- Names by their look-ups, as the walk has them and as the rules have them.
-use Rattle.std.proofs.Common.{◌≡◌, ℕ, zero, suc, ◌+◌, ◌<◌, Bool, true, false, not, cond, nat_lt, List, [], ◌∷◌, ◌++◌, map, length, Option, Some, None, Ok, Err, option_map, option_and_then, slice_get, find, position, bytes_eq, is_none, refl, sym, ap, ◌∙◌, subst, ◌||◌, ◌≤◌, arith, lt-ltb, ltb-true, ltb-false, ◌⊎◌, inl, inr, ⊎_elim}
+use Rattle.std.proofs.Common.{◌≡◌, ℕ, zero, suc, ◌+◌, Bool, true, false, not, cond, nat_lt, List, [], ◌∷◌, map, length, Option, Some, None, Ok, option_map, option_and_then, slice_get, find, position, bytes_eq, is_none, refl, sym, ap, ◌∙◌, subst, ◌||◌, ◌≤◌, arith, lt-ltb, ltb-true, ltb-false}
 use Rattle.std.specs.List.{list_any, position_or_len}
 use Rattle.al_source.specs.declared.source_tree.CType.{CType}
 use Rattle.al_source.specs.declared.source_tree.Field.{Field}
 use Rattle.al_source.specs.declared.source_tree.GlobalDef.{GlobalDef}
 use Rattle.al_source.specs.declared.source_tree.StructDef.{StructDef}
 use Rattle.al_source.specs.declared.source_tree.Func.{Func}
-use Rattle.al_rules.specs.declared.faults.TypeKind.TheVariants.{Unknown, Mismatch}
+use Rattle.al_rules.specs.declared.faults.TypeKind.TheVariants.{Unknown}
 use Rattle.al_rules.specs.declared.layout.StructLayout.{StructLayout}
-use Rattle.al_rules.specs.Names.{Name, place_named, any_named}
-use Rattle.al_rules.specs.Scopes.{Binding, Known, Variable, Local, Global, Callee, Function, local_named, global_named, function_named, variable_named, first_some, built_in, callee_by, callee_named, field_at, offset_at, field_in, field_of}
+use Rattle.al_rules.specs.Names.{Name}
+use Rattle.al_rules.specs.Scopes.{Binding, Known, Variable, Local, Global, Callee, Function, global_named, function_named, variable_named, first_some, built_in, callee_by, callee_named, field_at, offset_at, field_in, field_of}
 use Rattle.al_rules.specs.Checks.{some_or}
 use Rattle.al_rules.specs.ExpressionRules as r
-use Rattle.al_rules_laws.proofs.Logic.{bool_cases}
 
 -- ---- lists
 

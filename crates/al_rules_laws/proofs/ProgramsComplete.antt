@@ -1,14 +1,11 @@
 -- A program that is well typed by the rules has no fault.
-use Rattle.std.proofs.Common.{◌≡◌, ℕ, ◌+◌, ◌≤◌, ◌<◌, Bool, true, false, not, ◌&&◌, ◌||◌, nat_lt, List, [], ◌∷◌, ◌++◌, map, length, if◌then◌else◌, Option, Some, None, Result, Ok, Err, option_and_then, codes, bytes_eq, slice_get, find, position, is_some, is_none, ℤ, pos, int_eq, sum, refl, sym, ap, ◌∙◌, subst, ◌⊎◌, inl, inr, ⊎_elim, arith, append_assoc, append-nil, le_trans, le_of_eq, le-add_right, ltb-true}
+use Rattle.std.proofs.Common.{◌≡◌, ℕ, ◌+◌, ◌≤◌, Bool, true, false, not, ◌&&◌, ◌||◌, nat_lt, List, [], ◌∷◌, ◌++◌, length, if◌then◌else◌, Some, None, Result, Ok, codes, bytes_eq, is_some, sum, refl, sym, ap, ◌∙◌, subst, arith, le_trans, le_of_eq, le-add_right, ltb-true}
 use Rattle.std.specs.List.{list_any}
 use Rattle.std.proofs.lemmas.Slice.Eq.{bytes_eq-Decides}
-use Rattle.al_source.specs.declared.source_tree.CType.{CType, out-CType}
+use Rattle.al_source.specs.declared.source_tree.CType.{CType}
 use Rattle.al_source.specs.declared.source_tree.CType.TheVariants as t
 use Rattle.al_source.specs.declared.source_tree.Field.{Field}
 use Rattle.al_source.specs.declared.source_tree.Start.{Start}
-use Rattle.al_source.specs.declared.source_tree.Start.TheVariants as start
-use Rattle.al_source.specs.declared.source_tree.StructDef.{StructDef}
-use Rattle.al_source.specs.declared.source_tree.GlobalDef.{GlobalDef}
 use Rattle.al_source.specs.declared.source_tree.Func.{Func}
 use Rattle.al_source.specs.declared.source_tree.Item.{Item}
 use Rattle.al_source.specs.declared.source_tree.Item.TheVariants as item
@@ -17,28 +14,21 @@ use Rattle.al_core.specs.declared.typed_tree.TNote.{TNote}
 use Rattle.al_core.specs.declared.typed_tree.TFunc.{TFunc}
 use Rattle.al_core.specs.declared.typed_tree.Typed.{Typed}
 use Rattle.al_ast.specs.Nodes.{capped, program_nodes}
-use Rattle.al_rules.specs.declared.faults.TypeKind.TheVariants.{Twice, Shape, Mismatch, Main}
 use Rattle.al_rules.specs.declared.faults.TypeFault.{TypeFault}
-use Rattle.al_rules.specs.declared.faults.LayoutFault.{LayoutFault}
 use Rattle.al_rules.specs.declared.faults.LayoutFault.TheVariants.{SelfHolding, TooLarge}
 use Rattle.al_rules.specs.declared.layout.Layout.{Layout}
-use Rattle.al_rules.specs.Names.{Name, AllOf, none, more, any_named, place_named}
-use Rattle.al_rules.specs.Checks.{Checked, and_then, ensure, ◌>>◌}
-use Rattle.al_rules.specs.Layouts.{most_words, too_large, holds, words_of, words_of_fields, no_layout, with_item, with_items, layout_fault_at, unless, laid_out, layout_of, layout_fault, fault_of, sizes}
-use Rattle.al_rules.specs.Types.{Form, is_held, is_scalar, is_result, is_int, pointee}
-use Rattle.al_rules.specs.Scopes.{Known, Scope, no_scope, with_binding, built_in, is_struct, structs_in, globals_in, funcs_in, known_of}
-use Rattle.al_rules.specs.Walks.{Progress, at_line, local_of}
-use Rattle.al_rules.specs.Statements as w
-use Rattle.al_rules.specs.Programs.{item_type, fields_checked, is_taken, may_start, is_empty, struct_checked, global_checked, func_checked, item_checked, items_checked, main_by, main_at, main_of, with_params, begun, globals_typed, func_typed, funcs_typed, typed_with, typed_of, type_fault}
+use Rattle.al_rules.specs.Names.{Name, AllOf, none, more, any_named}
+use Rattle.al_rules.specs.Checks.{and_then}
+use Rattle.al_rules.specs.Layouts.{most_words, too_large, holds, words_of, words_of_fields, no_layout, with_item, with_items, layout_fault_at, unless, laid_out, layout_of, sizes}
+use Rattle.al_rules.specs.Types.{Form, is_held, is_scalar, is_int}
+use Rattle.al_rules.specs.Scopes.{no_scope, built_in, is_struct, structs_in, globals_in, funcs_in, known_of}
+use Rattle.al_rules.specs.Programs.{item_type, fields_checked, is_taken, may_start, is_empty, item_checked, items_checked, main_by, main_at, main_of, begun, globals_typed, func_typed, funcs_typed, typed_with, typed_of}
 use Rattle.al_rules.specs.ExpressionRules as r
-use Rattle.al_rules.specs.StatementRules as st
 use Rattle.al_rules.specs.ProgramRules as p
 use Rattle.al_rules.proofs.LayoutNodes.{holds-Int, holds-Struct, holds-Ptr, holds-Array}
 use Rattle.al_rules.proofs.TypeNodes.{int-Int, pointee-Ptr}
-use Rattle.al_rules_laws.proofs.Logic.{ensured}
 use Rattle.al_rules_laws.proofs.TypeFacts.{scalar_complete, held_complete, result_complete}
-use Rattle.al_rules_laws.proofs.NameFacts.{new_name_back, place_found, field_of_binding}
-use Rattle.al_rules_laws.proofs.WalkFacts.{block}
+use Rattle.al_rules_laws.proofs.NameFacts.{new_name_back, place_found}
 use Rattle.al_rules_laws.proofs.StatementsComplete as complete
 use Rattle.al_rules_laws.proofs.ProgramsSound.{with_more, sum_more, params_are}
 

@@ -1,5 +1,5 @@
 -- A program without faults is well typed by the rules.
-use Rattle.std.proofs.Common.{◌≡◌, ℕ, ◌+◌, ◌≤◌, Bool, true, false, not, ◌&&◌, ◌||◌, nat_lt, List, [], ◌∷◌, ◌++◌, map, length, if◌then◌else◌, Option, Some, None, Result, Ok, Err, option_and_then, codes, bytes_eq, slice_get, find, position, is_some, is_none, ℤ, pos, int_eq, sum, refl, sym, ap, ◌∙◌, subst, ◌⊎◌, inl, inr, ⊎_elim, arith, fold, ltb-false, zero-le}
+use Rattle.std.proofs.Common.{◌≡◌, ℕ, ◌+◌, ◌≤◌, Bool, true, false, not, ◌&&◌, ◌||◌, nat_lt, List, [], ◌∷◌, ◌++◌, length, if◌then◌else◌, Option, Some, None, Result, Ok, Err, option_and_then, codes, bytes_eq, slice_get, position, is_some, pos, int_eq, sum, refl, sym, ap, ◌∙◌, subst, ◌⊎◌, inl, inr, ⊎_elim, fold, ltb-false, zero-le}
 use Rattle.std.specs.List.{list_any}
 use Rattle.std.proofs.lemmas.Bool.Decides.{Decides-int_eq}
 use Rattle.al_source.specs.declared.source_tree.CType.{CType, out-CType}
@@ -9,7 +9,6 @@ use Rattle.al_source.specs.declared.source_tree.Field.{Field}
 use Rattle.al_source.specs.declared.source_tree.Start.{Start}
 use Rattle.al_source.specs.declared.source_tree.Start.TheVariants as start
 use Rattle.al_source.specs.declared.source_tree.StructDef.{StructDef}
-use Rattle.al_source.specs.declared.source_tree.GlobalDef.{GlobalDef}
 use Rattle.al_source.specs.declared.source_tree.Func.{Func}
 use Rattle.al_source.specs.declared.source_tree.Item.{Item}
 use Rattle.al_source.specs.declared.source_tree.Item.TheVariants as item
@@ -25,19 +24,19 @@ use Rattle.al_rules.specs.declared.faults.LayoutFault.TheVariants.{SelfHolding, 
 use Rattle.al_rules.specs.declared.layout.Layout.{Layout}
 use Rattle.al_rules.specs.Names.{Name, AllOf, none, more, any_named, place_named}
 use Rattle.al_rules.specs.Checks.{Checked, and_then, ensure, ◌>>◌}
-use Rattle.al_rules.specs.Layouts.{most_words, too_large, holds, words_of, words_of_fields, no_layout, with_item, with_items, layout_fault_at, unless, laid_out, layout_of, layout_fault, fault_of, sizes}
+use Rattle.al_rules.specs.Layouts.{most_words, too_large, holds, words_of, words_of_fields, no_layout, with_item, with_items, layout_fault_at, laid_out, layout_of, fault_of, sizes}
 use Rattle.al_rules.specs.Types.{Form, is_held, is_scalar, is_result, is_int, pointee, pointee_case}
-use Rattle.al_rules.specs.Scopes.{Known, Scope, no_scope, with_binding, built_in, is_struct, structs_in, globals_in, funcs_in, known_of}
+use Rattle.al_rules.specs.Scopes.{no_scope, with_binding, built_in, is_struct, structs_in, globals_in, funcs_in, known_of}
 use Rattle.al_rules.specs.Walks.{Progress, at_line, local_of}
 use Rattle.al_rules.specs.Statements as w
-use Rattle.al_rules.specs.Programs.{item_type, fields_checked, is_taken, may_start, is_empty, struct_checked, global_checked, func_checked, item_checked, items_checked, main_by, main_at, main_of, with_params, begun, func_typed, funcs_typed, typed_with, typed_of, type_fault}
+use Rattle.al_rules.specs.Programs.{item_type, fields_checked, is_taken, may_start, is_empty, struct_checked, global_checked, func_checked, item_checked, items_checked, main_by, main_at, main_of, with_params, begun, func_typed, funcs_typed, typed_with, typed_of}
 use Rattle.al_rules.specs.ExpressionRules as r
 use Rattle.al_rules.specs.StatementRules as st
 use Rattle.al_rules.specs.ProgramRules as p
 use Rattle.al_rules_laws.proofs.Logic.{then_ok, ensure_ok, not_true, or_none, and_parts}
 use Rattle.al_rules_laws.proofs.LayoutFacts.{unless_ok, layout_is_sizes}
 use Rattle.al_rules_laws.proofs.TypeFacts.{is_pointer_type, scalar_sound, held_sound, result_sound}
-use Rattle.al_rules_laws.proofs.NameFacts.{none_of, new_name, find_place, field_of_binding}
+use Rattle.al_rules_laws.proofs.NameFacts.{new_name, find_place}
 use Rattle.al_rules_laws.proofs.WalkFacts.{block}
 use Rattle.al_rules_laws.proofs.StatementsSound.{int_true, statements_are}
 

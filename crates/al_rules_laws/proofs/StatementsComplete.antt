@@ -1,17 +1,13 @@
 -- What the rules say of a statement, the walk answers.
-use Rattle.std.proofs.Common.{◌≡◌, ℕ, ◌==◌, Bool, true, false, not, List, [], ◌∷◌, ◌++◌, map, length, if◌then◌else◌, Option, Some, None, option_map, pos, Ok, Err, bytes_eq, find, refl, sym, ap, ◌∙◌, subst, eq-eqb, suc}
+use Rattle.std.proofs.Common.{◌≡◌, ℕ, ◌==◌, Bool, true, false, not, List, [], ◌∷◌, length, if◌then◌else◌, Option, Some, None, option_map, pos, Ok, bytes_eq, find, refl, sym, ap, ◌∙◌, subst, eq-eqb, suc}
 use Rattle.al_source.specs.declared.annotations.LoopNote.{LoopNote}
 use Rattle.al_source.specs.declared.annotations.NamedRed.{NamedRed}
 use Rattle.al_source.specs.declared.operators.BinOp.{BinOp}
-use Rattle.al_source.specs.declared.texts.Piece.{Piece}
 use Rattle.al_source.specs.declared.source_tree.CType.{CType, out-CType}
 use Rattle.al_source.specs.declared.source_tree.CType.TheVariants as t
-use Rattle.al_source.specs.declared.source_tree.CType.TheOpen.{CType-F}
-use Rattle.al_source.specs.declared.source_tree.Field.{Field}
-use Rattle.al_source.specs.declared.source_tree.GlobalDef.{GlobalDef}
 use Rattle.al_source.specs.declared.source_tree.Expr.{Expr}
 use Rattle.al_source.specs.declared.source_tree.Expr.TheVariants as e
-use Rattle.al_source.specs.declared.source_tree.Stmt.{Stmt, roll-Stmt, out-Stmt, out-roll-Stmt}
+use Rattle.al_source.specs.declared.source_tree.Stmt.{Stmt, out-roll-Stmt}
 use Rattle.al_source.specs.declared.source_tree.StmtKind.{StmtKind}
 use Rattle.al_source.specs.declared.source_tree.StmtKind.TheOpen.{Stmt-F}
 use Rattle.al_source.specs.declared.source_tree.StmtKind.TheVariants as k
@@ -27,15 +23,14 @@ use Rattle.al_core.specs.declared.typed_tree.TKind.{TKind}
 use Rattle.al_core.specs.declared.typed_tree.TKind.TheVariants as tk
 use Rattle.al_rules.specs.declared.faults.TypeKind.TheVariants.{Twice, Unknown, Shape, Mismatch, NotPlace, Count, Return, Outside}
 use Rattle.al_rules.specs.declared.operands.Operand.{Operand}
-use Rattle.al_rules.specs.declared.operands.Operand.TheVariants.{Literal, Null, Value, Variable, Place}
+use Rattle.al_rules.specs.declared.operands.Operand.TheVariants.{Value, Variable, Place}
 use Rattle.al_rules.specs.Names.{Name, AllOf, none, more}
 use Rattle.al_rules.specs.Checks.{Checked, and_then, each, ensure, some_or}
 use Rattle.al_rules.specs.Types.{is_int, is_scalar, type_checked}
 use Rattle.al_rules.specs.Scopes.{Binding, Known, Scope, in_scope, nested, is_declared, is_struct, variable_named}
-use Rattle.al_rules.specs.Scopes as scopes
 use Rattle.al_rules.specs.Operands as o
 use Rattle.al_rules.specs.Expressions as x
-use Rattle.al_rules.specs.Walks.{Progress, Walk, bind, pure, checks, lift, fails, add_local, begin_loop, end_loop, within}
+use Rattle.al_rules.specs.Walks.{Progress, Walk, bind, pure, checks, lift, fails, add_local, begin_loop, end_loop}
 use Rattle.al_rules.specs.Statements as w
 use Rattle.al_rules.specs.ExpressionRules as r
 use Rattle.al_rules.specs.StatementRules as st
@@ -45,9 +40,9 @@ use Rattle.al_rules.proofs.TypeNodes.{int-Int}
 use Rattle.al_rules_laws.proofs.Logic.{ensured, then_ok}
 use Rattle.al_rules_laws.proofs.SourceInduction.{StmtCases, stmt_induct}
 use Rattle.al_rules_laws.proofs.TypeFacts.{scalar_complete}
-use Rattle.al_rules_laws.proofs.NameFacts.{names, field_of_binding, local_found, new_name_back, VariableIs, variable_is}
+use Rattle.al_rules_laws.proofs.NameFacts.{names, field_of_binding, local_found, new_name_back, variable_is}
 use Rattle.al_rules_laws.proofs.ExpressionsComplete as complete
-use Rattle.al_rules_laws.proofs.WalkFacts.{Ends, added, begun_loop, ended_loop, scoped, assoc, pure_ends, add_ends, begin_ends, end_ends, within_by_end, bind_by, checks_by, lift_by, check_end, pure_end, block, map_append, block_nested}
+use Rattle.al_rules_laws.proofs.WalkFacts.{Ends, added, begun_loop, ended_loop, scoped, assoc, pure_ends, add_ends, begin_ends, end_ends, within_by_end, bind_by, checks_by, lift_by, check_end, pure_end, block, block_nested}
 use Rattle.al_rules_laws.proofs.StatementsSound.{setting, in_names, sort_at, keeps}
 
 module _ (known : Known) (func : ℕ) (result : CType) where

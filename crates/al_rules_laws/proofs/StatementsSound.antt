@@ -1,5 +1,5 @@
 -- What the walk answers of a statement, the rules say of it.
-use Rattle.std.proofs.Common.{◌≡◌, ℕ, ◌==◌, Bool, true, false, not, List, [], ◌∷◌, map, length, if◌then◌else◌, Option, Some, None, option_map, pos, Ok, Err, bytes_eq, refl, sym, ap, ◌∙◌, subst, eqb-true, suc}
+use Rattle.std.proofs.Common.{◌≡◌, ℕ, ◌==◌, Bool, true, false, not, List, [], ◌∷◌, length, if◌then◌else◌, Option, Some, None, option_map, pos, Ok, bytes_eq, refl, sym, ap, ◌∙◌, subst, eqb-true, suc}
 use Rattle.al_source.specs.declared.annotations.LoopNote.{LoopNote}
 use Rattle.al_source.specs.declared.annotations.NamedRed.{NamedRed}
 use Rattle.al_source.specs.declared.operators.BinOp.{BinOp}
@@ -7,11 +7,9 @@ use Rattle.al_source.specs.declared.texts.Piece.{Piece}
 use Rattle.al_source.specs.declared.source_tree.CType.{CType, out-CType}
 use Rattle.al_source.specs.declared.source_tree.CType.TheVariants as t
 use Rattle.al_source.specs.declared.source_tree.CType.TheOpen.{CType-F}
-use Rattle.al_source.specs.declared.source_tree.Field.{Field}
-use Rattle.al_source.specs.declared.source_tree.GlobalDef.{GlobalDef}
 use Rattle.al_source.specs.declared.source_tree.Expr.{Expr}
 use Rattle.al_source.specs.declared.source_tree.Expr.TheVariants as e
-use Rattle.al_source.specs.declared.source_tree.Stmt.{Stmt, roll-Stmt, out-Stmt, out-roll-Stmt}
+use Rattle.al_source.specs.declared.source_tree.Stmt.{Stmt, out-roll-Stmt}
 use Rattle.al_source.specs.declared.source_tree.StmtKind.{StmtKind}
 use Rattle.al_source.specs.declared.source_tree.StmtKind.TheOpen.{Stmt-F}
 use Rattle.al_source.specs.declared.source_tree.StmtKind.TheVariants as k
@@ -27,21 +25,21 @@ use Rattle.al_rules.specs.declared.faults.TypeKind.TheVariants.{Twice, Unknown, 
 use Rattle.al_rules.specs.declared.operands.Operand.{Operand}
 use Rattle.al_rules.specs.declared.operands.Operand.TheVariants.{Literal, Null, Value, Variable, Place}
 use Rattle.al_rules.specs.Names.{Name, AllOf, none, more}
-use Rattle.al_rules.specs.Checks.{Checked, and_then, each, ensure, some_or}
+use Rattle.al_rules.specs.Checks.{and_then, each, ensure, some_or}
 use Rattle.al_rules.specs.Types.{is_int, is_int_case, is_scalar, type_checked}
 use Rattle.al_rules.specs.Scopes.{Binding, Known, Scope, in_scope, nested, is_declared, is_struct, variable_named}
 use Rattle.al_rules.specs.Scopes as scopes
 use Rattle.al_rules.specs.Operands as o
 use Rattle.al_rules.specs.Expressions as x
-use Rattle.al_rules.specs.Walks.{Progress, Walk, bind, pure, checks, lift, fails, add_local, begin_loop, end_loop, within}
+use Rattle.al_rules.specs.Walks.{Progress, Walk, bind, pure, checks, lift, fails, add_local, begin_loop, end_loop}
 use Rattle.al_rules.specs.Statements as w
 use Rattle.al_rules.specs.ExpressionRules as r
 use Rattle.al_rules.specs.StatementRules as st
 use Rattle.al_rules.proofs.StatementNodes as nodes
-use Rattle.al_rules_laws.proofs.Logic.{then_ok, ensure_ok, some_ok, ok_is}
-use Rattle.al_rules_laws.proofs.SourceInduction.{StmtCases, stmt_induct, IfAny, absent, present}
+use Rattle.al_rules_laws.proofs.Logic.{then_ok, ensure_ok}
+use Rattle.al_rules_laws.proofs.SourceInduction.{StmtCases, stmt_induct, IfAny, present}
 use Rattle.al_rules_laws.proofs.TypeFacts.{is_int_type, is_void_type, scalar_sound}
-use Rattle.al_rules_laws.proofs.NameFacts.{names, field_of_binding, local_found, new_name, find_map, VariableIs, is_local, is_global, is_no_variable, variable_is}
+use Rattle.al_rules_laws.proofs.NameFacts.{names, field_of_binding, local_found, new_name, VariableIs, is_local, is_global, variable_is}
 use Rattle.al_rules_laws.proofs.ExpressionsSound as sound
 use Rattle.al_rules_laws.proofs.WalkFacts.{Ends, added, begun_loop, ended_loop, scoped, bind_ends, checks_ends, lift_ends, assoc, pure_ends, pure_is, bind_pure, check_is, add_ends, begin_ends, end_ends, within_ends, never_ends, block, map_append, block_nested}
 

@@ -1,5 +1,5 @@
 -- Types by their checks: which are one, and where each may stand.
-use Rattle.std.proofs.Common.{◌≡◌, ℕ, zero, suc, ◌≤◌, Bool, true, false, ◌&&◌, ◌==◌, Option, Some, None, Ok, Err, Decides, bytes_eq, refl, sym, ap, ◌∙◌, subst, arith, ◌⊎◌, inl, inr, ⊎_elim, eqb-true, eq-eqb}
+use Rattle.std.proofs.Common.{◌≡◌, ℕ, zero, suc, ◌≤◌, Bool, true, false, ◌==◌, Ok, refl, sym, ap, ◌∙◌, subst, arith, ◌⊎◌, inl, inr, ⊎_elim, eqb-true, eq-eqb}
 use Rattle.std.proofs.lemmas.Slice.Eq.{bytes_eq-Decides}
 use Rattle.al_source.specs.declared.source_tree.CType.{CType, out-CType, roll-CType, roll-out-CType}
 use Rattle.al_source.specs.declared.source_tree.CType.TheOpen.{CType-F}
@@ -10,8 +10,8 @@ use Rattle.al_rules.specs.Checks.{ensure}
 use Rattle.al_rules.specs.Types.{same_case, same_type, Form, Nothing, Scalar, Structure, Sequence, Malformed, pointer_form, array_form, form, is_held, is_scalar, is_result, is_sized, are_known, type_checked}
 use Rattle.al_rules.specs.ExpressionRules as r
 use Rattle.al_rules.proofs.TypeNodes.{same-Int, same-Void, same-Struct, same-Ptr, same-Array, form-Int, form-Void, form-Struct, form-Ptr, form-Array, known-Int, known-Void, known-Struct, known-Ptr, known-Array}
-use Rattle.al_rules_laws.proofs.Logic.{and_parts, and_both, ensure_ok, ensured, then_ok}
-use Rattle.al_rules_laws.proofs.SourceInduction.{TypeCases, type_induct}
+use Rattle.al_rules_laws.proofs.Logic.{and_parts, and_both, ensure_ok, then_ok}
+use Rattle.al_rules_laws.proofs.SourceInduction.{type_induct}
 
 -- ---- a type by its outermost form
 

@@ -1,10 +1,8 @@
 -- The typing rules and the walk agree.
-use Rattle.std.proofs.Common.{◌≡◌, Option, Some, None, Result, Ok, Err, refl, ap}
-use Rattle.al_source.specs.declared.source_tree.Program.{Program}
-use Rattle.al_rules.specs.Layouts.{fault_of, layout_of, sizes}
+use Rattle.std.proofs.Common.{ap}
+use Rattle.al_rules.specs.Layouts.{fault_of, layout_of}
 use Rattle.al_rules.specs.Programs.{typed_of}
-use Rattle.al_rules.specs.ProgramRules.{WellTyped}
-use Rattle.al_rules_laws.specs.TypingLaws.{IsFaultless, FaultlessIsWellTyped, WellTypedIsFaultless}
+use Rattle.al_rules_laws.specs.TypingLaws.{FaultlessIsWellTyped, WellTypedIsFaultless}
 use Rattle.al_rules_laws.proofs.ProgramsSound.{no_fault, well_typed}
 use Rattle.al_rules_laws.proofs.ProgramsComplete.{layout_there, typed_there}
 

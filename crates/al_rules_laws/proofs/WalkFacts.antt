@@ -1,15 +1,13 @@
 -- What a walk that comes to an end says of its steps.
-use Rattle.std.proofs.Common.{◌≡◌, ℕ, Bool, true, false, List, [], ◌∷◌, ◌++◌, map, length, if◌then◌else◌, Option, Some, None, Result, Ok, Err, slice_get, refl, sym, ap, ◌∙◌, subst}
+use Rattle.std.proofs.Common.{◌≡◌, ℕ, List, [], ◌∷◌, ◌++◌, map, length, Result, Ok, Err, slice_get, refl, sym, ap, ◌∙◌}
 use Rattle.al_source.specs.declared.source_tree.CType.{CType}
-use Rattle.al_source.specs.declared.source_tree.Field.{Field}
 use Rattle.al_core.specs.declared.choices.Choice.{Choice}
-use Rattle.al_core.specs.declared.typed_tree.TNote.{TNote}
 use Rattle.al_rules.specs.declared.faults.TypeFault.{TypeFault}
 use Rattle.al_rules.specs.declared.faults.TypeKind.{TypeKind}
 use Rattle.al_rules.specs.Names.{Name}
 use Rattle.al_rules.specs.Checks.{Checked, and_then}
-use Rattle.al_rules.specs.Scopes.{Binding, Known, Scope, in_scope, nested, with_binding}
-use Rattle.al_rules.specs.Walks.{Progress, Walk, at_line, bind, pure, checks, lift, fails, get_scope, set_scope, count_locals, add_local, local_of, with_end, begin_loop, end_loop, within}
+use Rattle.al_rules.specs.Scopes.{Scope, nested, with_binding}
+use Rattle.al_rules.specs.Walks.{Progress, Walk, at_line, bind, pure, checks, lift, fails, get_scope, set_scope, add_local, local_of, with_end, begin_loop, end_loop, within}
 use Rattle.al_rules.specs.StatementRules as r
 use Rattle.al_rules_laws.proofs.NameFacts.{field_of_binding}
 

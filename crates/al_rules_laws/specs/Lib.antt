@@ -1,2 +1,3 @@
 pub mod LayoutLaws
 pub mod TypingLaws
+pub mod FormedLaws
