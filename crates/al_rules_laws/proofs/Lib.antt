@@ -15,3 +15,7 @@ pub mod FormedExpressions
 pub mod FormedSteps
 pub mod FormedStatements
 pub mod FormedPrograms
+pub mod ReachedFunctions
+pub mod TreeLoops
+pub mod LoopEntries
+pub mod AcceptedReductions

@@ -1,3 +1,4 @@
 pub mod LayoutLaws
 pub mod TypingLaws
 pub mod FormedLaws
+pub mod ReductionLaws

@@ -3,4 +3,5 @@
 
 pub mod formed;
 pub mod layouts;
+pub mod reductions;
 pub mod typing;
