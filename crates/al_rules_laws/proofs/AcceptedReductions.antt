@@ -35,7 +35,7 @@ use Rattle.al_rules.specs.Notes.{stand_twice, is_counter_or_bound, first_kind, w
 use Rattle.al_rules.specs.Candidates.{variables, firsts, scalar_is_int, is_integer_global, is_outside, is_local_of, is_integer_object, is_variable, reduces, may_reduce, operators, reduction_of, most_reductions, reductions_of, all_together, reduction_lists, in_both_orders, policies, with_reductions, choices_of, loop_in, choices}
 use Rattle.al_rules.specs.WellFormed.{is_one, local_kind, is_some_kind, is_int_global, IsNoted, IsNotedAt, IsWellFormed}
 use Rattle.al_rules.specs.Programs.{Resolved}
-use Rattle.al_rules_laws.specs.ReductionLaws.{IsAcceptedFor, EntriesAreTheLoops, OwnReductionsAreAccepted, ChoicesAreAccepted}
+use Rattle.al_rules_laws.specs.ReductionLaws.{IsAcceptedFor}
 use Rattle.al_rules_laws.proofs.Logic.{and_parts, and_both, not_true, or_none, some_is}
 use Rattle.al_rules_laws.proofs.ProgramsSound.{no_fault}
 use Rattle.al_rules_laws.proofs.FormedPrograms.{resolved_is_well_formed}
@@ -417,17 +417,22 @@ of_entries P f q typed resolved unfaulted =
     let n = no_fault (notes_of typed) unfaulted in
     subst (λ r. P typed (or_no_infos r)) (sym n.1) (f typed n.0 (entries_are typed n.0 wf.loops n.1) wf)
 
-pub entries_are_the_loops : EntriesAreTheLoops
-entries_are_the_loops = of_entries
-    (λ typed entries. (length entries ≡ length typed.loops) × ((n : ℕ) (info : LoopInfo) → slice_get entries n ≡ Some info → info.number ≡ n))
-    (λ typed entries e wf. (sym (zero-add (length entries)) ∙ numbered_length e.numbered ∙ zero-add (length typed.loops), λ n info at. numbered_at entries n info e.numbered at ∙ zero-add n))
+pub as_many_entries : (q : Program) (typed : Typed) → Resolved q typed → note_fault typed ≡ None → length (infos typed) ≡ length typed.loops
+as_many_entries = of_entries
+    (λ typed entries. length entries ≡ length typed.loops)
+    (λ typed entries e wf. sym (zero-add (length entries)) ∙ numbered_length e.numbered ∙ zero-add (length typed.loops))
 
-pub own_reductions_are_accepted : OwnReductionsAreAccepted
+pub entry_at : (q : Program) (typed : Typed) → Resolved q typed → note_fault typed ≡ None → (n : ℕ) (info : LoopInfo) → slice_get (infos typed) n ≡ Some info → info.number ≡ n
+entry_at = of_entries
+    (λ typed entries. (n : ℕ) (info : LoopInfo) → slice_get entries n ≡ Some info → info.number ≡ n)
+    (λ typed entries e wf n info at. numbered_at entries n info e.numbered at ∙ zero-add n)
+
+pub own_reductions_are_accepted : (q : Program) (typed : Typed) → Resolved q typed → note_fault typed ≡ None → All (λ info. IsAcceptedFor typed info info.own.reds) (infos typed)
 own_reductions_are_accepted = of_entries
     (λ typed entries. All (λ info. IsAcceptedFor typed info info.own.reds) entries)
     (λ typed entries e wf. all_told (all_map (λ info h. own_accepted typed info h wf) e.each))
 
-pub choices_are_accepted : ChoicesAreAccepted
+pub choices_are_accepted : (q : Program) (typed : Typed) → Resolved q typed → note_fault typed ≡ None → All (λ info. All (λ c. IsAcceptedFor typed info c.reds) (choices typed info)) (infos typed)
 choices_are_accepted = of_entries
     (λ typed entries. All (λ info. All (λ c. IsAcceptedFor typed info c.reds) (choices typed info)) entries)
     (λ typed entries e wf. all_told (all_map (λ info h. choices_accepted typed info h) e.each))

@@ -29,7 +29,7 @@ use Rattle.al_rules.specs.Types.{is_int, kind_case, kind_of}
 use Rattle.al_rules.specs.Scopes.{Known, no_scope, globals_in, funcs_in, known_of}
 use Rattle.al_rules.specs.Walks.{Progress, local_of, or_integer}
 use Rattle.al_rules.specs.Statements as w
-use Rattle.al_rules.specs.Programs.{is_empty, items_checked, main_by, main_at, main_of, with_params, begun, func_typed, funcs_typed, start_of, global_typed, globals_typed, typed_with, typed_of}
+use Rattle.al_rules.specs.Programs.{is_empty, items_checked, main_by, main_at, main_of, with_params, begun, func_typed, funcs_typed, start_of, global_typed, globals_typed, typed_with, typed_of, Resolved}
 use Rattle.al_rules.specs.ExpressionRules as r
 use Rattle.al_rules.specs.ProgramRules as p
 use Rattle.al_rules.specs.WellFormed.{body_formed, counted_all, loops_from, notes_from, IsFormedFunc, IsFormedGlobal, IsWellFormed}
@@ -39,7 +39,6 @@ use Rattle.al_rules_laws.proofs.Logic.{then_ok, some_is, and_parts}
 use Rattle.al_rules_laws.proofs.TypeFacts.{is_int_type, is_pointer_type}
 use Rattle.al_rules_laws.proofs.WalkFacts.{added, Ends}
 use Rattle.al_rules_laws.proofs.StatementsSound.{int_true}
-use Rattle.al_rules_laws.specs.FormedLaws.{ResolvedIsWellFormed}
 use Rattle.al_rules_laws.proofs.ProgramsSound.{no_fault, well_typed}
 use Rattle.al_rules_laws.proofs.FormedExpressions.{Context, FuncOf}
 use Rattle.al_rules_laws.proofs.FormedSteps.{Prefix, prefix_refl, prefix_trans, prefix_length, ScopeGood, Noted, step_add}
@@ -413,7 +412,7 @@ resolved_formed q l typed laid e =
     same : (u : Typed) → ◌≡◌ {A = Result Typed TypeFault} (Ok u) (Ok typed) → u ≡ typed
     same u e = cc
 
-pub resolved_is_well_formed : ResolvedIsWellFormed
+pub resolved_is_well_formed : (q : Program) (typed : Typed) → Resolved q typed → IsWellFormed typed
 resolved_is_well_formed q typed h =
     let l = no_fault (layout_of q) h.laid_out in
     resolved_formed q l.0 typed l.1 h.is_typed

@@ -19,3 +19,4 @@ pub mod ReachedFunctions
 pub mod TreeLoops
 pub mod LoopEntries
 pub mod AcceptedReductions
+pub mod IllFormedTrees

@@ -1,8 +1,19 @@
 ghost use Rattle.al_rules_laws.specs.FormedLaws.{ResolvedIsWellFormed};
+ghost use Rattle.al_rules_laws.specs.IllFormed.{NoGlobalOutOfRange, NoLocalOutOfRange, NoPointerInInteger, NoValueOfNothing};
 
 /// The typed tree of a program that has neither a layout fault nor a type fault is well formed: each number of a local,
 /// global, function and loop is in range, and each value is of the kind that its place wants.
 #[tactic(auto, using(crate::proofs::FormedPrograms::resolved_is_well_formed))]
 pub fn resolved_is_well_formed()
     ensures { ResolvedIsWellFormed }
+{}
+
+/// No well-formed tree has a local or a global out of range, uses the value of a function that gives none, or stores a
+/// pointer in an integer local.
+#[tactic(auto, using(crate::proofs::IllFormedTrees::no_local, crate::proofs::IllFormedTrees::no_global, crate::proofs::IllFormedTrees::no_value, crate::proofs::IllFormedTrees::no_pointer))]
+pub fn ill_formed_is_refused()
+    ensures locals { NoLocalOutOfRange }
+    ensures globals { NoGlobalOutOfRange }
+    ensures values { NoValueOfNothing }
+    ensures pointers { NoPointerInInteger }
 {}

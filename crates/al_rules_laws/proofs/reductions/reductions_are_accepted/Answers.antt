@@ -1,8 +1,5 @@
-use Rattle.al_rules_laws.proofs.AcceptedReductions.{entries_are_the_loops, own_reductions_are_accepted, choices_are_accepted}
+use Rattle.al_rules_laws.proofs.AcceptedReductions.{own_reductions_are_accepted, choices_are_accepted}
 use Rattle.al_rules_laws.proofs.reductions.reductions_are_accepted.Goals as goal
-
-pub returns-clause-entries : goal.returns-clause-entries
-returns-clause-entries c = entries_are_the_loops
 
 pub returns-clause-own : goal.returns-clause-own
 returns-clause-own c = own_reductions_are_accepted
