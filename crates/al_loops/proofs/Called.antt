@@ -5,10 +5,9 @@ use Rattle.std.specs.Prelude.{Bool, false, ◌||◌, ◌==◌}
 use Rattle.std.specs.List.{list_any, flat_map}
 use Rattle.al_core.specs.declared.typed_tree.TExpr.{TExpr}
 use Rattle.al_core.specs.declared.typed_tree.TPlace.{TPlace}
-use Rattle.al_core.specs.declared.typed_tree.TStmt.{TStmt, map-TStmt, fold-TStmt, fold-roll-TStmt}
+use Rattle.al_core.specs.declared.typed_tree.TStmt.{TStmt, fold-TStmt, fold-roll-TStmt}
 use Rattle.al_core.specs.declared.typed_tree.TKind.{TKind, map-TKind, fold-TKind, fold-roll-TKind}
-use Rattle.al_core.specs.declared.typed_tree.TKind.TheViews.{roll-TStmt, roll-TKind}
-use Rattle.al_core.specs.declared.typed_tree.TKind.TheOpen.{TStmt-F, TKind-F}
+use Rattle.al_core.specs.declared.typed_tree.TKind.TheOpen.{TKind-F}
 use Rattle.al_core.specs.Accepted.{Terms, terms, terms_of, calls, calls_at, calls_of, all_called}
 use Rattle.al_rules.specs.Bodies.{has}
 use Rattle.al_loops.specs.Walks.{any_passes, any_joined, kind_passes, passes, kind_called, called}

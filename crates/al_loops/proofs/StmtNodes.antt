@@ -5,7 +5,7 @@ use Rattle.al_source.specs.declared.operators.BinOp.{BinOp}
 use Rattle.al_source.specs.declared.texts.Piece.{Piece}
 use Rattle.al_core.specs.declared.typed_tree.TExpr.{TExpr}
 use Rattle.al_core.specs.declared.typed_tree.TPlace.{TPlace}
-use Rattle.al_core.specs.declared.typed_tree.TStmt.{TStmt, out-TStmt, map-TStmt, fold-TStmt, fold_out-TStmt}
+use Rattle.al_core.specs.declared.typed_tree.TStmt.{TStmt, fold-TStmt, fold_out-TStmt}
 use Rattle.al_core.specs.declared.typed_tree.TKind.{TKind, map-TKind, fold-TKind, fold-roll-TKind}
 use Rattle.al_core.specs.declared.typed_tree.TKind.TheViews.{roll-TKind}
 use Rattle.al_core.specs.declared.typed_tree.TKind.TheVariants as k

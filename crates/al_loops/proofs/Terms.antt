@@ -1,15 +1,14 @@
 -- What is asked of the terms of a statement can be asked of it node by node.
-use Rattle.std.proofs.Common.{◌≡◌, ℕ, List, [], ◌∷◌, ◌++◌, map, Option, Some, None, refl, sym, ap, ◌∙◌}
+use Rattle.std.proofs.Common.{◌≡◌, List, [], ◌∷◌, ◌++◌, map, Option, Some, None, refl, sym, ap, ◌∙◌}
 use Rattle.std.proofs.lemmas.List.Folds.{list_any-append}
 use Rattle.std.specs.Prelude.{Bool, true, false, ◌||◌}
 use Rattle.std.specs.List.{list_any}
 use Rattle.al_core.specs.declared.typed_tree.TExpr.{TExpr}
 use Rattle.al_core.specs.declared.typed_tree.TPlace.{TPlace}
-use Rattle.al_core.specs.declared.typed_tree.TStmt.{TStmt, map-TStmt, fold-TStmt, fold-roll-TStmt}
+use Rattle.al_core.specs.declared.typed_tree.TStmt.{TStmt, fold-TStmt, fold-roll-TStmt}
 use Rattle.al_core.specs.declared.typed_tree.TKind.{TKind, map-TKind, fold-TKind, fold-roll-TKind}
-use Rattle.al_core.specs.declared.typed_tree.TKind.TheViews.{roll-TStmt, roll-TKind}
-use Rattle.al_core.specs.declared.typed_tree.TKind.TheOpen.{TStmt-F, TKind-F}
-use Rattle.al_core.specs.Accepted.{Terms, no_terms, one_expr, place_and_expr, if_expr, both_terms, all_terms, if_terms, kind_terms, terms, terms_of}
+use Rattle.al_core.specs.declared.typed_tree.TKind.TheOpen.{TKind-F}
+use Rattle.al_core.specs.Accepted.{Terms, no_terms, one_expr, place_and_expr, if_expr, both_terms, all_terms, kind_terms, terms, terms_of}
 use Rattle.al_loops.specs.Walks.{any_passes, kind_passes, passes}
 use Rattle.al_loops.proofs.Induction.{With, stmt_induct}
 

@@ -1,5 +1,5 @@
 -- Which functions the body of a loop reaches by calls.
-use Rattle.std.specs.Prelude.{◌≡◌, ◌<◌, ℕ, Bool, true, false, List, [], length, Option, Some, None, slice_get, slice_set, slice_index_or}
+use Rattle.std.specs.Prelude.{◌≡◌, ◌<◌, ℕ, Bool, true, false, List, [], length, Option, Some, slice_get, slice_set, slice_index_or}
 use Rattle.std.specs.List.{flat_map}
 use Rattle.al_core.specs.declared.typed_tree.TStmt.{TStmt}
 use Rattle.al_core.specs.declared.typed_tree.TFunc.{TFunc}

@@ -1,4 +1,4 @@
-use Rattle.std.proofs.Common.{◌≡◌, ◌∙◌, false, length, arith, replicate}
+use Rattle.std.proofs.Common.{◌≡◌, false, length, arith, replicate}
 use Rattle.std.proofs.lemmas.Grind.{common_steps}
 use Rattle.al_loops.specs.Walks.{called}
 use Rattle.al_loops.proofs.Reaching.{begun, gone, less, ended}
