@@ -1,0 +1,12 @@
+pub mod Lists
+pub mod Induction
+pub mod ExprNodes
+pub mod StmtNodes
+pub mod Terms
+pub mod LoopNodes
+pub mod Called
+pub mod Paths
+pub mod Reaching
+pub mod Noted
+pub mod Chosen
+pub mod Choosing

@@ -1,0 +1,5 @@
+pub mod Walks
+pub mod Found
+pub mod Answers
+pub mod Entries
+pub mod Reach

@@ -1,0 +1,168 @@
+ghost use Rattle.std.specs.Prelude.{◌≡◌, [], take, slice_get, IfOk};
+ghost use Rattle.std.specs.List.{find, filter_map, list_any};
+ghost use Rattle.al_core.specs.Orders as orders;
+ghost use Rattle.al_rules.specs.Candidates as spec;
+ghost use Rattle.al_loops.specs.Reach.{IsReach};
+
+use crate::forms::is_integer;
+use crate::names;
+use crate::reach::reached;
+use crate::updates::updates;
+use crate::variables::{is_counter_or_bound, is_misused, is_same, is_taken};
+use al_core::{Addr, Kind, LoopInfo, Obj, Red, RedOp, TStmt, Typed};
+use sqlite_items::Items;
+use std::alloc::{AllocError, Global};
+
+/// How many reducible variables count.
+const MOST_REDUCTIONS: usize = 8;
+
+fn is_among(a: Addr, seen: &[Addr]) -> bool
+    ensures { result ≡ list_any (orders.addr_eq a) seen.now }
+{
+    for b in seen {
+        if is_same(a, *b) {
+            return true;
+        }
+    }
+    false
+}
+
+/// The variables of the list, each once, where it comes first.
+fn firsts(alloc: Global, names: &[Addr]) -> Result<Items<Addr>, AllocError>
+    ensures { IfOk result (λ list. list ≡ spec.firsts [] names.now) }
+{
+    let mut seen = Items::new(alloc);
+    for a in names {
+        if !is_among(*a, seen.as_slice()) {
+            seen.push(*a)?;
+        }
+    }
+    Ok(seen)
+}
+
+fn is_integer_global(typed: &Typed, n: u32) -> bool
+    ensures { result ≡ spec.is_integer_global (slice_get typed.now.globals n) }
+{
+    match typed.globals.get(n as usize) {
+        Some(global) => global.scalar == Some(Kind::Int),
+        None => false,
+    }
+}
+
+fn is_outside(info: &LoopInfo, n: u32) -> bool
+    ensures { result ≡ spec.is_outside info.now n }
+{
+    !(info.first <= n && n < info.last)
+}
+
+fn is_integer_local(typed: &Typed, info: &LoopInfo, n: u32) -> bool
+    ensures { result ≡ spec.is_local_of info.now (slice_get typed.now.funcs info.now.func) n }
+{
+    match typed.funcs.get(info.func as usize) {
+        Some(f) => is_integer(f.locals.as_slice(), n) && is_outside(info, n),
+        None => false,
+    }
+}
+
+/// Whether it is an integer local that is declared outside the loop, or an integer global.
+fn is_variable(typed: &Typed, info: &LoopInfo, a: Addr) -> bool
+    ensures { result ≡ spec.is_variable typed.now info.now a }
+{
+    match a {
+        Addr::Local(n) => is_integer_local(typed, info, n),
+        Addr::Word(Obj::Global(n), w) => is_integer_global(typed, n) && w == 0,
+        _ => false,
+    }
+}
+
+/// The body of a loop, with its entry and the functions that it reaches.
+#[derive(Clone, Copy)]
+struct Body<'a> {
+    typed: &'a Typed,
+    info: &'a LoopInfo,
+    stmt: &'a TStmt,
+    marks: &'a [bool],
+}
+
+impl Body<'_> {
+    /// Whether the operator would be accepted for the variable, and updates it.
+    fn reduces(&self, a: Addr, op: RedOp) -> bool
+        requires { IsReach self.now.typed.now self.now.stmt.now self.now.marks.now }
+        ensures { result ≡ spec.reduces self.now.typed.now self.now.info.now self.now.stmt.now a op }
+    {
+        updates(op, a, self.stmt) && !is_misused(self.typed, self.stmt, self.marks, op, a)
+    }
+
+    fn operator(&self, a: Addr) -> Option<RedOp>
+        requires { IsReach self.now.typed.now self.now.stmt.now self.now.marks.now }
+        ensures { result ≡ find (spec.reduces self.now.typed.now self.now.info.now self.now.stmt.now a) spec.operators }
+    {
+        if self.reduces(a, RedOp::Add) {
+            Some(RedOp::Add)
+        } else if self.reduces(a, RedOp::Mul) {
+            Some(RedOp::Mul)
+        } else if self.reduces(a, RedOp::Min) {
+            Some(RedOp::Min)
+        } else if self.reduces(a, RedOp::Max) {
+            Some(RedOp::Max)
+        } else if self.reduces(a, RedOp::BitAnd) {
+            Some(RedOp::BitAnd)
+        } else if self.reduces(a, RedOp::BitOr) {
+            Some(RedOp::BitOr)
+        } else if self.reduces(a, RedOp::BitXor) {
+            Some(RedOp::BitXor)
+        } else {
+            None
+        }
+    }
+
+    fn reduction(&self, a: Addr) -> Option<Red>
+        requires { IsReach self.now.typed.now self.now.stmt.now self.now.marks.now }
+        ensures { result ≡ spec.reduction_of self.now.typed.now self.now.info.now self.now.stmt.now a }
+    {
+        if !is_variable(self.typed, self.info, a) || is_counter_or_bound(self.info, a) {
+            return None;
+        }
+        match self.operator(a) {
+            Some(op) if !is_taken(self.typed, a) => Some(Red { op, at: a }),
+            _ => None,
+        }
+    }
+
+    fn reductions(&self, alloc: Global, names: &[Addr]) -> Result<Items<Red>, AllocError>
+        requires { IsReach self.now.typed.now self.now.stmt.now self.now.marks.now }
+        ensures { IfOk result (λ reds. reds ≡ take spec.most_reductions (filter_map (spec.reduction_of self.now.typed.now self.now.info.now self.now.stmt.now) names.now)) }
+    {
+        let mut reds = Items::new(alloc);
+        for a in names {
+            if reds.len() < MOST_REDUCTIONS {
+                if let Some(red) = self.reduction(*a) {
+                    reds.push(red)?;
+                }
+            }
+        }
+        Ok(reds)
+    }
+}
+
+/// The reducible variables of a loop with this body that count: the first 8, in order of first mention.
+pub fn reductions(
+    alloc: Global,
+    typed: &Typed,
+    info: &LoopInfo,
+    stmt: &TStmt,
+) -> Result<Items<Red>, AllocError>
+    ensures { IfOk result (λ reds. reds ≡ spec.reductions_of typed.now info.now stmt.now) }
+{
+    let mut mentioned = Items::new(alloc);
+    names::in_stmt(stmt, &mut mentioned)?;
+    let names = firsts(alloc, mentioned.as_slice())?;
+    let marks = reached(alloc, typed, stmt)?;
+    let body = Body {
+        typed,
+        info,
+        stmt,
+        marks: marks.as_slice(),
+    };
+    body.reductions(alloc, names.as_slice())
+}
