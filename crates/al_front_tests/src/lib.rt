@@ -2,8 +2,6 @@
 #![tactic(auto)]
 
 #[cfg(test)]
-mod programs;
-#[cfg(test)]
 mod read_back;
 #[cfg(test)]
 mod sources;

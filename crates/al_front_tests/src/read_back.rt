@@ -1,8 +1,8 @@
 //! The canonical text of whole programs is read back.
-use crate::programs::*;
 use al_lexer::lex;
 use al_parser::parse;
 use al_print::print_program;
+use al_samples::*;
 use std::alloc::Global;
 use std::test::Fail;
 

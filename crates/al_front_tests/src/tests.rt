@@ -1,9 +1,9 @@
 //! What whole sources give. The values are counted by hand, or follow the grammar as it is written down.
 
-use crate::programs::*;
 use al_ast::nodes;
 use al_lexer::lex;
 use al_parser::{ParseFault, parse};
+use al_samples::*;
 use al_source::{BinOp, Expr, Func, Item, Program, Stmt, StmtKind};
 use std::alloc::{AllocError, Global};
 use std::test::Fail;
