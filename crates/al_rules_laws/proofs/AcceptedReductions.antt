@@ -1,7 +1,6 @@
 -- Where there is no note fault, a loop's own reductions and those of its choices are accepted for it.
 use Rattle.std.proofs.Common.{◌≡◌, ◌≢◌, ℕ, zero, suc, ◌+◌, ◌≤◌, ◌==◌, Bool, true, false, not, ◌&&◌, ◌||◌, cond, nat_le, nat_lt, if◌then◌else◌, List, [], ◌∷◌, map, take, length, find, filter_map, flat_map, Option, Some, None, option_map, slice_get, All, AllPairs, refl, sym, ap, ◌∙◌, subst, arith, eq-eqb, eqb-true, leb-true, true≢false, add-zero, zero-add}
 use Rattle.std.specs.List.{list_any, cons_option}
-use Rattle.std.proofs.lemmas.List.Elements.{All-nil, All-cons}
 use Rattle.std.proofs.lemmas.List.Kept.{AllPairs-cons}
 use Rattle.al_source.specs.declared.source_tree.Program.{Program}
 use Rattle.al_source.specs.declared.annotations.Policy.{Policy}
@@ -40,7 +39,7 @@ use Rattle.al_rules_laws.proofs.Logic.{and_parts, and_both, not_true, or_none, s
 use Rattle.al_rules_laws.proofs.ProgramsSound.{no_fault}
 use Rattle.al_rules_laws.proofs.FormedPrograms.{resolved_is_well_formed}
 use Rattle.al_rules_laws.proofs.ReachedFunctions.{is_found}
-use Rattle.al_rules_laws.proofs.LoopEntries.{all_map, all_append, EntryOf, EntriesOf, entries_are, numbered_length, numbered_at, loop_there}
+use Rattle.al_rules_laws.proofs.LoopEntries.{all_told, all_map, all_append, EntryOf, EntriesOf, entries_are, numbered_length, numbered_at, loop_there}
 
 -- ---- lists
 
@@ -48,10 +47,6 @@ use Rattle.al_rules_laws.proofs.LoopEntries.{all_map, all_append, EntryOf, Entri
 data Pairs {A : Type 0} (R : A → A → Type 0) : List A → Type 0 where
   alone : Pairs R []
   before : {a : A} {rest : List A} → AllOf (R a) rest → Pairs R rest → Pairs R (a ∷ rest)
-
-all_told : {A : Type 0} {P : A → Type 0} {xs : List A} → AllOf P xs → All P xs
-all_told {P = P} none = All-nil P
-all_told {P = P} (more {a = a} {rest = rest} h hs) = All-cons P a rest h (all_told hs)
 
 pairs_told : {A : Type 0} {R : A → A → Type 0} {xs : List A} → Pairs R xs → AllPairs R xs
 pairs_told alone = λ i j d lt within. absurd (omega arith)

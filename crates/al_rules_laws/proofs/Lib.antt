@@ -20,3 +20,4 @@ pub mod TreeLoops
 pub mod LoopEntries
 pub mod AcceptedReductions
 pub mod IllFormedTrees
+pub mod NumbersInRange

@@ -1,5 +1,7 @@
 -- Where there is no note fault, each entry is that of a loop that stands in the tree.
-use Rattle.std.proofs.Common.{◌≡◌, ℕ, zero, suc, ◌+◌, ◌≤◌, ◌==◌, Bool, true, false, cond, if◌then◌else◌, List, [], ◌∷◌, ◌++◌, length, find, Option, Some, None, Result, Ok, Err, option_and_then, slice_get, refl, sym, ap, ◌∙◌, subst, arith, eq-eqb, eqb-true, add-zero}
+use Rattle.std.proofs.Common.{◌≡◌, ℕ, zero, suc, ◌+◌, ◌≤◌, ◌==◌, Bool, true, false, cond, if◌then◌else◌, List, [], ◌∷◌, ◌++◌, length, find, Option, Some, None, Result, Ok, Err, option_and_then, slice_get, refl, sym, ap, ◌∙◌, subst, arith, eq-eqb, eqb-true, add-zero, All, ◌<◌}
+use Rattle.std.proofs.lemmas.List.Elements.{All-nil, All-cons}
+use Rattle.std.proofs.lemmas.Option.{slice_get_within}
 use Rattle.al_source.specs.declared.operators.BinOp.{BinOp}
 use Rattle.al_source.specs.declared.operators.BinOp.TheVariants as op
 use Rattle.al_core.specs.declared.choices.Bound.{Bound}
@@ -38,6 +40,10 @@ all_append (more h hs) k = more h (all_append hs k)
 all_split : {A : Type 0} {P : A → Type 0} (xs ys : List A) → AllOf P (xs ++ ys) → AllOf P xs × AllOf P ys
 all_split [] ys h = (none, h)
 all_split (x ∷ xs) ys (more h hs) = let q = all_split xs ys hs in (more h q.0, q.1)
+
+pub all_told : {A : Type 0} {P : A → Type 0} {xs : List A} → AllOf P xs → All P xs
+all_told {P = P} none = All-nil P
+all_told {P = P} (more {a = a} {rest = rest} h hs) = All-cons P a rest h (all_told hs)
 
 -- ---- the numbers of loops
 
@@ -116,11 +122,11 @@ all_found {n = n} (next {a = l} {rest = ls} is d) =
 abbrev Told : Typed → Standing → Type 0
 Told typed st = (note : TNote) × (slice_get typed.loops st.number ≡ Some note) × (note.func ≡ st.func)
 
-all_told : (typed : Typed) (n : ℕ) (notes : List TNote) → ((k : ℕ) (x : TNote) → slice_get notes k ≡ Some x → slice_get typed.loops (n + k) ≡ Some x) → AllOf (Told typed) (notes_from n notes)
-all_told typed n [] h = none
-all_told typed n (note ∷ notes) h =
+notes_told : (typed : Typed) (n : ℕ) (notes : List TNote) → ((k : ℕ) (x : TNote) → slice_get notes k ≡ Some x → slice_get typed.loops (n + k) ≡ Some x) → AllOf (Told typed) (notes_from n notes)
+notes_told typed n [] h = none
+notes_told typed n (note ∷ notes) h =
     more (note, ap (slice_get typed.loops) (omega arith) ∙ h 0 note refl, refl)
-    (all_told typed (n + 1) notes (λ k x e. ap (slice_get typed.loops) (omega arith) ∙ h (suc k) x e))
+    (notes_told typed (n + 1) notes (λ k x e. ap (slice_get typed.loops) (omega arith) ∙ h (suc k) x e))
 
 -- a loop that stands in the function of this number, among these
 record Stands (typed : Typed) (func : ℕ) (ls : List ForLoop) (l : ForLoop) : Type 0 where
@@ -133,6 +139,28 @@ told_loops : (typed : Typed) (func : ℕ) {all : List ForLoop} {sts : List Stand
 told_loops typed func tree.none none none = none
 told_loops typed func (tree.more same f p) (more h hs) (more g gs) =
     more (record { there = g; note = h.0; noted = ap (slice_get typed.loops) (sym same) ∙ h.1; is = h.2 ∙ f }) (told_loops typed func p hs gs)
+
+-- each loop of a function has its note
+told_at : (typed : Typed) (n k : ℕ) (fs : List TFunc) (f : TFunc) → slice_get fs k ≡ Some f → AllOf (Told typed) (loops_from n fs) → AllOf (Told typed) ((counted_all (n + k) f.body).loops f.params)
+told_at typed n k [] f at t = absurd cc
+told_at typed n zero (g ∷ fs) f at t =
+    subst (λ (h : TFunc). AllOf (Told typed) ((counted_all (n + 0) h.body).loops h.params)) (some_is at)
+    (subst (λ m. AllOf (Told typed) ((counted_all m g.body).loops g.params)) (sym (add-zero n)) (all_split ((counted_all n g.body).loops g.params) (loops_from (n + 1) fs) t).0)
+told_at typed n (suc k) (g ∷ fs) f at t =
+    subst (λ m. AllOf (Told typed) ((counted_all m f.body).loops f.params)) (later n k) (told_at typed (n + 1) k fs f at (all_split ((counted_all n g.body).loops g.params) (loops_from (n + 1) fs) t).1)
+  where
+    later : (n k : ℕ) → n + 1 + k ≡ n + suc k
+    later n k = omega arith
+
+within : (typed : Typed) {func : ℕ} {sts : List Standing} {ls : List ForLoop} → Stand func sts ls → AllOf (Told typed) sts → AllOf (λ l. l.number < length typed.loops) ls
+within typed tree.none none = none
+within typed (tree.more {l = l} same f p) (more h hs) = more (subst (λ n. n < length typed.loops) same (slice_get_within typed.loops _ h.0 h.1)) (within typed p hs)
+
+all_loops_told : (typed : Typed) → loops_from 0 typed.funcs ≡ notes_from 0 typed.loops → AllOf (Told typed) (loops_from 0 typed.funcs)
+all_loops_told typed loops = subst (AllOf (Told typed)) (sym loops) (notes_told typed 0 typed.loops (λ k x e. ap (slice_get typed.loops) (omega arith) ∙ e))
+
+pub loops_told : (typed : Typed) → loops_from 0 typed.funcs ≡ notes_from 0 typed.loops → (k : ℕ) (f : TFunc) → slice_get typed.funcs k ≡ Some f → AllOf (λ l. l.number < length typed.loops) (for_loops_in f.body)
+loops_told typed loops k f at = within typed (loops_stand (0 + k) f.body f.params) (told_at typed 0 k typed.funcs f at (all_loops_told typed loops))
 
 -- ---- entries
 
@@ -243,7 +271,7 @@ unfolding notes_of
 entries_are typed infos loops e =
     all_entries typed 0 0 (0 + length typed.loops) typed.funcs infos (λ j g e. ap (slice_get typed.funcs) (omega arith) ∙ e)
     (subst (λ sts. Numbered standing_number 0 sts (0 + length typed.loops)) (sym loops) (notes_numbered 0 typed.loops))
-    (subst (AllOf (Told typed)) (sym loops) (all_told typed 0 typed.loops (λ k x e. ap (slice_get typed.loops) (omega arith) ∙ e)))
+    (all_loops_told typed loops)
     e
 
 -- ---- the loop of an entry

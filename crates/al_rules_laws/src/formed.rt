@@ -1,4 +1,4 @@
-ghost use Rattle.al_rules_laws.specs.FormedLaws.{ResolvedIsWellFormed};
+ghost use Rattle.al_rules_laws.specs.FormedLaws.{NumbersAreInRange, ResolvedIsWellFormed};
 ghost use Rattle.al_rules_laws.specs.IllFormed.{NoGlobalOutOfRange, NoLocalOutOfRange, NoPointerInInteger, NoValueOfNothing};
 
 /// The typed tree of a program that has neither a layout fault nor a type fault is well formed: each number of a local,
@@ -6,6 +6,12 @@ ghost use Rattle.al_rules_laws.specs.IllFormed.{NoGlobalOutOfRange, NoLocalOutOf
 #[tactic(auto, using(crate::proofs::FormedPrograms::resolved_is_well_formed))]
 pub fn resolved_is_well_formed()
     ensures { ResolvedIsWellFormed }
+{}
+
+/// In the typed tree of such a program each local that a function mentions is one of its own, each global and function is
+/// one of the program's, and each annotated loop has its note.
+pub fn numbers_are_in_range()
+    ensures { NumbersAreInRange }
 {}
 
 /// No well-formed tree has a local or a global out of range, uses the value of a function that gives none, or stores a
