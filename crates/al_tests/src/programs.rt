@@ -12,7 +12,7 @@ const POINTER: (u32, Option<Kind>) = (1, Some(Kind::Ptr));
 /// ```
 pub fn p1(b: Build) -> Program {
     let sum = b.binary(BinOp::Add, b.number(2), b.number(3));
-    b.program(&[], b.no_note(), b.main(1, &[], [b.print(1, [sum], "\n")]))
+    b.program(&[], b.no_notes(), b.main(1, &[], [b.print(1, [sum], "\n")]))
 }
 
 /// `-9223372036854775807 - 1`
@@ -41,7 +41,7 @@ fn p2_prints(b: Build) -> Stmt {
 /// ```
 pub fn p2(b: Build) -> Program {
     let body = [b.set(2, 0, least(b)), p2_prints(b)];
-    b.program(&[], b.no_note(), b.main(1, &[Kind::Int], body))
+    b.program(&[], b.no_notes(), b.main(1, &[Kind::Int], body))
 }
 
 /// `for (long i = 5; i < 5; i++) { s *= 2; printf("x"); }`
@@ -69,7 +69,7 @@ pub fn p3(b: Build) -> Program {
         b.set(2, 0, b.number(7)),
         p3_loop(b),
         b.print(5, [b.local(0)], "\n"),
-        b.give_zero(6),
+        b.return_zero(6),
     ];
     b.program(&[], note, b.main(1, &[Kind::Int, Kind::Int], body))
 }
@@ -101,7 +101,12 @@ fn p4_loop(b: Build) -> Stmt {
 pub fn p4(b: Build, policy: Policy) -> Program {
     let note = b.note(5, (policy, CommitOrder::InOrder), (1, 1), &[]);
     let prints = b.print(8, [b.load(b.global(0)), b.load(b.global(1))], "\n");
-    let body = [b.set(3, 0, b.number(0)), p4_loop(b), prints, b.give_zero(9)];
+    let body = [
+        b.set(3, 0, b.number(0)),
+        p4_loop(b),
+        prints,
+        b.return_zero(9),
+    ];
     b.program(&[NUMBER, NUMBER], note, b.main(2, &[Kind::Int], body))
 }
 
@@ -128,7 +133,7 @@ fn p5_loop(b: Build) -> Stmt {
 /// ```
 pub fn p5(b: Build, order: CommitOrder) -> Program {
     let note = b.note(5, (Policy::Raw, order), (1, 1), &[]);
-    let body = [b.set(3, 0, b.number(0)), p5_loop(b), b.give_zero(10)];
+    let body = [b.set(3, 0, b.number(0)), p5_loop(b), b.return_zero(10)];
     b.program(&[NUMBER, NUMBER], note, b.main(2, &[Kind::Int], body))
 }
 
@@ -258,7 +263,7 @@ fn p10_walks(b: Build) -> Stmt {
 /// ```
 pub fn p10(b: Build) -> Program {
     let note = b.note(5, (Policy::Raw, CommitOrder::InOrder), (1, 2), &[]);
-    let body = [p10_puts(b), p10_walks(b), b.give_zero(12)];
+    let body = [p10_puts(b), p10_walks(b), b.return_zero(12)];
     let main = b.main(3, &[Kind::Int, Kind::Ptr, Kind::Ptr], body);
     b.program(&[POINTER], note, main)
 }
@@ -280,7 +285,7 @@ pub fn p11(b: Build) -> Program {
         b.store(5, b.plus(b.global(0), 2), b.address(b.global(0))),
         b.print(6, [b.load(last)], "\n"),
     ];
-    b.program(&[(3, None)], b.no_note(), b.main(3, &[Kind::Ptr], body))
+    b.program(&[(3, None)], b.no_notes(), b.main(3, &[Kind::Ptr], body))
 }
 
 /// ```c

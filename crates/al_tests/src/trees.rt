@@ -14,7 +14,7 @@ pub type Place = Built<Boxed<TPlace>>;
 
 pub type Stmt = Built<Boxed<TStmt>>;
 
-pub type Note = Built<Items<TNote>>;
+pub type Notes = Built<Items<TNote>>;
 
 pub type Program = Built<Typed>;
 
@@ -156,7 +156,7 @@ impl Build {
         self.stmt(line, TKind::While(test, body))
     }
 
-    pub fn give_zero(self, line: u32) -> Stmt {
+    pub fn return_zero(self, line: u32) -> Stmt {
         self.stmt(line, TKind::Return(Some(TExpr::Number(0))))
     }
 
@@ -247,20 +247,19 @@ impl Build {
 
 /// Programs.
 impl Build {
-    /// A program of `main` alone that has no annotated loop.
-    pub fn no_note(self) -> Note {
+    pub fn no_notes(self) -> Notes {
         Ok(Items::new(self.alloc))
     }
 
-    /// The annotation of the loop at a line, whose body declares the locals of a range.
+    /// The annotation of the loop at a line, whose body declares the locals from the first to below the last of `declared`.
     pub fn note(
         self,
         line: u32,
         how: (Policy, CommitOrder),
-        own: (u32, u32),
+        declared: (u32, u32),
         reds: &[Red],
-    ) -> Note {
-        let own_choice = Choice {
+    ) -> Notes {
+        let own = Choice {
             policy: how.0,
             order: how.1,
             reds: Items::from_slice(self.alloc, reds)?,
@@ -269,9 +268,9 @@ impl Build {
         notes.push(TNote {
             func: 0,
             line,
-            own: own_choice,
-            first: own.0,
-            last: own.1,
+            own,
+            first: declared.0,
+            last: declared.1,
         })?;
         Ok(notes)
     }
@@ -322,7 +321,7 @@ impl Build {
     pub fn program(
         self,
         globals: &[(u32, Option<Kind>)],
-        loops: Note,
+        loops: Notes,
         main: Built<Items<TFunc>>,
     ) -> Program {
         let (loops, funcs) = both(loops, main)?;
