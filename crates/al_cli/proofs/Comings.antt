@@ -1,46 +1,75 @@
--- Where the answer of a call comes from, over plain values.
-use Rattle.std.proofs.Common.{◌≡◌, ℕ, List, Option, None, Some, Result, Ok, Err, IfOk, OnErr, IfSome, IsSomeAnd, IsErrOf, ◌≢◌, refl, sym, ap, subst, ◌∙◌}
-use Rattle.al_io.specs.declared.files.ReadFault.{ReadFault}
-use Rattle.al_io.specs.declared.files.ReadFault.TheVariants.{Failed, NoSuch}
-use Rattle.std.proofs.lemmas.Result.{IfOk-weaker}
+-- What the parts of a plan come to.
+use Rattle.std.proofs.Common.{◌≡◌, ℕ, List, [], Option, None, Some, Result, Ok, Err, OnErr, ℤ, refl, sym, ap, subst, ◌∙◌}
 use Rattle.std.specs.declared.alloc.AllocError.{AllocError}
-use Rattle.al_io.specs.Contents.{Contents, contents_of, beginning_of}
-use Rattle.al_io.specs.Counts.{MayHaveRisen, GoesOn}
-use Rattle.al_cli.specs.declared.answers.Answer.{Answer}
-use Rattle.al_cli.specs.declared.words.Command.{Command}
-use Rattle.al_cli.specs.declared.words.WordFault.{WordFault}
-use Rattle.al_cli.specs.Words.{command}
-use Rattle.al_cli.specs.Lines.{word_line, unread_line, absent_line}
-use Rattle.al_cli.specs.Shown.{failed, name_in, of_source}
-use Rattle.al_cli.specs.Outcome.{FilesSeen, ReadsOnce, TriesOnce, CameFrom, refused, source, absent, unread, Starved, at_words, at_source, most_read}
+use Rattle.al_core.specs.declared.typed_tree.Typed.{Typed}
+use Rattle.al_report.specs.Faults.{input_text}
+use Rattle.al_rules.specs.declared.faults.Refusal.{Refusal}
+use Rattle.al_rules.specs.Refusals.{accepted}
+use Rattle.al_serve.specs.declared.answers.Answer.{Answer}
+use Rattle.al_serve.specs.declared.reading.FileRead.{FileRead}
+use Rattle.al_serve.specs.declared.reading.FileRead.TheVariants as file
+use Rattle.al_serve.specs.Plans.{Plan, Reads, Answers, failed}
+use Rattle.al_serve.specs.Seen.{FilesSeen, ReadsOnce, TriesOnce}
+use Rattle.al_serve.specs.Outcome.{IsBeginning, Reading, Came, planned, read_on, Starved, at_once, at_read, later}
+use Rattle.al_text.specs.declared.faults.InputFault.{InputFault}
+use Rattle.al_text.specs.Numbers.{numbers_of}
+use Rattle.al_cli.specs.Lines.{refusal_line}
+use Rattle.al_cli.specs.Shown.{most_of_source, most_of_input, if_accepted, source_plan, if_numbers, input_plan}
+use Rattle.al_cli.specs.Steps.{GoesOn}
 
-abbrev pub Told : Type 0
-Told = Result Answer AllocError
-
-pub on_any_err : (r : Told) (P : Type 0) → P → OnErr r P
+pub on_any_err : {A : Type 0} (r : Result A AllocError) (P : Type 0) → P → OnErr r P
 on_any_err (Ok a) P p = tt
 on_any_err (Err e) P p = p
 
-pub comes_refused : (words : List (List ℕ)) (f : FilesSeen) (fault : WordFault) (r : Told) → command words ≡ Err fault → IfOk r (λ a. a ≡ failed 2 (word_line words fault)) → IfOk r (CameFrom words f f)
-comes_refused words f fault r is told = IfOk-weaker r _ _ (λ a h. subst (CameFrom words f f) (sym h) (refused fault is refl)) told
+-- what a file that was read says
+pub read_bytes : (name : List ℕ) (most : ℕ) (f g : FilesSeen) (r : FileRead) (bytes : List ℕ) → r ≡ file.Bytes bytes → Reading name most f g r → ReadsOnce f g × IsBeginning f name most bytes
+read_bytes name most f g r bytes is h = subst (Reading name most f g) is h
 
-module _ (words : List (List ℕ)) (f g : FilesSeen) (c : Command) (is : command words ≡ Ok c) where
-  pub comes_source : (name bytes : List ℕ) (r : Told) → name ≡ name_in words c → ReadsOnce f g → IfSome f.contents (λ files. beginning_of files name most_read ≡ Some bytes) → IfOk r (λ a. a ≡ of_source name bytes) → IfOk r (CameFrom words f g)
-  comes_source name bytes r e once read told =
-      let P : List ℕ → Type 0 = λ n. IfSome f.contents (λ files. beginning_of files n most_read ≡ Some bytes) in
-      IfOk-weaker r _ _ (λ a h. subst (CameFrom words f g) (sym (subst (λ n. a ≡ of_source n bytes) e h)) (source c bytes is once (subst P e read))) told
+pub came_answer : (a b : Answer) (f : FilesSeen) → b ≡ a → Came (Answers a) f f b
+came_answer a b f is = subst (λ x. Came (Answers x) f f b) is (planned b f)
 
-  pub comes_absent : (name : List ℕ) (r : Told) → name ≡ name_in words c → ReadsOnce f g → IsSomeAnd f.contents (λ files. contents_of files name ≡ None) → IfOk r (λ a. a ≡ failed 4 (absent_line name)) → IfOk r (CameFrom words f g)
-  comes_absent name r e once lacks told =
-      let P : List ℕ → Type 0 = λ n. IsSomeAnd f.contents (λ files. contents_of files n ≡ None) in
-      IfOk-weaker r _ _ (λ a h. subst (CameFrom words f g) (sym (subst (λ n. a ≡ failed 4 (absent_line n)) e h)) (absent c is once (subst P e lacks))) told
+-- ---- a source
 
-  pub comes_unread : (name : List ℕ) (r : Told) → name ≡ name_in words c → TriesOnce f g → MayHaveRisen f.faults g.faults → IfOk r (λ a. a ≡ failed 4 (unread_line name)) → IfOk r (CameFrom words f g)
-  comes_unread name r e once rose told =
-      IfOk-weaker r _ _ (λ a h. subst (CameFrom words f g) (sym (subst (λ n. a ≡ failed 4 (unread_line n)) e h)) (unread c is once rose)) told
+module _ (name bytes : List ℕ) (f g : FilesSeen) (r : FileRead) (read : r ≡ file.Bytes bytes) (reading : Reading name most_of_source f g r) where
+  source_read : ReadsOnce f g × IsBeginning f name most_of_source bytes
+  source_read = read_bytes name most_of_source f g r bytes read reading
 
-pub is_that_fault : {T : Type 0} (e f : ReadFault) → e ≡ f → IsErrOf {T = T} (Err e) f
-is_that_fault {T} e f h = let error : ReadFault → Result T ReadFault = λ x. Err x in ap error h
 
-pub not_failed : {T : Type 0} (e : ReadFault) → e ≡ NoSuch → ◌≢◌ {A = Result T ReadFault} (Err e) (Err Failed)
-not_failed e is h = cc
+  pub source_goes : (typed : Typed) → accepted bytes ≡ Ok typed → GoesOn (source_plan name) f g typed
+  source_goes typed is = record {
+    came = λ next last a c. read_on name most_of_source (λ source. if_accepted name next (accepted source)) f g last bytes a source_read.0 source_read.1 (rw is c);
+    starved = λ next last s. later name most_of_source (λ source. if_accepted name next (accepted source)) f g last bytes source_read.0 source_read.1 (rw is s);
+  }
+
+  pub source_refused : (cause : Refusal) (a : Answer) → accepted bytes ≡ Err cause → a ≡ failed 1 (refusal_line name cause) → (next : Typed → Plan) → Came (source_plan name next) f g a
+  source_refused cause a is same next = read_on name most_of_source (λ source. if_accepted name next (accepted source)) f g g bytes a source_read.0 source_read.1 (rw is (came_answer _ a g same))
+
+  pub source_starved : (next : Typed → Plan) → Starved (source_plan name next) f g
+  source_starved next = later name most_of_source (λ source. if_accepted name next (accepted source)) f g g bytes source_read.0 source_read.1 (at_once _ g)
+
+pub source_untried : (name : List ℕ) (f g : FilesSeen) → TriesOnce f g → (next : Typed → Plan) → Starved (source_plan name next) f g
+source_untried name f g once next = at_read name most_of_source (λ source. if_accepted name next (accepted source)) f g once
+
+-- ---- an input
+
+pub no_input : (f : FilesSeen) → GoesOn (input_plan None) f f []
+no_input f = record { came = λ next last a c. c; starved = λ next last s. s }
+
+module _ (name bytes : List ℕ) (f g : FilesSeen) (r : FileRead) (read : r ≡ file.Bytes bytes) (reading : Reading name most_of_input f g r) where
+  input_read : ReadsOnce f g × IsBeginning f name most_of_input bytes
+  input_read = read_bytes name most_of_input f g r bytes read reading
+
+  pub input_goes : (input : List ℤ) → numbers_of bytes ≡ Ok input → GoesOn (input_plan (Some name)) f g input
+  input_goes input is = record {
+    came = λ next last a c. read_on name most_of_input (λ text. if_numbers name next (numbers_of text)) f g last bytes a input_read.0 input_read.1 (rw is c);
+    starved = λ next last s. later name most_of_input (λ text. if_numbers name next (numbers_of text)) f g last bytes input_read.0 input_read.1 (rw is s);
+  }
+
+  pub input_refused : (fault : InputFault) (a : Answer) → numbers_of bytes ≡ Err fault → a ≡ failed 7 (input_text name fault) → (next : List ℤ → Plan) → Came (input_plan (Some name) next) f g a
+  input_refused fault a is same next = read_on name most_of_input (λ text. if_numbers name next (numbers_of text)) f g g bytes a input_read.0 input_read.1 (rw is (came_answer _ a g same))
+
+  pub input_starved : (next : List ℤ → Plan) → Starved (input_plan (Some name) next) f g
+  input_starved next = later name most_of_input (λ text. if_numbers name next (numbers_of text)) f g g bytes input_read.0 input_read.1 (at_once _ g)
+
+pub input_untried : (name : List ℕ) (f g : FilesSeen) → TriesOnce f g → (next : List ℤ → Plan) → Starved (input_plan (Some name) next) f g
+input_untried name f g once next = at_read name most_of_input (λ text. if_numbers name next (numbers_of text)) f g once
