@@ -1,5 +1,5 @@
 -- What the parts of a plan come to.
-use Rattle.std.proofs.Common.{◌≡◌, ℕ, List, [], Option, None, Some, Result, Ok, Err, OnErr, ℤ, refl, sym, ap, subst, ◌∙◌}
+use Rattle.std.proofs.Common.{◌≡◌, ◌≢◌, ℕ, List, [], Option, None, Some, Result, Ok, Err, IfOk, OnErr, ℤ, refl, sym, ap, subst, ◌∙◌}
 use Rattle.std.specs.declared.alloc.AllocError.{AllocError}
 use Rattle.al_core.specs.declared.typed_tree.Typed.{Typed}
 use Rattle.al_report.specs.Faults.{input_text}
@@ -12,14 +12,26 @@ use Rattle.al_serve.specs.Plans.{Plan, Reads, Answers, failed}
 use Rattle.al_serve.specs.Seen.{FilesSeen, ReadsOnce, TriesOnce}
 use Rattle.al_serve.specs.Outcome.{IsBeginning, Reading, Came, planned, read_on, Starved, at_once, at_read, later}
 use Rattle.al_text.specs.declared.faults.InputFault.{InputFault}
+use Rattle.al_text.specs.declared.faults.InputFault.TheVariants.{TooLong, NotNumber, OutOfRange, TooMany, Memory}
+use Rattle.al_text.specs.Answers.{Fails}
 use Rattle.al_text.specs.Numbers.{numbers_of}
 use Rattle.al_cli.specs.Lines.{refusal_line}
 use Rattle.al_cli.specs.Shown.{most_of_source, most_of_input, if_accepted, source_plan, if_numbers, input_plan}
-use Rattle.al_cli.specs.Steps.{GoesOn}
+use Rattle.al_cli.specs.declared.reading.SourceStep.{SourceStep}
+use Rattle.al_cli.specs.declared.reading.SourceStep.TheVariants as source
+use Rattle.al_cli.specs.Steps.{GoesOn, SourceComes}
 
 pub on_any_err : {A : Type 0} (r : Result A AllocError) (P : Type 0) → P → OnErr r P
 on_any_err (Ok a) P p = tt
 on_any_err (Err e) P p = p
+
+pub if_ok : {A E : Type 0} (r : Result A E) (P Q : A → Type 0) → ((a : A) → P a → Q a) → IfOk r P → IfOk r Q
+if_ok (Ok a) P Q f p = f a p
+if_ok (Err e) P Q f p = tt
+
+pub on_err : {A E : Type 0} (r : Result A E) (P Q : Type 0) → (P → Q) → OnErr r P → OnErr r Q
+on_err (Ok a) P Q f p = tt
+on_err (Err e) P Q f p = f p
 
 -- what a file that was read says
 pub read_bytes : (name : List ℕ) (most : ℕ) (f g : FilesSeen) (r : FileRead) (bytes : List ℕ) → r ≡ file.Bytes bytes → Reading name most f g r → ReadsOnce f g × IsBeginning f name most bytes
@@ -33,7 +45,6 @@ came_answer a b f is = subst (λ x. Came (Answers x) f f b) is (planned b f)
 module _ (name bytes : List ℕ) (f g : FilesSeen) (r : FileRead) (read : r ≡ file.Bytes bytes) (reading : Reading name most_of_source f g r) where
   source_read : ReadsOnce f g × IsBeginning f name most_of_source bytes
   source_read = read_bytes name most_of_source f g r bytes read reading
-
 
   pub source_goes : (typed : Typed) → accepted bytes ≡ Ok typed → GoesOn (source_plan name) f g typed
   source_goes typed is = record {
@@ -50,7 +61,19 @@ module _ (name bytes : List ℕ) (f g : FilesSeen) (r : FileRead) (read : r ≡ 
 pub source_untried : (name : List ℕ) (f g : FilesSeen) → TriesOnce f g → (next : Typed → Plan) → Starved (source_plan name next) f g
 source_untried name f g once next = at_read name most_of_source (λ source. if_accepted name next (accepted source)) f g once
 
+-- the source of this name was accepted
+pub source_accepted : (name own : List ℕ) (f g : FilesSeen) (r : SourceStep) (typed : Typed) → name ≡ own → r ≡ source.Accepted typed → SourceComes name f g r → GoesOn (source_plan own) f g typed
+source_accepted name own f g r typed same is comes = subst (λ n. GoesOn (source_plan n) f g typed) same (subst (SourceComes name f g) is comes)
+
 -- ---- an input
+
+-- a fault that is not want of memory is the one that the definition gives
+pub fails_so : {A : Type 0} (fault : InputFault) (defined : Result A InputFault) → fault ≢ Memory → Fails fault defined → defined ≡ Err fault
+fails_so TooLong defined other h = h
+fails_so (NotNumber line) defined other h = h
+fails_so (OutOfRange line) defined other h = h
+fails_so TooMany defined other h = h
+fails_so Memory defined other h = absurd (other refl)
 
 pub no_input : (f : FilesSeen) → GoesOn (input_plan None) f f []
 no_input f = record { came = λ next last a c. c; starved = λ next last s. s }

@@ -11,7 +11,7 @@ use crate::tasks::Task;
 use al_core::{Choice, Ending, Knobs, Report, Typed};
 use al_front::{FrontFault, resolve};
 use al_gen::make;
-use al_plain::run;
+use al_plain::runs::run;
 use al_report::{totals_text, trace_text, trap_text};
 use al_serve::{Answer, failed};
 use sqlite_items::Items;
