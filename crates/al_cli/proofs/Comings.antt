@@ -1,6 +1,7 @@
 -- What the parts of a plan come to.
 use Rattle.std.proofs.Common.{◌≡◌, ◌≢◌, ℕ, List, [], Option, None, Some, Result, Ok, Err, IfOk, OnErr, ℤ, refl, sym, ap, subst, ◌∙◌}
 use Rattle.std.specs.declared.alloc.AllocError.{AllocError}
+use Rattle.al_core.specs.declared.choices.Knobs.{Knobs}
 use Rattle.al_core.specs.declared.typed_tree.Typed.{Typed}
 use Rattle.al_report.specs.Faults.{input_text}
 use Rattle.al_rules.specs.declared.faults.Refusal.{Refusal}
@@ -15,11 +16,17 @@ use Rattle.al_text.specs.declared.faults.InputFault.{InputFault}
 use Rattle.al_text.specs.declared.faults.InputFault.TheVariants.{TooLong, NotNumber, OutOfRange, TooMany, Memory}
 use Rattle.al_text.specs.Answers.{Fails}
 use Rattle.al_text.specs.Numbers.{numbers_of}
+use Rattle.al_words.specs.declared.command.Command.{Command}
+use Rattle.al_words.specs.declared.command.WordFault.{WordFault}
+use Rattle.al_words.specs.Words.{command}
 use Rattle.al_cli.specs.Lines.{refusal_line}
-use Rattle.al_cli.specs.Shown.{most_of_source, most_of_input, if_accepted, source_plan, if_numbers, input_plan}
+use Rattle.al_cli.specs.Shown.{most_of_source, most_of_input, if_accepted, source_plan, if_numbers, input_plan, task_of, plan_of, plan}
 use Rattle.al_cli.specs.declared.reading.SourceStep.{SourceStep}
 use Rattle.al_cli.specs.declared.reading.SourceStep.TheVariants as source
-use Rattle.al_cli.specs.Steps.{GoesOn, SourceComes}
+use Rattle.al_cli.specs.declared.reading.InputStep.{InputStep}
+use Rattle.al_cli.specs.declared.reading.InputStep.TheVariants as input
+use Rattle.al_cli.specs.declared.tasks.Task.{Task}
+use Rattle.al_cli.specs.Steps.{GoesOn, SourceComes, InputComes}
 
 pub on_any_err : {A : Type 0} (r : Result A AllocError) (P : Type 0) → P → OnErr r P
 on_any_err (Ok a) P p = tt
@@ -39,6 +46,16 @@ read_bytes name most f g r bytes is h = subst (Reading name most f g) is h
 
 pub came_answer : (a b : Answer) (f : FilesSeen) → b ≡ a → Came (Answers a) f f b
 came_answer a b f is = subst (λ x. Came (Answers x) f f b) is (planned b f)
+
+pub came_planned : (p q : Plan) (f : FilesSeen) (a : Answer) → Answers a ≡ q → p ≡ q → Came p f f a
+came_planned p q f a is same = subst (λ r. Came r f f a) (is ∙ sym same) (planned a f)
+
+pub plan_is : (words : List (List ℕ)) (r : Result Command WordFault) → r ≡ command words → plan words ≡ plan_of words r
+unfolding plan
+plan_is words r is = ap (plan_of words) (sym is)
+
+pub task_shown : (t : Task) (knobs : Knobs) (name own : List ℕ) (typed : Typed) (ns ms : List ℤ) (a : Answer) → name ≡ own → ns ≡ ms → a ≡ task_of t knobs name typed ns → a ≡ task_of t knobs own typed ms
+task_shown t knobs name own typed ns ms a same numbers is = is ∙ ap (λ n. task_of t knobs n typed ns) same ∙ ap (task_of t knobs own typed) numbers
 
 -- ---- a source
 
@@ -93,6 +110,10 @@ module _ (name bytes : List ℕ) (f g : FilesSeen) (r : FileRead) (read : r ≡ 
 
   pub input_starved : (next : List ℤ → Plan) → Starved (input_plan (Some name) next) f g
   input_starved next = later name most_of_input (λ text. if_numbers name next (numbers_of text)) f g g bytes input_read.0 input_read.1 (at_once _ g)
+
+-- the input of this name, if there is one, is these numbers
+pub input_accepted : (name : Option (List ℕ)) (f g : FilesSeen) (r : InputStep) (ns : List ℤ) → r ≡ input.Numbers ns → InputComes name f g r → GoesOn (input_plan name) f g ns
+input_accepted name f g r ns is comes = subst (InputComes name f g) is comes
 
 pub input_untried : (name : List ℕ) (f g : FilesSeen) → TriesOnce f g → (next : List ℤ → Plan) → Starved (input_plan (Some name) next) f g
 input_untried name f g once next = at_read name most_of_input (λ text. if_numbers name next (numbers_of text)) f g once

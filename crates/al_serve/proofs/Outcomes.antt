@@ -1,17 +1,15 @@
 -- What a caller may conclude from the outcome of a call that follows a plan.
-use Rattle.std.proofs.Common.{◌≡◌, ◌≢◌, ◌⊎◌, inl, inr, ℕ, ◌<◌, ◌≤◌, List, [], ◌∷◌, length, take, Option, None, Some, IfSome, IsSomeAnd, refl, sym, ap, subst, ◌∙◌, arith}
+use Rattle.std.proofs.Common.{◌≡◌, ◌≢◌, ◌⊎◌, inl, inr, ℕ, List, [], ◌∷◌, length, Option, IfSome, refl, sym, ap, subst, ◌∙◌, arith}
 use Rattle.std.proofs.Math.Seq.{take-nil}
-use Rattle.std.specs.Option.{option_map}
 use Rattle.std.specs.Io.KnownBytes.{append_known}
-use Rattle.al_io.specs.Contents.{contents_of}
-use Rattle.al_io.specs.Counts.{counted_on, DidNotRise, MayHaveRisen, HasRisen}
+use Rattle.al_io.specs.Counts.{DidNotRise, MayHaveRisen, HasRisen}
 use Rattle.al_io.specs.Written.{AppendsPrefix}
 use Rattle.al_serve.specs.declared.answers.Answer.{Answer}
 use Rattle.al_serve.specs.Lines.{unread_line, absent_line}
 use Rattle.al_serve.specs.Plans.{Plan, Reads, Answers, failed, played, reads_on, ReadsInOrder, AllAnswers}
-use Rattle.al_serve.specs.Seen.{FilesSeen, SinkSeen, put_counted, Took, TookPart}
-use Rattle.al_serve.specs.Tried.{TriedLast, ReadAtMost, Missed, by_fault, by_absence}
-use Rattle.al_serve.specs.Outcome.{Came, planned, Starved, Delivers, whole, out_failed, err_failed, Outcome, answered, starved, IsOneOf, Writes, WritesLine, WritesPart, AtMostOneMore, Unread, Absent, UnreadInPart, Answered}
+use Rattle.al_serve.specs.Seen.{FilesSeen, SinkSeen, put_counted}
+use Rattle.al_serve.specs.Tried.{ReadAtMost, Missed, by_fault, by_absence}
+use Rattle.al_serve.specs.Outcome.{Came, planned, Delivers, whole, out_failed, err_failed, Outcome, answered, starved, IsOneOf, Writes, WritesLine, WritesPart, AtMostOneMore, Unread, Absent, UnreadInPart, Answered}
 use Rattle.al_serve.proofs.Options.{if_any, if_so, no_rise, append_nothing}
 use Rattle.al_serve.proofs.Comings.{is_played, played_where_read, answers_so, fault_answer, four_answer, came_reads, starved_reads, came_reads_on, starved_reads_on}
 
