@@ -44,12 +44,12 @@ pub data Why (words : List (List ℕ)) : Answer → Type 0 where
   source_refused : (name source : List ℕ) (cause : Refusal) → ReadsSource words name → accepted source ≡ Err cause → Why words (failed 1 (refusal_line name cause))
   -- status 7: the input is refused
   input_refused : (t : Task) (job : Job) (name text : List ℕ) (fault : InputFault) → command words ≡ Ok (asks t job) → input_name words job ≡ Some name → numbers_of text ≡ Err fault
-    → Why words (failed 7 (input_text name fault))
+      → Why words (failed 7 (input_text name fault))
   -- status 0 or 3: the program was run
   program_run : (t : Task) (job : Job) (source : List ℕ) (typed : Typed) (input : List ℤ) → command words ≡ Ok (asks t job) → accepted source ≡ Ok typed → AreNumbers (input_name words job) input
-    → Why words (task_of t job.knobs (source_name words job) typed input)
+      → Why words (task_of t job.knobs (source_name words job) typed input)
   -- status 0: the program is accepted
   program_accepted : (job : Job) (source : List ℕ) (typed : Typed) → command words ≡ Ok (Check job) → accepted source ≡ Ok typed → Why words (done (codes "ok\n"))
   -- status 0 or 3: the generated program was run
   program_shown : (start size : ℕ) (knobs : Knobs) (typed : Typed) → command words ≡ Ok (Demo start size knobs) → accepted made_source ≡ Ok typed
-    → Why words (totals_of (codes "demo") (lockstep_report typed (made_input start size) knobs))
+      → Why words (totals_of (codes "demo") (lockstep_report typed (made_input start size) knobs))

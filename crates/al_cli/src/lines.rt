@@ -21,8 +21,18 @@ pub fn word_line(alloc: Global, words: &[String], fault: WordFault) -> Result<It
             let word = word_at(words, u64::from(at));
             line(alloc, b"unknown command: ", word.as_bytes(), b"")
         }
-        WordFault::Unknown(at) => line(alloc, b"unknown option: ", word_at(words, at).as_bytes(), b""),
-        WordFault::Repeated(at) => line(alloc, b"repeated option: ", word_at(words, at).as_bytes(), b""),
+        WordFault::Unknown(at) => line(
+            alloc,
+            b"unknown option: ",
+            word_at(words, at).as_bytes(),
+            b"",
+        ),
+        WordFault::Repeated(at) => line(
+            alloc,
+            b"repeated option: ",
+            word_at(words, at).as_bytes(),
+            b"",
+        ),
         WordFault::NoValue(at) => line(alloc, b"no value for ", word_at(words, at).as_bytes(), b""),
         WordFault::BadValue(at) => bad_value(alloc, words, at),
         WordFault::Names => line(alloc, b"wrong number of names", b"", b""),
@@ -43,7 +53,12 @@ fn bad_value(alloc: Global, words: &[String], at: u64) -> Result<Items<u8>, Allo
     };
     let mut after = Vec::from_slice(alloc, b": ")?;
     after.extend_from_slice(value.as_bytes())?;
-    line(alloc, b"bad value for ", word_at(words, at).as_bytes(), after.as_slice())
+    line(
+        alloc,
+        b"bad value for ",
+        word_at(words, at).as_bytes(),
+        after.as_slice(),
+    )
 }
 
 /// The word at a place, or no bytes where there is none.

@@ -92,11 +92,7 @@ pub fn input_step<F: Files>(
 }
 
 /// Reads an input, and takes its numbers or refuses it.
-fn numbers_of<F: Files>(
-    alloc: Global,
-    name: &str,
-    files: &mut F,
-) -> Result<InputStep, AllocError>
+fn numbers_of<F: Files>(alloc: Global, name: &str, files: &mut F) -> Result<InputStep, AllocError>
     ensures ok { IfOk result (InputComes (Some name.now)
         (files_seen F.contents F.calls F.faults files.old) (files_seen F.contents F.calls F.faults files.new)) }
     ensures err { OnErr result (InputStarved (Some name.now)

@@ -70,7 +70,12 @@ pub fn demo_of(alloc: Global, start: u32, size: u32, knobs: &Knobs) -> Result<An
 }
 
 /// What is written of the generated program, where it is accepted.
-fn shown_of(alloc: Global, typed: &Typed, input: &[i64], knobs: &Knobs) -> Result<Answer, AllocError>
+fn shown_of(
+    alloc: Global,
+    typed: &Typed,
+    input: &[i64],
+    knobs: &Knobs,
+) -> Result<Answer, AllocError>
     requires { AreInRange knobs.now }
     ensures { IfOk result (λ a. a ≡ spec.totals_of (codes "demo") (spec.lockstep_report typed.now input.now knobs.now)) }
 {
@@ -115,12 +120,7 @@ fn in_lockstep(
 }
 
 /// A run with every loop plain.
-fn plain(
-    alloc: Global,
-    typed: &Typed,
-    input: &[i64],
-    knobs: &Knobs,
-) -> Result<Report, AllocError>
+fn plain(alloc: Global, typed: &Typed, input: &[i64], knobs: &Knobs) -> Result<Report, AllocError>
     requires { AreInRange knobs.now }
     ensures { IfOk result (λ r. r ≡ watched false (spec.plain_report typed.now input.now knobs.now)) }
 {

@@ -99,12 +99,14 @@ fn gives(alloc: Global, call: &Call, wanted: &Wanted) -> Result<bool, AllocError
     let mut out = sink(alloc, call.out)?;
     let mut err = sink(alloc, call.err)?;
     let status = alter(alloc, words.as_slice(), &mut files, &mut out, &mut err);
-    Ok(status == wanted.status
-        && out.bytes() == wanted.out.as_bytes()
-        && err.bytes() == wanted.err.as_bytes()
-        && files.calls() == wanted.reads
-        && out.calls() == wanted.out_puts
-        && err.calls() == wanted.err_puts)
+    Ok(
+        status == wanted.status
+            && out.bytes() == wanted.out.as_bytes()
+            && err.bytes() == wanted.err.as_bytes()
+            && files.calls() == wanted.reads
+            && out.calls() == wanted.out_puts
+            && err.calls() == wanted.err_puts,
+    )
 }
 
 #[test]
@@ -132,5 +134,34 @@ fn refused_words_have_their_line(rt: HostRuntime) -> Result<(), Fail> {
             "{words}"
         );
     }
+    Ok(())
+}
+
+#[test]
+fn files_that_are_not_read_have_their_line(rt: HostRuntime) -> Result<(), Fail> {
+    let alloc = rt.alloc();
+    let missing = over_a_file("run p2.c n.txt");
+    assert!(rt; gives(alloc, &missing, &line(4, "alter: no such file: p2.c\n", 1))?);
+    for words in ["run p1.c n.txt", "plain p1.c", "trace p1.c", "check p1.c"] {
+        let mut call = over_a_file(words);
+        call.failing = 0;
+        assert!(rt;
+            gives(alloc, &call, &line(4, "alter: cannot read p1.c\n", 1))?,
+            "{words}"
+        );
+    }
+    Ok(())
+}
+
+#[test]
+fn a_line_is_cut(rt: HostRuntime) -> Result<(), Fail> {
+    let alloc = rt.alloc();
+    let mut call = over_a_file("run");
+    call.err = Cut { call: 0, taken: 6 };
+    assert!(rt; gives(alloc, &call, &line(5, "alter:", 0))?);
+    let mut call = over_a_file("run p1.c");
+    call.failing = 0;
+    call.err = Cut { call: 0, taken: 0 };
+    assert!(rt; gives(alloc, &call, &line(5, "", 1))?);
     Ok(())
 }

@@ -120,7 +120,9 @@ pub fn seen(alloc: Global, call: &Call<'_>) -> Result<Seen, AllocError> {
 
 pub fn gives(alloc: Global, call: &Call<'_>, wanted: &Wanted<'_>) -> Result<bool, AllocError> {
     let seen = seen(alloc, call)?;
-    Ok(seen.status == wanted.status
-        && seen.out.as_slice() == wanted.out.as_bytes()
-        && seen.err.as_slice() == wanted.err.as_bytes())
+    Ok(
+        seen.status == wanted.status
+            && seen.out.as_slice() == wanted.out.as_bytes()
+            && seen.err.as_slice() == wanted.err.as_bytes(),
+    )
 }

@@ -51,7 +51,13 @@ fn files_are_missing(rt: HostRuntime) -> Result<(), Fail> {
     // Where the source is refused, no input is read.
     let source = program("p14.c", P14);
     let call = Call::new("run p14.c m.txt", source, NUMBERS);
-    assert!(rt; gives(alloc, &call, &wanted(1, "", "alter: p14.c:3: loop is left\n"))?);
+    assert!(rt;
+        gives(
+            alloc,
+            &call,
+            &wanted(1, "", "alter: p14.c:3: loop is left\n")
+        )?
+    );
     Ok(())
 }
 

@@ -30,7 +30,11 @@ fn over(
     text: &str,
     wanted: &Wanted<'_>,
 ) -> Result<bool, AllocError> {
-    gives(alloc, &Call::new(words, File { name, text }, NUMBERS), wanted)
+    gives(
+        alloc,
+        &Call::new(words, File { name, text }, NUMBERS),
+        wanted,
+    )
 }
 
 #[test]
@@ -73,7 +77,15 @@ fn ones(alloc: Global, count: usize) -> Result<String, AllocError> {
 fn the_operators_of_an_expression(rt: HostRuntime) -> Result<(), Fail> {
     let alloc = rt.alloc();
     let most = ones(alloc, 128)?;
-    assert!(rt; over(alloc, "run o.c", "o.c", most.as_str(), &wanted(0, "129\n", ""))?);
+    assert!(rt;
+        over(
+            alloc,
+            "run o.c",
+            "o.c",
+            most.as_str(),
+            &wanted(0, "129\n", "")
+        )?
+    );
     let more = ones(alloc, 129)?;
     let refused = wanted(1, "", "alter: o.c: not a program\n");
     assert!(rt; over(alloc, "run o.c", "o.c", more.as_str(), &refused)?);
@@ -82,14 +94,24 @@ fn the_operators_of_an_expression(rt: HostRuntime) -> Result<(), Fail> {
 
 /// A program whose calls go so deep.
 fn deep(alloc: Global, depth: u32) -> Result<String, AllocError> {
-    format!(in alloc; "long f(long n) {{ if (n == 0) return 0; return f(n - 1); }}\nint main(void) {{ printf(\"%ld\\n\", f({depth})); }}\n")
+    format!(in alloc;
+        "long f(long n) {{ if (n == 0) return 0; return f(n - 1); }}\nint main(void) {{ printf(\"%ld\\n\", f({depth})); }}\n"
+    )
 }
 
 #[test]
 fn the_depth_of_calls(rt: HostRuntime) -> Result<(), Fail> {
     let alloc = rt.alloc();
     let most = deep(alloc, 254)?;
-    assert!(rt; over(alloc, "run d.c", "d.c", most.as_str(), &wanted(0, "0\n", ""))?);
+    assert!(rt;
+        over(
+            alloc,
+            "run d.c",
+            "d.c",
+            most.as_str(),
+            &wanted(0, "0\n", "")
+        )?
+    );
     let more = deep(alloc, 255)?;
     let trap = wanted(3, "", "alter: d.c:1: trap: calls nested too deep\n");
     assert!(rt; over(alloc, "run d.c", "d.c", more.as_str(), &trap)?);

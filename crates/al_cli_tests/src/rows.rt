@@ -42,17 +42,62 @@ fn changed(alloc: Global, text: &str, old: &str, new: &str) -> Result<String, Al
 
 /// Whether the trace that words ask for ends in this text.
 fn ends_in(alloc: Global, words: &str, text: &str, tail: &str) -> Result<bool, AllocError> {
-    let seen = seen(alloc, &Call::new(words, File { name: "p.c", text }, NUMBERS))?;
+    let seen = seen(
+        alloc,
+        &Call::new(words, File { name: "p.c", text }, NUMBERS),
+    )?;
     Ok(seen.out.as_slice().ends_with(tail.as_bytes()))
 }
 
 #[test]
 fn programs_print(rt: HostRuntime) -> Result<(), Fail> {
     let alloc = rt.alloc();
-    assert_eq!(rt; broken(alloc, "p1.c", P1, &[("run p1.c", 0, "5\n", ""), ("check p1.c", 0, "ok\n", "")])?, None);
-    assert_eq!(rt; broken(alloc, "p2.c", P2, &[("run p2.c", 0, "-9223372036854775808 0 1 -1\n", "")])?, None);
-    assert_eq!(rt; broken(alloc, "p12.c", P12, &[("run p12.c", 3, "go ", "alter: p12.c:5: trap: too many trips\n")])?, None);
-    assert_eq!(rt; broken(alloc, "p11.c", P11, &[("run p11.c", 3, "", "alter: p11.c:6: trap: word of the other kind\n")])?, None);
+    assert_eq!(rt;
+        broken(
+            alloc,
+            "p1.c",
+            P1,
+            &[("run p1.c", 0, "5\n", ""), ("check p1.c", 0, "ok\n", "")]
+        )?,
+        None
+    );
+    assert_eq!(rt;
+        broken(
+            alloc,
+            "p2.c",
+            P2,
+            &[("run p2.c", 0, "-9223372036854775808 0 1 -1\n", "")]
+        )?,
+        None
+    );
+    assert_eq!(rt;
+        broken(
+            alloc,
+            "p12.c",
+            P12,
+            &[(
+                "run p12.c",
+                3,
+                "go ",
+                "alter: p12.c:5: trap: too many trips\n"
+            )]
+        )?,
+        None
+    );
+    assert_eq!(rt;
+        broken(
+            alloc,
+            "p11.c",
+            P11,
+            &[(
+                "run p11.c",
+                3,
+                "",
+                "alter: p11.c:6: trap: word of the other kind\n"
+            )]
+        )?,
+        None
+    );
     Ok(())
 }
 
@@ -107,8 +152,19 @@ fn orders_of_commit(rt: HostRuntime) -> Result<(), Fail> {
     let alloc = rt.alloc();
     let in_order = changed(alloc, P5, "OutOfOrder", "InOrder")?;
     let words = "run p5.c --lanes 3 --chunk 1";
-    assert_eq!(rt; broken(alloc, "p5.c", P5, &[(words, 0, "0 2 1 ", "")])?, None);
-    assert_eq!(rt; broken(alloc, "p5.c", in_order.as_str(), &[(words, 0, "0 1 2 ", "")])?, None);
+    assert_eq!(rt;
+        broken(alloc, "p5.c", P5, &[(words, 0, "0 2 1 ", "")])?,
+        None
+    );
+    assert_eq!(rt;
+        broken(
+            alloc,
+            "p5.c",
+            in_order.as_str(),
+            &[(words, 0, "0 1 2 ", "")]
+        )?,
+        None
+    );
     let whole: Row = (
         "trace p5.c --chunk 100 --lanes 64",
         0,
@@ -126,7 +182,10 @@ fn traps_of_chunks_that_fail(rt: HostRuntime) -> Result<(), Fail> {
     let waw = changed(alloc, P6, "RAW", "WAW")?;
     assert_eq!(rt; broken(alloc, "p6.c", P6, &[(words, 0, "10\n", "")])?, None);
     let trap = "alter: p6.c:6: trap: divide by zero\n";
-    assert_eq!(rt; broken(alloc, "p6.c", waw.as_str(), &[(words, 3, "", trap)])?, None);
+    assert_eq!(rt;
+        broken(alloc, "p6.c", waw.as_str(), &[(words, 3, "", trap)])?,
+        None
+    );
     Ok(())
 }
 
@@ -137,7 +196,10 @@ fn budgets(rt: HostRuntime) -> Result<(), Fail> {
     let none = changed(alloc, P7, "RAW", "NONE")?;
     assert_eq!(rt; broken(alloc, "p7.c", P7, &[(words, 0, "ok\n", "")])?, None);
     let trap = "alter: p7.c:6: trap: step budget spent\n";
-    assert_eq!(rt; broken(alloc, "p7.c", none.as_str(), &[(words, 3, "", trap)])?, None);
+    assert_eq!(rt;
+        broken(alloc, "p7.c", none.as_str(), &[(words, 3, "", trap)])?,
+        None
+    );
     let rows: [Row; 2] = [
         ("run p8.c --chunk 2 --iter-steps 64", 0, "ok\n", ""),
         (
