@@ -1,46 +1,119 @@
--- Where the answer of a call comes from, over plain values.
-use Rattle.std.proofs.Common.{◌≡◌, ℕ, List, Option, None, Some, Result, Ok, Err, IfOk, OnErr, IfSome, IsSomeAnd, IsErrOf, ◌≢◌, refl, sym, ap, subst, ◌∙◌}
-use Rattle.al_io.specs.declared.files.ReadFault.{ReadFault}
-use Rattle.al_io.specs.declared.files.ReadFault.TheVariants.{Failed, NoSuch}
-use Rattle.std.proofs.lemmas.Result.{IfOk-weaker}
+-- What the parts of a plan come to.
+use Rattle.std.proofs.Common.{◌≡◌, ◌≢◌, ℕ, List, [], Option, None, Some, Result, Ok, Err, IfOk, OnErr, ℤ, refl, sym, ap, subst, ◌∙◌}
 use Rattle.std.specs.declared.alloc.AllocError.{AllocError}
-use Rattle.al_io.specs.Contents.{Contents, contents_of, beginning_of}
-use Rattle.al_io.specs.Counts.{MayHaveRisen, GoesOn}
-use Rattle.al_cli.specs.declared.answers.Answer.{Answer}
-use Rattle.al_cli.specs.declared.words.Command.{Command}
-use Rattle.al_cli.specs.declared.words.WordFault.{WordFault}
-use Rattle.al_cli.specs.Words.{command}
-use Rattle.al_cli.specs.Lines.{word_line, unread_line, absent_line}
-use Rattle.al_cli.specs.Shown.{failed, name_in, of_source}
-use Rattle.al_cli.specs.Outcome.{FilesSeen, ReadsOnce, TriesOnce, CameFrom, refused, source, absent, unread, Starved, at_words, at_source, most_read}
+use Rattle.al_core.specs.declared.choices.Knobs.{Knobs}
+use Rattle.al_core.specs.declared.typed_tree.Typed.{Typed}
+use Rattle.al_report.specs.Faults.{input_text}
+use Rattle.al_rules.specs.declared.faults.Refusal.{Refusal}
+use Rattle.al_rules.specs.Refusals.{accepted}
+use Rattle.al_serve.specs.declared.answers.Answer.{Answer}
+use Rattle.al_serve.specs.declared.reading.FileRead.{FileRead}
+use Rattle.al_serve.specs.declared.reading.FileRead.TheVariants as file
+use Rattle.al_serve.specs.Plans.{Plan, Reads, Answers, failed}
+use Rattle.al_serve.specs.Seen.{FilesSeen, ReadsOnce, TriesOnce}
+use Rattle.al_serve.specs.Outcome.{IsBeginning, Reading, Came, planned, read_on, Starved, at_once, at_read, later}
+use Rattle.al_text.specs.declared.faults.InputFault.{InputFault}
+use Rattle.al_text.specs.declared.faults.InputFault.TheVariants.{TooLong, NotNumber, OutOfRange, TooMany, Memory}
+use Rattle.al_text.specs.Answers.{Fails}
+use Rattle.al_text.specs.Numbers.{numbers_of}
+use Rattle.al_words.specs.declared.command.Command.{Command}
+use Rattle.al_words.specs.declared.command.WordFault.{WordFault}
+use Rattle.al_words.specs.Words.{command}
+use Rattle.al_cli.specs.Lines.{refusal_line}
+use Rattle.al_cli.specs.Shown.{most_of_source, most_of_input, if_accepted, source_plan, if_numbers, input_plan, task_of, plan_of, plan}
+use Rattle.al_cli.specs.declared.reading.SourceStep.{SourceStep}
+use Rattle.al_cli.specs.declared.reading.SourceStep.TheVariants as source
+use Rattle.al_cli.specs.declared.reading.InputStep.{InputStep}
+use Rattle.al_cli.specs.declared.reading.InputStep.TheVariants as input
+use Rattle.al_cli.specs.declared.tasks.Task.{Task}
+use Rattle.al_cli.specs.Steps.{GoesOn, SourceComes, InputComes}
 
-abbrev pub Told : Type 0
-Told = Result Answer AllocError
-
-pub on_any_err : (r : Told) (P : Type 0) → P → OnErr r P
+pub on_any_err : {A : Type 0} (r : Result A AllocError) (P : Type 0) → P → OnErr r P
 on_any_err (Ok a) P p = tt
 on_any_err (Err e) P p = p
 
-pub comes_refused : (words : List (List ℕ)) (f : FilesSeen) (fault : WordFault) (r : Told) → command words ≡ Err fault → IfOk r (λ a. a ≡ failed 2 (word_line words fault)) → IfOk r (CameFrom words f f)
-comes_refused words f fault r is told = IfOk-weaker r _ _ (λ a h. subst (CameFrom words f f) (sym h) (refused fault is refl)) told
+pub if_ok : {A E : Type 0} (r : Result A E) (P Q : A → Type 0) → ((a : A) → P a → Q a) → IfOk r P → IfOk r Q
+if_ok (Ok a) P Q f p = f a p
+if_ok (Err e) P Q f p = tt
 
-module _ (words : List (List ℕ)) (f g : FilesSeen) (c : Command) (is : command words ≡ Ok c) where
-  pub comes_source : (name bytes : List ℕ) (r : Told) → name ≡ name_in words c → ReadsOnce f g → IfSome f.contents (λ files. beginning_of files name most_read ≡ Some bytes) → IfOk r (λ a. a ≡ of_source name bytes) → IfOk r (CameFrom words f g)
-  comes_source name bytes r e once read told =
-      let P : List ℕ → Type 0 = λ n. IfSome f.contents (λ files. beginning_of files n most_read ≡ Some bytes) in
-      IfOk-weaker r _ _ (λ a h. subst (CameFrom words f g) (sym (subst (λ n. a ≡ of_source n bytes) e h)) (source c bytes is once (subst P e read))) told
+pub on_err : {A E : Type 0} (r : Result A E) (P Q : Type 0) → (P → Q) → OnErr r P → OnErr r Q
+on_err (Ok a) P Q f p = tt
+on_err (Err e) P Q f p = f p
 
-  pub comes_absent : (name : List ℕ) (r : Told) → name ≡ name_in words c → ReadsOnce f g → IsSomeAnd f.contents (λ files. contents_of files name ≡ None) → IfOk r (λ a. a ≡ failed 4 (absent_line name)) → IfOk r (CameFrom words f g)
-  comes_absent name r e once lacks told =
-      let P : List ℕ → Type 0 = λ n. IsSomeAnd f.contents (λ files. contents_of files n ≡ None) in
-      IfOk-weaker r _ _ (λ a h. subst (CameFrom words f g) (sym (subst (λ n. a ≡ failed 4 (absent_line n)) e h)) (absent c is once (subst P e lacks))) told
+-- what a file that was read says
+pub read_bytes : (name : List ℕ) (most : ℕ) (f g : FilesSeen) (r : FileRead) (bytes : List ℕ) → r ≡ file.Bytes bytes → Reading name most f g r → ReadsOnce f g × IsBeginning f name most bytes
+read_bytes name most f g r bytes is h = subst (Reading name most f g) is h
 
-  pub comes_unread : (name : List ℕ) (r : Told) → name ≡ name_in words c → TriesOnce f g → MayHaveRisen f.faults g.faults → IfOk r (λ a. a ≡ failed 4 (unread_line name)) → IfOk r (CameFrom words f g)
-  comes_unread name r e once rose told =
-      IfOk-weaker r _ _ (λ a h. subst (CameFrom words f g) (sym (subst (λ n. a ≡ failed 4 (unread_line n)) e h)) (unread c is once rose)) told
+pub came_answer : (a b : Answer) (f : FilesSeen) → b ≡ a → Came (Answers a) f f b
+came_answer a b f is = subst (λ x. Came (Answers x) f f b) is (planned b f)
 
-pub is_that_fault : {T : Type 0} (e f : ReadFault) → e ≡ f → IsErrOf {T = T} (Err e) f
-is_that_fault {T} e f h = let error : ReadFault → Result T ReadFault = λ x. Err x in ap error h
+pub came_planned : (p q : Plan) (f : FilesSeen) (a : Answer) → Answers a ≡ q → p ≡ q → Came p f f a
+came_planned p q f a is same = subst (λ r. Came r f f a) (is ∙ sym same) (planned a f)
 
-pub not_failed : {T : Type 0} (e : ReadFault) → e ≡ NoSuch → ◌≢◌ {A = Result T ReadFault} (Err e) (Err Failed)
-not_failed e is h = cc
+pub plan_is : (words : List (List ℕ)) (r : Result Command WordFault) → r ≡ command words → plan words ≡ plan_of words r
+unfolding plan
+plan_is words r is = ap (plan_of words) (sym is)
+
+pub task_shown : (t : Task) (knobs : Knobs) (name own : List ℕ) (typed : Typed) (ns ms : List ℤ) (a : Answer) → name ≡ own → ns ≡ ms → a ≡ task_of t knobs name typed ns → a ≡ task_of t knobs own typed ms
+task_shown t knobs name own typed ns ms a same numbers is = is ∙ ap (λ n. task_of t knobs n typed ns) same ∙ ap (task_of t knobs own typed) numbers
+
+-- ---- a source
+
+module _ (name bytes : List ℕ) (f g : FilesSeen) (r : FileRead) (read : r ≡ file.Bytes bytes) (reading : Reading name most_of_source f g r) where
+  source_read : ReadsOnce f g × IsBeginning f name most_of_source bytes
+  source_read = read_bytes name most_of_source f g r bytes read reading
+
+  pub source_goes : (typed : Typed) → accepted bytes ≡ Ok typed → GoesOn (source_plan name) f g typed
+  source_goes typed is = record {
+    came = λ next last a c. read_on name most_of_source (λ source. if_accepted name next (accepted source)) f g last bytes a source_read.0 source_read.1 (rw is c);
+    starved = λ next last s. later name most_of_source (λ source. if_accepted name next (accepted source)) f g last bytes source_read.0 source_read.1 (rw is s);
+  }
+
+  pub source_refused : (cause : Refusal) (a : Answer) → accepted bytes ≡ Err cause → a ≡ failed 1 (refusal_line name cause) → (next : Typed → Plan) → Came (source_plan name next) f g a
+  source_refused cause a is same next = read_on name most_of_source (λ source. if_accepted name next (accepted source)) f g g bytes a source_read.0 source_read.1 (rw is (came_answer _ a g same))
+
+  pub source_starved : (next : Typed → Plan) → Starved (source_plan name next) f g
+  source_starved next = later name most_of_source (λ source. if_accepted name next (accepted source)) f g g bytes source_read.0 source_read.1 (at_once _ g)
+
+pub source_untried : (name : List ℕ) (f g : FilesSeen) → TriesOnce f g → (next : Typed → Plan) → Starved (source_plan name next) f g
+source_untried name f g once next = at_read name most_of_source (λ source. if_accepted name next (accepted source)) f g once
+
+-- the source of this name was accepted
+pub source_accepted : (name own : List ℕ) (f g : FilesSeen) (r : SourceStep) (typed : Typed) → name ≡ own → r ≡ source.Accepted typed → SourceComes name f g r → GoesOn (source_plan own) f g typed
+source_accepted name own f g r typed same is comes = subst (λ n. GoesOn (source_plan n) f g typed) same (subst (SourceComes name f g) is comes)
+
+-- ---- an input
+
+-- a fault that is not want of memory is the one that the definition gives
+pub fails_so : {A : Type 0} (fault : InputFault) (defined : Result A InputFault) → fault ≢ Memory → Fails fault defined → defined ≡ Err fault
+fails_so TooLong defined other h = h
+fails_so (NotNumber line) defined other h = h
+fails_so (OutOfRange line) defined other h = h
+fails_so TooMany defined other h = h
+fails_so Memory defined other h = absurd (other refl)
+
+pub no_input : (f : FilesSeen) → GoesOn (input_plan None) f f []
+no_input f = record { came = λ next last a c. c; starved = λ next last s. s }
+
+module _ (name bytes : List ℕ) (f g : FilesSeen) (r : FileRead) (read : r ≡ file.Bytes bytes) (reading : Reading name most_of_input f g r) where
+  input_read : ReadsOnce f g × IsBeginning f name most_of_input bytes
+  input_read = read_bytes name most_of_input f g r bytes read reading
+
+  pub input_goes : (input : List ℤ) → numbers_of bytes ≡ Ok input → GoesOn (input_plan (Some name)) f g input
+  input_goes input is = record {
+    came = λ next last a c. read_on name most_of_input (λ text. if_numbers name next (numbers_of text)) f g last bytes a input_read.0 input_read.1 (rw is c);
+    starved = λ next last s. later name most_of_input (λ text. if_numbers name next (numbers_of text)) f g last bytes input_read.0 input_read.1 (rw is s);
+  }
+
+  pub input_refused : (fault : InputFault) (a : Answer) → numbers_of bytes ≡ Err fault → a ≡ failed 7 (input_text name fault) → (next : List ℤ → Plan) → Came (input_plan (Some name) next) f g a
+  input_refused fault a is same next = read_on name most_of_input (λ text. if_numbers name next (numbers_of text)) f g g bytes a input_read.0 input_read.1 (rw is (came_answer _ a g same))
+
+  pub input_starved : (next : List ℤ → Plan) → Starved (input_plan (Some name) next) f g
+  input_starved next = later name most_of_input (λ text. if_numbers name next (numbers_of text)) f g g bytes input_read.0 input_read.1 (at_once _ g)
+
+-- the input of this name, if there is one, is these numbers
+pub input_accepted : (name : Option (List ℕ)) (f g : FilesSeen) (r : InputStep) (ns : List ℤ) → r ≡ input.Numbers ns → InputComes name f g r → GoesOn (input_plan name) f g ns
+input_accepted name f g r ns is comes = subst (InputComes name f g) is comes
+
+pub input_untried : (name : List ℕ) (f g : FilesSeen) → TriesOnce f g → (next : List ℤ → Plan) → Starved (input_plan (Some name) next) f g
+input_untried name f g once next = at_read name most_of_input (λ text. if_numbers name next (numbers_of text)) f g once

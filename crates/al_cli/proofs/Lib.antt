@@ -1,5 +1,4 @@
-pub mod Turns
+pub mod Plans
+pub mod Valid
 pub mod Comings
-pub mod Runs
-pub mod Forms
-pub mod Outcomes
+pub mod Clauses

@@ -1,8 +1,5 @@
-pub mod Bytes
-pub mod Words
-pub mod First
-pub mod Spots
-pub mod FirstRun
 pub mod Lines
 pub mod Shown
-pub mod Outcome
+pub mod Steps
+pub mod Why
+pub mod Headline

@@ -1,59 +1,150 @@
 -- What words show, over files of known contents: a status, and what is written to standard output and standard error.
-use Rattle.std.specs.Prelude.{ℕ, List, [], map, Option, Some, None, Result, Ok, Err}
+use Rattle.std.specs.Prelude.{ℕ, ◌==◌, if◌then◌else◌, List, [], ◌∷◌, ◌++◌, map, codes, Option, Some, None, Result, Ok, Err, ℤ}
 use Rattle.al_core.specs.declared.choices.Choice.{Choice}
+use Rattle.al_core.specs.declared.choices.Knobs.{Knobs}
+use Rattle.al_core.specs.declared.reports.Ending.{Ending}
+use Rattle.al_core.specs.declared.reports.Ending.TheVariants as ending
 use Rattle.al_core.specs.declared.reports.Report.{Report}
 use Rattle.al_core.specs.declared.typed_tree.TNote.{TNote}
 use Rattle.al_core.specs.declared.typed_tree.Typed.{Typed}
-use Rattle.al_core.specs.Run.{Sizes}
+use Rattle.al_core.specs.Run.{sizes_of}
 use Rattle.al_core.specs.Report.{report}
-use Rattle.al_io.specs.Contents.{Contents, contents_of}
-use Rattle.al_cli.specs.declared.answers.Answer.{Answer}
-use Rattle.al_cli.specs.declared.words.Command.{Command}
-use Rattle.al_cli.specs.declared.words.Command.TheVariants.{Run}
-use Rattle.al_cli.specs.declared.words.WordFault.{WordFault}
-use Rattle.al_cli.specs.Words.{command}
-use Rattle.al_cli.specs.Lines.{word_at, word_line, absent_line, unread_line, refused_line}
-use Rattle.al_cli.specs.First.{first_tree}
+use Rattle.al_gen.specs.Generated.{source as made_source, input as made_input}
+use Rattle.al_io.specs.Contents.{Contents}
+use Rattle.al_report.specs.Traces.{trace_text, totals_text, trap_text}
+use Rattle.al_report.specs.Faults.{input_text}
+use Rattle.al_rules.specs.declared.faults.Refusal.{Refusal}
+use Rattle.al_rules.specs.Refusals.{accepted}
+use Rattle.al_serve.specs.declared.answers.Answer.{Answer}
+use Rattle.al_serve.specs.Plans.{Plan, Reads, Answers, failed, played}
+use Rattle.al_text.specs.declared.faults.InputFault.{InputFault}
+use Rattle.al_text.specs.Numbers.{numbers_of}
+use Rattle.al_words.specs.declared.command.Command.{Command}
+use Rattle.al_words.specs.declared.command.Command.TheVariants.{Run, Plain, Trace, Check, Demo}
+use Rattle.al_words.specs.declared.command.Job.{Job}
+use Rattle.al_words.specs.declared.command.WordFault.{WordFault}
+use Rattle.al_words.specs.Words.{command, word_at, place}
+use Rattle.al_cli.specs.declared.tasks.Task.{Task}
+use Rattle.al_cli.specs.declared.tasks.Task.TheVariants as task
+use Rattle.al_cli.specs.Lines.{word_line, refusal_line}
+
+-- ---- runs
+
+-- every annotated loop in rounds, by its own annotation
+abbrev pub own_choices : Typed → List (Option Choice)
+own_choices typed = map (λ (note : TNote). Some note.own) typed.loops
+
+-- every loop plain
+abbrev pub no_choices : Typed → List (Option Choice)
+no_choices typed = map (λ (note : TNote). None) typed.loops
+
+-- the report of a program's run in lockstep, on one thread
+abbrev pub lockstep_report : Typed → List ℤ → Knobs → Report
+lockstep_report typed input knobs = report typed input (sizes_of knobs) (own_choices typed)
+
+abbrev pub plain_report : Typed → List ℤ → Knobs → Report
+plain_report typed input knobs = report typed input (sizes_of knobs) (no_choices typed)
+
+-- ---- answers
 
 abbrev pub done : List ℕ → Answer
 done out = record { status = 0; out = out; err = [] }
 
--- one line to standard error, and nothing to standard output
-abbrev pub failed : ℕ → List ℕ → Answer
-failed status line = record { status = status; out = []; err = line }
+-- what is written of a run; a trap that ends it has a line
+abbrev pub ended : List ℕ → Ending → List ℕ → Answer
+ended name ending.Done out = done out
+ended name (ending.Trap t line) out = record { status = 3; out = out; err = trap_text name t line }
 
--- ---- the run of a program: every annotated loop in rounds, by its own annotation
+-- a program's bytes
+abbrev pub bytes_of : List ℕ → Report → Answer
+bytes_of name r = ended name r.ending r.output
 
-abbrev pub default_sizes : Sizes
-default_sizes = record { lanes = 4; chunk = 16; iter_steps = 1000000; serial_steps = 10000000 }
+-- the rounds of a run, without the program's bytes
+abbrev pub trace_of : List ℕ → Report → Answer
+trace_of name r = ended name r.ending (trace_text r)
 
-abbrev pub own_choices : Typed → List (Option Choice)
-own_choices typed = map (λ (note : TNote). Some note.own) typed.loops
+-- a program's bytes, and then the totals
+abbrev pub totals_of : List ℕ → Report → Answer
+totals_of name r = ended name r.ending (r.output ++ totals_text r)
 
-abbrev pub ran : Typed → Report
-ran typed = report typed [] default_sizes (own_choices typed)
+abbrev pub task_of : Task → Knobs → List ℕ → Typed → List ℤ → Answer
+task_of task.Run knobs name typed input = bytes_of name (lockstep_report typed input knobs)
+task_of task.Plain knobs name typed input = bytes_of name (plain_report typed input knobs)
+task_of task.Trace knobs name typed input = trace_of name (lockstep_report typed input knobs)
 
--- ---- the command
+-- ---- what is read
 
--- A source that has not the form that is read so far is refused.
-abbrev pub of_tree : List ℕ → Option Typed → Answer
-of_tree name (Some typed) = done (ran typed).output
-of_tree name None = failed 1 (refused_line name)
+-- one byte more than a source may have, and one more than an input may have
+abbrev pub most_of_source : ℕ
+most_of_source = 1048577
 
-abbrev pub of_source : List ℕ → List ℕ → Answer
-of_source name source = of_tree name (first_tree source)
+abbrev pub most_of_input : ℕ
+most_of_input = 33554433
 
-abbrev pub of_file : List ℕ → Option (List ℕ) → Answer
-of_file name (Some source) = of_source name source
-of_file name None = failed 4 (absent_line name)
+abbrev pub if_accepted : List ℕ → (Typed → Plan) → Result Typed Refusal → Plan
+if_accepted name next (Ok typed) = next typed
+if_accepted name next (Err cause) = Answers (failed 1 (refusal_line name cause))
 
--- the name that a command reads
-abbrev pub name_in : List (List ℕ) → Command → List ℕ
-name_in words (Run job) = word_at words job.source
+-- A source is read, and refused or gone on with.
+abbrev pub source_plan : List ℕ → (Typed → Plan) → Plan
+source_plan name next = Reads name most_of_source (λ source. if_accepted name next (accepted source))
 
-abbrev pub of_command : List (List ℕ) → Contents → Result Command WordFault → Answer
-of_command words files (Ok c) = of_file (name_in words c) (contents_of files (name_in words c))
-of_command words files (Err fault) = failed 2 (word_line words fault)
+abbrev pub if_numbers : List ℕ → (List ℤ → Plan) → Result (List ℤ) InputFault → Plan
+if_numbers name next (Ok input) = next input
+if_numbers name next (Err fault) = Answers (failed 7 (input_text name fault))
+
+-- no input means no numbers
+abbrev pub input_plan : Option (List ℕ) → (List ℤ → Plan) → Plan
+input_plan (Some name) next = Reads name most_of_input (λ text. if_numbers name next (numbers_of text))
+input_plan None next = next []
+
+abbrev pub source_name : List (List ℕ) → Job → List ℕ
+source_name words job = word_at words (place job.names 0)
+
+abbrev pub input_name : List (List ℕ) → Job → Option (List ℕ)
+input_name words job = if job.count == 2 then Some (word_at words (place job.names 1)) else None
+
+-- the input, and then the run
+abbrev pub after_source : Task → List (List ℕ) → Job → Typed → Plan
+after_source t words job typed = input_plan (input_name words job) (λ input. Answers (task_of t job.knobs (source_name words job) typed input))
+
+abbrev pub job_plan : Task → List (List ℕ) → Job → Plan
+job_plan t words job = source_plan (source_name words job) (after_source t words job)
+
+abbrev pub check_plan : List (List ℕ) → Job → Plan
+check_plan words job = source_plan (source_name words job) (λ typed. Answers (done (codes "ok\n")))
+
+-- the generated program, by the name `demo`
+abbrev pub demo_plan : ℕ → ℕ → Knobs → Plan
+demo_plan start size knobs =
+    if_accepted (codes "demo") (λ typed. Answers (totals_of (codes "demo") (lockstep_report typed (made_input start size) knobs))) (accepted made_source)
+
+abbrev pub plan_of : List (List ℕ) → Result Command WordFault → Plan
+plan_of words (Ok (Run job)) = job_plan task.Run words job
+plan_of words (Ok (Plain job)) = job_plan task.Plain words job
+plan_of words (Ok (Trace job)) = job_plan task.Trace words job
+plan_of words (Ok (Check job)) = check_plan words job
+plan_of words (Ok (Demo start size knobs)) = demo_plan start size knobs
+plan_of words (Err fault) = Answers (failed 2 (word_line words fault))
+
+-- what the words ask to be read, and what comes of it
+unfoldable pub plan : List (List ℕ) → Plan
+plan words = plan_of words (command words)
+
+-- the names of the files that a command reads, in order
+abbrev pub job_names : List (List ℕ) → Job → List (List ℕ)
+job_names words job = source_name words job ∷ elim (input_name words job) [ Some name ↦ name ∷ [] | None ↦ [] ]
+
+abbrev pub names_by : List (List ℕ) → Result Command WordFault → List (List ℕ)
+names_by words (Ok (Run job)) = job_names words job
+names_by words (Ok (Plain job)) = job_names words job
+names_by words (Ok (Trace job)) = job_names words job
+names_by words (Ok (Check job)) = source_name words job ∷ []
+names_by words (Ok (Demo start size knobs)) = []
+names_by words (Err fault) = []
+
+abbrev pub names_of : List (List ℕ) → List (List ℕ)
+names_of words = names_by words (command words)
 
 abbrev pub shown : List (List ℕ) → Contents → Answer
-shown words files = of_command words files (command words)
+shown words files = played files (plan words)

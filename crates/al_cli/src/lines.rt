@@ -1,26 +1,15 @@
 ghost use Rattle.std.specs.Prelude.{◌≡◌, map, string_bytes, IfOk};
 ghost use Rattle.al_cli.specs.Lines as spec;
+ghost use Rattle.al_front.specs.Answers.{IsCause};
+ghost use Rattle.al_words.specs.declared.command.WordFault.TheVariants.{BadValue};
+ghost use Rattle.al_words.specs.Words as words_spec;
 
-use crate::words::WordFault;
+use al_report::{layout_text, lex_text, lower_text, note_text, parse_text, type_text};
+use al_rules::Refusal;
+use al_serve::line;
+use al_words::WordFault;
 use sqlite_items::Items;
 use std::alloc::{AllocError, Global};
-
-/// A line for standard error: a text round a name.
-pub fn line(
-    alloc: Global,
-    before: &[u8],
-    name: &[u8],
-    after: &[u8],
-) -> Result<Items<u8>, AllocError>
-    ensures { IfOk result (λ l. l ≡ spec.line before.now name.now after.now) }
-{
-    let mut text = Vec::from_slice(alloc, b"alter: ")?;
-    text.extend_from_slice(before)?;
-    text.extend_from_slice(name)?;
-    text.extend_from_slice(after)?;
-    text.push(b'\n')?;
-    Ok(Items::from_vec(text))
-}
 
 /// The line of refused words.
 pub fn word_line(alloc: Global, words: &[String], fault: WordFault) -> Result<Items<u8>, AllocError>
@@ -29,24 +18,70 @@ pub fn word_line(alloc: Global, words: &[String], fault: WordFault) -> Result<It
     match fault {
         WordFault::NoCommand => line(alloc, b"no command", b"", b""),
         WordFault::BadCommand(at) => {
-            line(
-                alloc,
-                b"unknown command: ",
-                word_at(words, u64::from(at)),
-                b"",
-            )
+            let word = word_at(words, u64::from(at));
+            line(alloc, b"unknown command: ", word.as_bytes(), b"")
         }
-        WordFault::Unknown(at) => line(alloc, b"unknown option: ", word_at(words, at), b""),
+        WordFault::Unknown(at) => line(
+            alloc,
+            b"unknown option: ",
+            word_at(words, at).as_bytes(),
+            b"",
+        ),
+        WordFault::Repeated(at) => line(
+            alloc,
+            b"repeated option: ",
+            word_at(words, at).as_bytes(),
+            b"",
+        ),
+        WordFault::NoValue(at) => line(alloc, b"no value for ", word_at(words, at).as_bytes(), b""),
+        WordFault::BadValue(at) => bad_value(alloc, words, at),
         WordFault::Names => line(alloc, b"wrong number of names", b"", b""),
+        WordFault::BadNumber(at) => {
+            let word = word_at(words, u64::from(at));
+            line(alloc, b"bad number: ", word.as_bytes(), b"")
+        }
     }
 }
 
+/// An option, and the word after it.
+fn bad_value(alloc: Global, words: &[String], at: u64) -> Result<Items<u8>, AllocError>
+    ensures { IfOk result (λ l. l ≡ spec.word_line (map string_bytes words.now) (BadValue at)) }
+{
+    let value = match at.checked_add(1) {
+        Some(next) => word_at(words, next),
+        None => "",
+    };
+    let mut after = Vec::from_slice(alloc, b": ")?;
+    after.extend_from_slice(value.as_bytes())?;
+    line(
+        alloc,
+        b"bad value for ",
+        word_at(words, at).as_bytes(),
+        after.as_slice(),
+    )
+}
+
 /// The word at a place, or no bytes where there is none.
-pub fn word_at(words: &[String], at: u64) -> &[u8]
-    ensures { result.now ≡ spec.word_at (map string_bytes words.now) at }
+pub fn word_at(words: &[String], at: u64) -> &str
+    ensures { result.now ≡ words_spec.word_at (map string_bytes words.now) at }
 {
     match words.get(at as usize) {
-        Some(word) => word.as_bytes(),
-        None => b"",
+        Some(word) => word.as_str(),
+        None => "",
+    }
+}
+
+/// The line of a refused source.
+pub fn refusal_line(alloc: Global, name: &str, cause: Refusal) -> Result<Items<u8>, AllocError>
+    requires { IsCause cause }
+    ensures { IfOk result (λ l. l ≡ spec.refusal_line name.now cause) }
+{
+    match cause {
+        Refusal::Lexical(fault) => lex_text(alloc, name, &fault),
+        Refusal::Grammar(fault) => parse_text(alloc, name, &fault),
+        Refusal::Layout(fault) => layout_text(alloc, name, &fault),
+        Refusal::Types(fault) => type_text(alloc, name, &fault),
+        Refusal::Notes(fault) => note_text(alloc, name, &fault),
+        Refusal::Lowering(fault) => lower_text(alloc, name, &fault),
     }
 }

@@ -1,29 +1,26 @@
 //! What a call of `alter` does: it reads, gathers what is to be written, and writes it.
-ghost use Rattle.std.specs.Prelude.{◌≡◌, map, string_bytes, IfOk, OnOk, OnErr};
-ghost use Rattle.al_cli.specs.Lines as lines;
+ghost use Rattle.std.specs.Prelude.{◌≡◌, ◌<◌, ◌≤◌, map, string_bytes, IfOk, OnErr, Some, None};
+ghost use Rattle.al_core.specs.Limits.{AreInRange};
+ghost use Rattle.al_rules.specs.Refusals.{accepted};
+ghost use Rattle.al_serve.specs.Plans.{failed as spec_failed};
+ghost use Rattle.al_serve.specs.Outcome.{Came, Starved, Outcome};
+ghost use Rattle.al_serve.specs.Seen.{files_seen, sink_seen};
+ghost use Rattle.al_words.specs.Ranges.{IsDemo};
+ghost use Rattle.al_cli.specs.Lines as line_spec;
 ghost use Rattle.al_cli.specs.Shown as spec;
-ghost use Rattle.al_cli.specs.Outcome.{files_seen, sink_seen, CameFrom, Starved, Took, TookPart, Delivers, Outcome};
 
-use crate::answers::Answer;
-use crate::first::read_first;
-use crate::first_fault::FirstFault;
-use crate::first_run::run_first;
-use crate::lines::{line, word_line};
-use crate::words::{Command, WordFault, read_words};
-use al_io::{Files, PutFault, ReadFault, Sink};
+use crate::lines::word_line;
+use crate::reading::{InputStep, SourceStep, input_step, source_name, source_step};
+use crate::runs::{demo_of, task_of};
+use crate::tasks::Task;
+use al_core::{Knobs, Typed};
+use al_io::{Files, Sink};
+use al_serve::{Answer, deliver, failed};
+use al_words::{Command, Job, WordFault, read_words};
 use sqlite_items::Items;
 use std::alloc::{AllocError, Global};
 
-/// The bytes of a source that are asked for: one more than it may have.
-const MOST_READ: usize = 1048577;
-
-const REFUSED: u8 = 1;
-
 const WORDS_REFUSED: u8 = 2;
-
-const NOT_READ: u8 = 4;
-
-const NOT_WRITTEN: u8 = 5;
 
 const NO_MEMORY: u8 = 6;
 
@@ -35,7 +32,7 @@ pub fn serve<F: Files, O: Sink, E: Sink>(
     out: &mut O,
     err: &mut E,
 ) -> u8
-    ensures { Outcome (map string_bytes words.now)
+    ensures { Outcome (spec.plan (map string_bytes words.now))
         (files_seen F.contents F.calls F.faults files.old) (files_seen F.contents F.calls F.faults files.new)
         (sink_seen O.written O.calls O.faults out.old) (sink_seen O.written O.calls O.faults out.new)
         (sink_seen E.written E.calls E.faults err.old) (sink_seen E.written E.calls E.faults err.new) result }
@@ -47,107 +44,99 @@ pub fn serve<F: Files, O: Sink, E: Sink>(
 }
 
 /// What is to be written for these words.
+#[tactic(auto, unfolding(crate::specs::Shown::plan))]
 fn answer_of<F: Files>(alloc: Global, words: &[String], files: &mut F) -> Result<Answer, AllocError>
-    ensures ok { IfOk result (λ a. CameFrom (map string_bytes words.now)
-        (files_seen F.contents F.calls F.faults files.old) (files_seen F.contents F.calls F.faults files.new) a) }
-    ensures err { OnErr result (Starved (map string_bytes words.now)
+    ensures ok { IfOk result (Came (spec.plan (map string_bytes words.now))
+        (files_seen F.contents F.calls F.faults files.old) (files_seen F.contents F.calls F.faults files.new)) }
+    ensures err { OnErr result (Starved (spec.plan (map string_bytes words.now))
         (files_seen F.contents F.calls F.faults files.old) (files_seen F.contents F.calls F.faults files.new)) }
 {
-    let command = match read_words(words) {
-        Ok(command) => command,
-        Err(fault) => return words_refused(alloc, words, fault),
-    };
-    let name = name_in(words, command);
-    match files.read(alloc, name, MOST_READ) {
-        Ok(source) => source_answer(alloc, name.as_bytes(), source.as_slice()),
-        Err(ReadFault::Failed) => unread(alloc, name.as_bytes()),
-        Err(ReadFault::NoSuch) => absent(alloc, name.as_bytes()),
-        Err(ReadFault::Memory) => Err(AllocError),
-    }
-}
-
-/// The name that a command reads.
-fn name_in(words: &[String], command: Command) -> &str
-    ensures { result.now ≡ spec.name_in (map string_bytes words.now) command }
-{
-    let Command::Run(job) = command;
-    match words.get(job.source as usize) {
-        Some(word) => word.as_str(),
-        None => "",
+    match read_words(words) {
+        Ok(Command::Run(job)) => job_answer(alloc, words, &job, Task::Run, files),
+        Ok(Command::Plain(job)) => job_answer(alloc, words, &job, Task::Plain, files),
+        Ok(Command::Trace(job)) => job_answer(alloc, words, &job, Task::Trace, files),
+        Ok(Command::Check(job)) => check_answer(alloc, words, &job, files),
+        Ok(Command::Demo(start, size, knobs)) => demo_of(alloc, start, size, &knobs),
+        Err(fault) => words_refused(alloc, words, fault),
     }
 }
 
 fn words_refused(alloc: Global, words: &[String], fault: WordFault) -> Result<Answer, AllocError>
-    ensures { IfOk result (λ a. a ≡ spec.failed 2 (lines.word_line (map string_bytes words.now) fault)) }
+    ensures { IfOk result (λ a. a ≡ spec_failed 2 (line_spec.word_line (map string_bytes words.now) fault)) }
 {
     Ok(failed(alloc, WORDS_REFUSED, word_line(alloc, words, fault)?))
 }
 
-fn unread(alloc: Global, name: &[u8]) -> Result<Answer, AllocError>
-    ensures { IfOk result (λ a. a ≡ spec.failed 4 (lines.unread_line name.now)) }
+/// The answer of a command that runs a program.
+fn job_answer<F: Files>(
+    alloc: Global,
+    words: &[String],
+    job: &Job,
+    task: Task,
+    files: &mut F,
+) -> Result<Answer, AllocError>
+    requires { AreInRange job.now.knobs }
+    ensures ok { IfOk result (Came (spec.job_plan task (map string_bytes words.now) job.now)
+        (files_seen F.contents F.calls F.faults files.old) (files_seen F.contents F.calls F.faults files.new)) }
+    ensures err { OnErr result (Starved (spec.job_plan task (map string_bytes words.now) job.now)
+        (files_seen F.contents F.calls F.faults files.old) (files_seen F.contents F.calls F.faults files.new)) }
 {
-    Ok(failed(alloc, NOT_READ, line(alloc, b"cannot read ", name, b"")?))
-}
-
-fn absent(alloc: Global, name: &[u8]) -> Result<Answer, AllocError>
-    ensures { IfOk result (λ a. a ≡ spec.failed 4 (lines.absent_line name.now)) }
-{
-    Ok(failed(alloc, NOT_READ, line(alloc, b"no such file: ", name, b"")?))
-}
-
-/// One line to standard error, and nothing to standard output.
-fn failed(alloc: Global, status: u8, line: Items<u8>) -> Answer
-    ensures { result ≡ spec.failed status line }
-{
-    Answer {
-        status,
-        out: Items::new(alloc),
-        err: line,
+    let name = source_name(words, job);
+    match source_step(alloc, name, files)? {
+        SourceStep::Accepted(typed) => input_answer(alloc, words, job, task, &typed, files),
+        SourceStep::Answered(answer) => Ok(answer),
     }
 }
 
-/// What is to be written where the source was read.
-fn source_answer(alloc: Global, name: &[u8], source: &[u8]) -> Result<Answer, AllocError>
-    ensures { IfOk result (λ a. a ≡ spec.of_source name.now source.now) }
+/// The answer where the source was read and accepted.
+fn input_answer<F: Files>(
+    alloc: Global,
+    words: &[String],
+    job: &Job,
+    task: Task,
+    typed: &Typed,
+    files: &mut F,
+) -> Result<Answer, AllocError>
+    requires { AreInRange job.now.knobs }
+    ensures ok { IfOk result (Came (spec.after_source task (map string_bytes words.now) job.now typed.now)
+        (files_seen F.contents F.calls F.faults files.old) (files_seen F.contents F.calls F.faults files.new)) }
+    ensures err { OnErr result (Starved (spec.after_source task (map string_bytes words.now) job.now typed.now)
+        (files_seen F.contents F.calls F.faults files.old) (files_seen F.contents F.calls F.faults files.new)) }
 {
-    match read_first(alloc, source) {
-        Ok(typed) => Ok(Answer {
-            status: 0,
-            out: run_first(alloc, &typed)?,
-            err: Items::new(alloc),
-        }),
-        Err(FirstFault::NotYet) => Ok(failed(
-            alloc,
-            REFUSED,
-            line(alloc, b"", name, b": not built yet")?,
-        )),
-        Err(FirstFault::Memory) => Err(AllocError),
+    match input_step(alloc, words, job, files)? {
+        InputStep::Numbers(input) => {
+            let name = source_name(words, job);
+            task_of(alloc, task, &job.knobs, name, typed, input.as_slice())
+        }
+        InputStep::Answered(answer) => Ok(answer),
     }
 }
 
-/// Writes an answer, and gives its status, or `NOT_WRITTEN` where a put failed.
-fn deliver<O: Sink, E: Sink>(answer: &Answer, out: &mut O, err: &mut E) -> u8
-    ensures { Delivers answer.now
-        (sink_seen O.written O.calls O.faults out.old) (sink_seen O.written O.calls O.faults out.new)
-        (sink_seen E.written E.calls E.faults err.old) (sink_seen E.written E.calls E.faults err.new) result }
+fn check_answer<F: Files>(
+    alloc: Global,
+    words: &[String],
+    job: &Job,
+    files: &mut F,
+) -> Result<Answer, AllocError>
+    ensures ok { IfOk result (Came (spec.check_plan (map string_bytes words.now) job.now)
+        (files_seen F.contents F.calls F.faults files.old) (files_seen F.contents F.calls F.faults files.new)) }
+    ensures err { OnErr result (Starved (spec.check_plan (map string_bytes words.now) job.now)
+        (files_seen F.contents F.calls F.faults files.old) (files_seen F.contents F.calls F.faults files.new)) }
 {
-    let Ok(()) = put_some(answer.out.as_slice(), out) else {
-        return NOT_WRITTEN;
-    };
-    let Ok(()) = put_some(answer.err.as_slice(), err) else {
-        return NOT_WRITTEN;
-    };
-    answer.status
+    let name = source_name(words, job);
+    match source_step(alloc, name, files)? {
+        SourceStep::Accepted(_) => done(alloc, b"ok\n"),
+        SourceStep::Answered(answer) => Ok(answer),
+    }
 }
 
-/// Puts the bytes into a sink, if there are any.
-fn put_some<S: Sink>(bytes: &[u8], sink: &mut S) -> Result<(), PutFault>
-    ensures took { OnOk result (Took bytes.now (sink_seen S.written S.calls S.faults sink.old) (sink_seen S.written S.calls S.faults sink.new)) }
-    ensures part { OnErr result (TookPart bytes.now (sink_seen S.written S.calls S.faults sink.old) (sink_seen S.written S.calls S.faults sink.new)) }
+/// These bytes to standard output, and nothing to standard error.
+fn done(alloc: Global, out: &[u8]) -> Result<Answer, AllocError>
+    ensures { IfOk result (λ a. a ≡ spec.done out.now) }
 {
-    if bytes.is_empty() {
-        Ok(())
-    } else {
-        sink.put(bytes)
-    }
+    Ok(Answer {
+        status: 0,
+        out: Items::from_slice(alloc, out)?,
+        err: Items::new(alloc),
+    })
 }

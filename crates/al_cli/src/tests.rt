@@ -1,4 +1,4 @@
-//! What no clause says: that calls succeed with ample memory, and what the texts of real programs print.
+//! The command line over files and sinks in memory: what words and files without a program give.
 ghost use Rattle.std.specs.Prelude.{◌≡◌, [], ◌∷◌, IfOk};
 ghost use Rattle.std.specs.Map.{keys_of};
 ghost use Rattle.al_io.specs.MemFiles.{named};
@@ -9,32 +9,79 @@ use sqlite_items::Items;
 use std::alloc::{AllocError, Global};
 use std::test::Fail;
 
+/// The room of each sink.
 const ROOM: u32 = 1048576;
 
-const P1: &str = "int main(void) { printf(\"%ld\\n\", 2 + 3); }\n";
+/// A call that no file or sink reaches.
+const NEVER: u32 = 9;
 
-/// No cut: no sink gets so many puts.
-const WHOLE: Cut = Cut { call: 9, taken: 0 };
+/// The number of a read or put that fails, and how many bytes it takes.
+const WHOLE: Cut = Cut {
+    call: NEVER,
+    taken: 0,
+};
 
-/// What a call of `alter` is to give.
+/// A call of `alter` over one file of these bytes.
 #[derive(Clone, Copy)]
-struct Want {
+struct Call {
+    words: &'static str,
+    name: &'static str,
+    bytes: &'static str,
+    failing: u32,
+    out: Cut,
+    err: Cut,
+}
+
+/// A call over the file `p1.c`, where nothing fails.
+fn over_a_file(words: &'static str) -> Call {
+    Call {
+        words,
+        name: "p1.c",
+        bytes: "int main(void) { printf(\"%ld\\n\", 2 + 3); }\n",
+        failing: NEVER,
+        out: WHOLE,
+        err: WHOLE,
+    }
+}
+
+/// What a call is to give: its status, both texts, and how many reads and puts there are.
+#[derive(Clone, Copy)]
+struct Wanted {
     status: u8,
     out: &'static str,
     err: &'static str,
+    reads: u64,
+    out_puts: u64,
+    err_puts: u64,
 }
 
-fn wanted(status: u8, out: &'static str, err: &'static str) -> Want {
-    Want { status, out, err }
+/// One line to standard error.
+fn line(status: u8, err: &'static str, reads: u64) -> Wanted {
+    Wanted {
+        status,
+        out: "",
+        err,
+        reads,
+        out_puts: 0,
+        err_puts: 1,
+    }
 }
 
-fn one_file(alloc: Global, name: &str, text: &str) -> Result<Items<MemFile>, AllocError>
+fn words_of(alloc: Global, text: &str) -> Result<Vec<String>, AllocError> {
+    let mut words = Vec::new(alloc);
+    for word in text.split(' ').filter(|word| !word.is_empty()) {
+        words.push(String::from_str(alloc, word)?)?;
+    }
+    Ok(words)
+}
+
+fn one_file(alloc: Global, name: &str, bytes: &str) -> Result<Items<MemFile>, AllocError>
     ensures { IfOk result (λ files. keys_of (named files) ≡ name.now ∷ []) }
 {
     let mut files = Items::new(alloc);
     files.push(MemFile {
         name: String::from_str(alloc, name)?,
-        bytes: Items::from_slice(alloc, text.as_bytes())?,
+        bytes: Items::from_slice(alloc, bytes.as_bytes())?,
     })?;
     Ok(files)
 }
@@ -45,209 +92,76 @@ fn sink(alloc: Global, cut: Cut) -> Result<MemSink, AllocError> {
     MemSink::new(alloc, ROOM, cuts)
 }
 
-/// Whether these words, over the one file p1.c of this text, give what is wanted.
-fn gives(
-    alloc: Global,
-    words: &[&str],
-    text: &str,
-    fails: &[u32],
-    cuts: (Cut, Cut),
-    want: &Want,
-) -> Result<bool, AllocError> {
-    let mut texts = Vec::new(alloc);
-    for word in words {
-        texts.push(String::from_str(alloc, word)?)?;
-    }
-    let files = one_file(alloc, "p1.c", text)?;
-    let mut files = MemFiles::new(files, Items::from_slice(alloc, fails)?);
-    let mut out = sink(alloc, cuts.0)?;
-    let mut err = sink(alloc, cuts.1)?;
-    let status = alter(alloc, texts.as_slice(), &mut files, &mut out, &mut err);
+fn gives(alloc: Global, call: &Call, wanted: &Wanted) -> Result<bool, AllocError> {
+    let words = words_of(alloc, call.words)?;
+    let files = one_file(alloc, call.name, call.bytes)?;
+    let mut files = MemFiles::new(files, Items::from_slice(alloc, &[call.failing])?);
+    let mut out = sink(alloc, call.out)?;
+    let mut err = sink(alloc, call.err)?;
+    let status = alter(alloc, words.as_slice(), &mut files, &mut out, &mut err);
     Ok(
-        status == want.status
-            && out.bytes() == want.out.as_bytes()
-            && err.bytes() == want.err.as_bytes(),
+        status == wanted.status
+            && out.bytes() == wanted.out.as_bytes()
+            && err.bytes() == wanted.err.as_bytes()
+            && files.calls() == wanted.reads
+            && out.calls() == wanted.out_puts
+            && err.calls() == wanted.err_puts,
     )
 }
 
 #[test]
-fn words_are_served(rt: HostRuntime) -> Result<(), Fail> {
-    let cases: [(&[&str], Want); 8] = [
-        (&["run", "p1.c"], wanted(0, "5\n", "")),
-        (&[], wanted(2, "", "alter: no command\n")),
-        (&["run"], wanted(2, "", "alter: wrong number of names\n")),
+fn refused_words_have_their_line(rt: HostRuntime) -> Result<(), Fail> {
+    let rows: [(&'static str, &'static str); 12] = [
+        ("", "alter: no command\n"),
+        ("walk p1.c", "alter: unknown command: walk\n"),
+        ("run", "alter: wrong number of names\n"),
+        ("check p1.c n.txt", "alter: wrong number of names\n"),
+        ("run --lanes 65 p1.c", "alter: bad value for --lanes: 65\n"),
         (
-            &["run", "p1.c", "p1.c"],
-            wanted(2, "", "alter: wrong number of names\n"),
+            "run --lanes 2 --lanes 2 p1.c",
+            "alter: repeated option: --lanes\n",
         ),
-        (
-            &["walk", "p1.c"],
-            wanted(2, "", "alter: unknown command: walk\n"),
-        ),
-        (
-            &["run", "p1.c", "--"],
-            wanted(2, "", "alter: unknown option: --\n"),
-        ),
-        (
-            &["run", "p2.c"],
-            wanted(4, "", "alter: no such file: p2.c\n"),
-        ),
-        (&["run", ""], wanted(4, "", "alter: no such file: \n")),
+        ("run p1.c --steps", "alter: no value for --steps\n"),
+        ("run p1.c --lanes=2", "alter: unknown option: --lanes=2\n"),
+        ("check p1.c --lanes 2", "alter: unknown option: --lanes\n"),
+        ("demo -1 3", "alter: unknown option: -1\n"),
+        ("demo 1 0", "alter: bad number: 0\n"),
+        ("demo 01 3", "alter: bad number: 01\n"),
     ];
-    for (words, want) in cases {
+    for (words, err) in rows {
         assert!(rt;
-            gives(rt.alloc(), words, P1, &[], (WHOLE, WHOLE), &want)?,
-            "{words:?}"
+            gives(rt.alloc(), &over_a_file(words), &line(2, err, 0))?,
+            "{words}"
         );
     }
     Ok(())
 }
 
 #[test]
-fn faults_are_told(rt: HostRuntime) -> Result<(), Fail> {
-    let at_once = Cut { call: 0, taken: 0 };
-    let cases: [(&str, &[u32], (Cut, Cut), Want); 6] = [
-        (
-            P1,
-            &[0],
-            (WHOLE, WHOLE),
-            wanted(4, "", "alter: cannot read p1.c\n"),
-        ),
-        (P1, &[1], (WHOLE, WHOLE), wanted(0, "5\n", "")),
-        (P1, &[], (at_once, WHOLE), wanted(5, "", "")),
-        (
-            P1,
-            &[],
-            (Cut { call: 0, taken: 1 }, WHOLE),
-            wanted(5, "5", ""),
-        ),
-        (
-            "",
-            &[],
-            (WHOLE, Cut { call: 0, taken: 6 }),
-            wanted(5, "", "alter:"),
-        ),
-        (
-            P1,
-            &[0],
-            (WHOLE, Cut { call: 0, taken: 6 }),
-            wanted(5, "", "alter:"),
-        ),
-    ];
-    for (text, fails, cuts, want) in cases {
-        assert!(rt;
-            gives(rt.alloc(), &["run", "p1.c"], text, fails, cuts, &want)?,
-            "{text} {cuts:?}"
-        );
-    }
-    Ok(())
-}
-
-#[test]
-fn sources_print_what_c_prints(rt: HostRuntime) -> Result<(), Fail> {
-    let refused = "alter: p1.c: not built yet\n";
-    let cases: [(&str, Want); 13] = [
-        ("int main(void) { }", wanted(0, "", "")),
-        (
-            "\tint\nmain (\nvoid ) {\nprintf(\"a\\t%%\\\\\\\"\\n\") ;printf(\"%d,%lld\",0,1+2) ; }\n ",
-            wanted(0, "a\t%\\\"\n0,3", ""),
-        ),
-        (
-            "int main(void) { printf(\"%ld\", 9223372036854775807 + 1); }",
-            wanted(0, "-9223372036854775808", ""),
-        ),
-        ("", wanted(1, "", refused)),
-        ("intmain(void) { }", wanted(1, "", refused)),
-        ("int main(void) { } x", wanted(1, "", refused)),
-        ("int main(void) { /* */ }", wanted(1, "", refused)),
-        (
-            "int main(void) { printf(\"%ld\"); }",
-            wanted(1, "", refused),
-        ),
-        (
-            "int main(void) { printf(\"%x\", 1); }",
-            wanted(1, "", refused),
-        ),
-        (
-            "int main(void) { printf(\"%d\", 01); }",
-            wanted(1, "", refused),
-        ),
-        (
-            "int main(void) { printf(\"%d\", 1L); }",
-            wanted(1, "", refused),
-        ),
-        (
-            "int main(void) { printf(\"%d\", 9223372036854775808); }",
-            wanted(1, "", refused),
-        ),
-        (
-            "int main(void) { printf(\"%d\", 1 +); }",
-            wanted(1, "", refused),
-        ),
-    ];
-    for (text, want) in cases {
-        assert!(rt;
-            gives(
-                rt.alloc(),
-                &["run", "p1.c"],
-                text,
-                &[],
-                (WHOLE, WHOLE),
-                &want
-            )?,
-            "{text}"
-        );
-    }
-    Ok(())
-}
-
-/// A program that prints a sum of so many ones.
-fn ones(alloc: Global, count: u32) -> Result<String, AllocError> {
-    let mut text = String::from_str(alloc, "int main(void) { printf(\"%ld\\n\", 1")?;
-    for _ in 1..count {
-        text.push_str(" + 1")?;
-    }
-    text.push_str("); }")?;
-    Ok(text)
-}
-
-#[test]
-fn a_sum_has_at_most_128_operators(rt: HostRuntime) -> Result<(), Fail> {
+fn files_that_are_not_read_have_their_line(rt: HostRuntime) -> Result<(), Fail> {
     let alloc = rt.alloc();
-    let cases = [
-        (129, wanted(0, "129\n", "")),
-        (130, wanted(1, "", "alter: p1.c: not built yet\n")),
-    ];
-    for (count, want) in cases {
-        let text = ones(alloc, count)?;
+    let missing = over_a_file("run p2.c n.txt");
+    assert!(rt; gives(alloc, &missing, &line(4, "alter: no such file: p2.c\n", 1))?);
+    for words in ["run p1.c n.txt", "plain p1.c", "trace p1.c", "check p1.c"] {
+        let mut call = over_a_file(words);
+        call.failing = 0;
         assert!(rt;
-            gives(
-                alloc,
-                &["run", "p1.c"],
-                text.as_str(),
-                &[],
-                (WHOLE, WHOLE),
-                &want
-            )?,
-            "{count}"
+            gives(alloc, &call, &line(4, "alter: cannot read p1.c\n", 1))?,
+            "{words}"
         );
     }
     Ok(())
 }
 
 #[test]
-fn the_tree_of_a_source(rt: HostRuntime) -> Result<(), Fail> {
-    let tree = read_first(
-        rt.alloc(),
-        b"\nint main(void) {\n printf(\"%ld\", 2 + 3); }",
-    )
-    .ok()
-    .ok_or("it has the form")?;
-    assert_eq!(rt; (tree.main, tree.nodes), (0, 4));
-    assert_eq!(rt; (tree.globals.len(), tree.loops.len()), (0, 0));
-    let main = tree.funcs.get(0).ok_or("it has a main")?;
-    assert_eq!(rt; (main.line, main.params, main.locals.len()), (2, 0, 0));
-    let print = main.body.get(0).ok_or("it prints")?;
-    assert_eq!(rt; print.line, 3);
+fn a_line_is_cut(rt: HostRuntime) -> Result<(), Fail> {
+    let alloc = rt.alloc();
+    let mut call = over_a_file("run");
+    call.err = Cut { call: 0, taken: 6 };
+    assert!(rt; gives(alloc, &call, &line(5, "alter:", 0))?);
+    let mut call = over_a_file("run p1.c");
+    call.failing = 0;
+    call.err = Cut { call: 0, taken: 0 };
+    assert!(rt; gives(alloc, &call, &line(5, "", 1))?);
     Ok(())
 }

@@ -1,5 +1,5 @@
 -- What an answer says of the plan and of the files that it came from.
-use Rattle.std.proofs.Common.{◌≡◌, ◌⊎◌, inl, inr, ℕ, zero, suc, ◌+◌, ◌<◌, ◌≤◌, List, [], ◌∷◌, length, slice_get, Option, None, Some, IfSome, IsSomeAnd, Result, Err, IsErrOf, ◌≢◌, refl, sym, ap, subst, ◌∙◌, arith}
+use Rattle.std.proofs.Common.{◌≡◌, ℕ, suc, List, [], ◌∷◌, length, None, Some, IfSome, IsSomeAnd, Result, Err, IsErrOf, ◌≢◌, refl, sym, ap, subst, ◌∙◌, arith}
 use Rattle.std.specs.Option.{option_map}
 use Rattle.al_io.specs.declared.files.ReadFault.{ReadFault}
 use Rattle.al_io.specs.declared.files.ReadFault.TheVariants.{Failed, NoSuch}
@@ -7,11 +7,11 @@ use Rattle.al_io.specs.Contents.{Contents, contents_of, beginning_of}
 use Rattle.al_io.specs.Counts.{counted_on, DidNotRise, MayHaveRisen, HasRisen}
 use Rattle.al_serve.specs.declared.answers.Answer.{Answer}
 use Rattle.al_serve.specs.Lines.{unread_line}
-use Rattle.al_serve.specs.Plans.{Plan, Reads, Answers, failed, absent, answer_or, number_or_zero, if_there, played, reads_on, ReadsInOrder, AllAnswers}
+use Rattle.al_serve.specs.Plans.{Plan, Reads, failed, absent, played, reads_on, ReadsInOrder, AllAnswers}
 use Rattle.al_serve.specs.Seen.{FilesSeen, ReadsOnce, TriesOnce, calls_later}
-use Rattle.al_serve.specs.Outcome.{IsBeginning, Came, planned, read_on, not_there, not_read, Starved, at_once, at_read, later}
+use Rattle.al_serve.specs.Outcome.{Came, planned, read_on, not_there, not_read, Starved, at_once, at_read, later}
 use Rattle.al_serve.specs.Tried.{TriedLast, ReadAtMost, Missed, by_fault, by_absence}
-use Rattle.al_serve.proofs.Options.{if_any, if_so, if_both, if_told, told_so, no_rise}
+use Rattle.al_serve.proofs.Options.{if_any, if_both, if_told, no_rise}
 
 -- ---- what one read comes to
 

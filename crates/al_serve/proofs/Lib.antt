@@ -1,3 +1,3 @@
-mod Options
+pub mod Options
 mod Comings
 pub mod Outcomes

@@ -1,17 +1,15 @@
 -- What a caller may conclude from the outcome of a call that follows a plan.
-use Rattle.std.proofs.Common.{◌≡◌, ◌≢◌, ◌⊎◌, inl, inr, ℕ, ◌<◌, ◌≤◌, List, [], ◌∷◌, length, take, Option, None, Some, IfSome, IsSomeAnd, refl, sym, ap, subst, ◌∙◌, arith}
+use Rattle.std.proofs.Common.{◌≡◌, ◌≢◌, ◌⊎◌, inl, inr, ℕ, List, [], ◌∷◌, length, Option, IfSome, refl, sym, ap, subst, ◌∙◌, arith}
 use Rattle.std.proofs.Math.Seq.{take-nil}
-use Rattle.std.specs.Option.{option_map}
 use Rattle.std.specs.Io.KnownBytes.{append_known}
-use Rattle.al_io.specs.Contents.{contents_of}
-use Rattle.al_io.specs.Counts.{counted_on, DidNotRise, MayHaveRisen, HasRisen}
+use Rattle.al_io.specs.Counts.{DidNotRise, MayHaveRisen, HasRisen}
 use Rattle.al_io.specs.Written.{AppendsPrefix}
 use Rattle.al_serve.specs.declared.answers.Answer.{Answer}
 use Rattle.al_serve.specs.Lines.{unread_line, absent_line}
 use Rattle.al_serve.specs.Plans.{Plan, Reads, Answers, failed, played, reads_on, ReadsInOrder, AllAnswers}
-use Rattle.al_serve.specs.Seen.{FilesSeen, SinkSeen, put_counted, Took, TookPart}
-use Rattle.al_serve.specs.Tried.{TriedLast, ReadAtMost, Missed, by_fault, by_absence}
-use Rattle.al_serve.specs.Outcome.{Came, Starved, Delivers, whole, out_failed, err_failed, Outcome, answered, starved, IsOneOf, Writes, WritesLine, WritesPart, AtMostOneMore, Unread, Absent, UnreadInPart, Answered}
+use Rattle.al_serve.specs.Seen.{FilesSeen, SinkSeen, put_counted}
+use Rattle.al_serve.specs.Tried.{ReadAtMost, Missed, by_fault, by_absence}
+use Rattle.al_serve.specs.Outcome.{Came, planned, Delivers, whole, out_failed, err_failed, Outcome, answered, starved, IsOneOf, Writes, WritesLine, WritesPart, AtMostOneMore, Unread, Absent, UnreadInPart, Answered}
 use Rattle.al_serve.proofs.Options.{if_any, if_so, no_rise, append_nothing}
 use Rattle.al_serve.proofs.Comings.{is_played, played_where_read, answers_so, fault_answer, four_answer, came_reads, starved_reads, came_reads_on, starved_reads_on}
 
@@ -41,6 +39,9 @@ no_put bytes calls new h none = h ∙ ap (λ bs. put_counted bs calls) none
 not_of : (xs : List ℕ) (m n : ℕ) → (IsOneOf xs m → ⊥) → IsOneOf xs n → n ≡ m → ⊥
 not_of xs m n never h is = never (subst (IsOneOf xs) is h)
 
+same_answer : (b : Answer) (f g : FilesSeen) (a : Answer) → Came (Answers b) f g a → a ≡ b
+same_answer b _ _ _ (planned a f) = refl
+
 module _ (plan : Plan) (f g : FilesSeen) (o p e q : SinkSeen) where
   pub is_as_played : (s : ℕ) → Outcome plan f g o p e q s → DidNotRise f.faults g.faults → DidNotRise o.faults p.faults → DidNotRise e.faults q.faults → s ≢ 6 → IfSome f.contents (λ files. Writes (played files plan) s o.written p.written e.written q.written)
   is_as_played s (answered a came (whole took also)) still still_out still_err not_six =
@@ -66,6 +67,15 @@ module _ (plan : Plan) (f g : FilesSeen) (o p e q : SinkSeen) where
       weaker (Reads name most next) h = λ bytes. weaker (next bytes) (h bytes)
       weaker (Answers a) h = λ never. h
   is_planned P all s (starved how same also) not_four not_five not_six = absurd (not_six refl)
+
+  -- a plan that reads nothing gives its answer
+  pub only_answer : (b : Answer) → plan ≡ Answers b → (s : ℕ) → Outcome plan f g o p e q s → IsOneOf (b.status ∷ 5 ∷ 6 ∷ []) s
+  only_answer b is s (answered a came del) = by_status (same_answer b f g a (subst (λ r. Came r f g a) is came)) (delivered_status a o p e q s del)
+    where
+      by_status : a ≡ b → (s ≡ a.status) ⊎ (s ≡ 5) → IsOneOf (b.status ∷ 5 ∷ 6 ∷ []) s
+      by_status same (inl h) = inl (h ∙ ap (λ (x : Answer). x.status) same)
+      by_status same (inr h) = inr (inl h)
+  only_answer b is s (starved how same also) = inr (inr (inl refl))
 
   pub fault_gives : (names : List (List ℕ)) → ReadsInOrder names plan → (s : ℕ) → Outcome plan f g o p e q s → HasRisen f.faults g.faults → IsOneOf (4 ∷ 5 ∷ 6 ∷ []) s
   fault_gives names order s (answered a came del) rose = four_or_five (ap (λ (b : Answer). b.status) (fault_answer names plan f g a order came rose).2) (delivered_status a o p e q s del)

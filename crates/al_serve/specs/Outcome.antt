@@ -2,7 +2,7 @@
 use Rattle.std.specs.Prelude.{◌≡◌, ℕ, List, [], ◌∷◌, Option, None, Some, IfSome, IsSomeAnd, ◌⊎◌}
 use Rattle.std.specs.Option.{option_map}
 use Rattle.std.specs.Io.KnownBytes.{append_known}
-use Rattle.al_io.specs.Contents.{Contents, contents_of, beginning_of}
+use Rattle.al_io.specs.Contents.{contents_of, beginning_of}
 use Rattle.al_io.specs.Counts.{counted_on, MayHaveRisen}
 use Rattle.al_io.specs.Written.{AppendsPrefix}
 use Rattle.al_serve.specs.declared.answers.Answer.{Answer}

@@ -1,5 +1,5 @@
 -- A plan says which files are read, one after another, and what answer comes of their bytes.
-use Rattle.std.specs.Prelude.{◌≡◌, ⊤, ℕ, zero, suc, ◌+◌, List, [], ◌∷◌, Option, Some, None}
+use Rattle.std.specs.Prelude.{◌≡◌, ⊤, ℕ, suc, List, [], ◌∷◌, Option, Some, None}
 use Rattle.al_io.specs.Contents.{Contents, beginning_of}
 use Rattle.al_serve.specs.declared.answers.Answer.{Answer}
 use Rattle.al_serve.specs.Lines.{absent_line}

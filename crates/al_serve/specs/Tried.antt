@@ -1,5 +1,5 @@
 -- Which of the named files were tried, and how often the files were read.
-use Rattle.std.specs.Prelude.{◌≡◌, ℕ, suc, ◌≤◌, List, slice_get, Option, None, Some, IsSomeAnd}
+use Rattle.std.specs.Prelude.{◌≡◌, ℕ, suc, ◌≤◌, List, slice_get, None, Some, IsSomeAnd}
 use Rattle.al_io.specs.Contents.{contents_of}
 use Rattle.al_io.specs.Counts.{MayHaveRisen}
 use Rattle.al_serve.specs.declared.answers.Answer.{Answer}

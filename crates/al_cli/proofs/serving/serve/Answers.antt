@@ -1,5 +1,5 @@
 use Rattle.std.proofs.Common.{refl}
-use Rattle.al_cli.specs.Outcome.{answered, starved}
+use Rattle.al_serve.specs.Outcome.{answered, starved}
 use Rattle.al_cli.proofs.serving.serve.Goals as goal
 
 pub returns-in-Ok : goal.returns-in-Ok

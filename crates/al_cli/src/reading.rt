@@ -1,0 +1,113 @@
+//! The source and the input of a command: each is read, and refused or gone on with.
+ghost use Rattle.std.specs.Prelude.{◌≡◌, map, string_bytes, IfOk, OnErr};
+ghost use Rattle.al_serve.specs.Seen.{files_seen};
+ghost use Rattle.al_cli.specs.Shown as spec;
+ghost use Rattle.al_cli.specs.Steps.{SourceComes, SourceStarved, InputComes, InputStarved};
+
+use crate::lines::{refusal_line, word_at};
+use al_core::Typed;
+use al_front::{FrontFault, resolve};
+use al_io::Files;
+use al_report::input_text;
+use al_serve::{Answer, FileRead, failed, read_file};
+use al_text::{InputFault, read_numbers};
+use al_words::Job;
+use sqlite_items::Items;
+use std::alloc::{AllocError, Global};
+
+/// One byte more than a source may have.
+const MOST_OF_SOURCE: usize = 1048577;
+
+/// One byte more than an input may have.
+const MOST_OF_INPUT: usize = 33554433;
+
+const REFUSED: u8 = 1;
+
+const INPUT_REFUSED: u8 = 7;
+
+/// What a source comes to.
+#[derive(Drop)]
+pub enum SourceStep {
+    Accepted(Typed),
+    Answered(Answer),
+}
+
+/// What an input comes to.
+#[derive(Drop)]
+pub enum InputStep {
+    Numbers(Items<i64>),
+    Answered(Answer),
+}
+
+/// The name of the source.
+pub fn source_name<'a>(words: &'a [String], job: &Job) -> &'a str
+    ensures { result.now ≡ spec.source_name (map string_bytes words.now) job.now }
+{
+    let [name, ..] = job.names;
+    word_at(words, u64::from(name))
+}
+
+/// Reads a source, and accepts or refuses it.
+pub fn source_step<F: Files>(
+    alloc: Global,
+    name: &str,
+    files: &mut F,
+) -> Result<SourceStep, AllocError>
+    ensures ok { IfOk result (SourceComes name.now
+        (files_seen F.contents F.calls F.faults files.old) (files_seen F.contents F.calls F.faults files.new)) }
+    ensures err { OnErr result (SourceStarved name.now
+        (files_seen F.contents F.calls F.faults files.old) (files_seen F.contents F.calls F.faults files.new)) }
+{
+    let source = match read_file(alloc, files, name, MOST_OF_SOURCE)? {
+        FileRead::Bytes(source) => source,
+        FileRead::Unread(answer) => return Ok(SourceStep::Answered(answer)),
+    };
+    match resolve(alloc, source.as_slice()) {
+        Ok(typed) => Ok(SourceStep::Accepted(typed)),
+        Err(FrontFault::Refused(cause)) => {
+            let line = refusal_line(alloc, name, cause)?;
+            Ok(SourceStep::Answered(failed(alloc, REFUSED, line)))
+        }
+        Err(FrontFault::Memory) => Err(AllocError),
+    }
+}
+
+/// Reads the input of a job, if there is one, and takes its numbers or refuses it.
+pub fn input_step<F: Files>(
+    alloc: Global,
+    words: &[String],
+    job: &Job,
+    files: &mut F,
+) -> Result<InputStep, AllocError>
+    ensures ok { IfOk result (InputComes (spec.input_name (map string_bytes words.now) job.now)
+        (files_seen F.contents F.calls F.faults files.old) (files_seen F.contents F.calls F.faults files.new)) }
+    ensures err { OnErr result (InputStarved (spec.input_name (map string_bytes words.now) job.now)
+        (files_seen F.contents F.calls F.faults files.old) (files_seen F.contents F.calls F.faults files.new)) }
+{
+    if job.count != 2 {
+        return Ok(InputStep::Numbers(Items::new(alloc)));
+    }
+    let [_, place, ..] = job.names;
+    numbers_of(alloc, word_at(words, u64::from(place)), files)
+}
+
+/// Reads an input, and takes its numbers or refuses it.
+fn numbers_of<F: Files>(alloc: Global, name: &str, files: &mut F) -> Result<InputStep, AllocError>
+    ensures ok { IfOk result (InputComes (Some name.now)
+        (files_seen F.contents F.calls F.faults files.old) (files_seen F.contents F.calls F.faults files.new)) }
+    ensures err { OnErr result (InputStarved (Some name.now)
+        (files_seen F.contents F.calls F.faults files.old) (files_seen F.contents F.calls F.faults files.new)) }
+{
+    let text = match read_file(alloc, files, name, MOST_OF_INPUT)? {
+        FileRead::Bytes(text) => text,
+        FileRead::Unread(answer) => return Ok(InputStep::Answered(answer)),
+    };
+    match read_numbers(alloc, text.as_slice()) {
+        Ok(input) => Ok(InputStep::Numbers(input)),
+        Err(InputFault::Memory) => Err(AllocError),
+        Err(fault) => {
+            let line = input_text(alloc, name, &fault)?;
+            Ok(InputStep::Answered(failed(alloc, INPUT_REFUSED, line)))
+        }
+    }
+}

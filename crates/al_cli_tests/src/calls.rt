@@ -1,0 +1,128 @@
+//! Calls of `alter` over files and sinks in memory.
+ghost use Rattle.std.specs.Prelude.{◌≡◌, [], ◌∷◌, IfOk};
+ghost use Rattle.std.specs.Map.{keys_of};
+ghost use Rattle.al_io.specs.MemFiles.{named};
+
+use al_cli::alter;
+use al_io::{Cut, MemFile, MemFiles, MemSink};
+use sqlite_items::Items;
+use std::alloc::{AllocError, Global};
+
+/// The room of each sink.
+const ROOM: u32 = 1048576;
+
+/// No call has this number.
+const NEVER: u32 = 9;
+
+const WHOLE: Cut = Cut {
+    call: NEVER,
+    taken: 0,
+};
+
+/// A name and its text.
+#[derive(Clone, Copy)]
+pub struct File<'a> {
+    pub name: &'a str,
+    pub text: &'a str,
+}
+
+/// Words, the files that lie there, and what fails.
+#[derive(Clone, Copy)]
+pub struct Call<'a> {
+    pub words: &'a str,
+    pub source: File<'a>,
+    pub input: File<'a>,
+    /// The number of the read that fails.
+    pub failing: u32,
+    pub out: Cut,
+    pub err: Cut,
+}
+
+/// What is to come of a call.
+#[derive(Clone, Copy)]
+pub struct Wanted<'a> {
+    pub status: u8,
+    pub out: &'a str,
+    pub err: &'a str,
+}
+
+impl<'a> Call<'a> {
+    /// Words over a source and an input, where nothing fails.
+    pub fn new(words: &'a str, source: File<'a>, input: File<'a>) -> Call<'a> {
+        Call {
+            words,
+            source,
+            input,
+            failing: NEVER,
+            out: WHOLE,
+            err: WHOLE,
+        }
+    }
+}
+
+/// What a call left.
+#[derive(Drop)]
+pub struct Seen {
+    pub status: u8,
+    pub out: Vec<u8>,
+    pub err: Vec<u8>,
+}
+
+fn words_of(alloc: Global, text: &str) -> Result<Vec<String>, AllocError> {
+    let mut words = Vec::new(alloc);
+    for word in text.split_whitespace() {
+        words.push(String::from_str(alloc, word)?)?;
+    }
+    Ok(words)
+}
+
+fn file(alloc: Global, file: &File<'_>) -> Result<MemFile, AllocError>
+    ensures { IfOk result (λ f. keys_of (named (f ∷ [])) ≡ file.now.name.now ∷ []) }
+{
+    Ok(MemFile {
+        name: String::from_str(alloc, file.name)?,
+        bytes: Items::from_slice(alloc, file.text.as_bytes())?,
+    })
+}
+
+fn two_files(alloc: Global, one: &File<'_>, other: &File<'_>) -> Result<Items<MemFile>, AllocError>
+    ensures { IfOk result (λ files. keys_of (named files) ≡ one.now.name.now ∷ other.now.name.now ∷ []) }
+{
+    let mut files = Items::new(alloc);
+    files.push(file(alloc, one)?)?;
+    files.push(file(alloc, other)?)?;
+    Ok(files)
+}
+
+fn sink(alloc: Global, cut: Cut) -> Result<MemSink, AllocError> {
+    let mut cuts = Items::new(alloc);
+    cuts.push(cut)?;
+    MemSink::new(alloc, ROOM, cuts)
+}
+
+/// Makes the call. The names of the files differ.
+pub fn seen(alloc: Global, call: &Call<'_>) -> Result<Seen, AllocError> {
+    let words = words_of(alloc, call.words)?;
+    let files = two_files(alloc, &call.source, &call.input)?;
+    if call.source.name == call.input.name {
+        return Err(AllocError);
+    }
+    let mut files = MemFiles::new(files, Items::from_slice(alloc, &[call.failing])?);
+    let mut out = sink(alloc, call.out)?;
+    let mut err = sink(alloc, call.err)?;
+    let status = alter(alloc, words.as_slice(), &mut files, &mut out, &mut err);
+    Ok(Seen {
+        status,
+        out: Vec::from_slice(alloc, out.bytes())?,
+        err: Vec::from_slice(alloc, err.bytes())?,
+    })
+}
+
+pub fn gives(alloc: Global, call: &Call<'_>, wanted: &Wanted<'_>) -> Result<bool, AllocError> {
+    let seen = seen(alloc, call)?;
+    Ok(
+        seen.status == wanted.status
+            && seen.out.as_slice() == wanted.out.as_bytes()
+            && seen.err.as_slice() == wanted.err.as_bytes(),
+    )
+}

@@ -1,0 +1,13 @@
+//! Tests of the command line as a whole: programs with the bytes and the status that words over them give.
+#![tactic(auto)]
+
+#[cfg(test)]
+mod calls;
+#[cfg(test)]
+mod failures;
+#[cfg(test)]
+mod limits;
+#[cfg(test)]
+mod programs;
+#[cfg(test)]
+mod rows;
