@@ -1,7 +1,7 @@
 //! Files that are missing or fail, and sinks that take only a part.
 use crate::calls::{Call, File, Wanted, gives};
-use crate::programs::*;
 use al_io::Cut;
+use al_samples::*;
 use std::test::Fail;
 
 const NUMBERS: File<'static> = File {

@@ -8,6 +8,4 @@ mod failures;
 #[cfg(test)]
 mod limits;
 #[cfg(test)]
-mod programs;
-#[cfg(test)]
 mod rows;

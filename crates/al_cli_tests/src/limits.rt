@@ -1,6 +1,6 @@
 //! Sources and inputs at the limits, and just past them.
 use crate::calls::{Call, File, Wanted, gives};
-use crate::programs::P1;
+use al_samples::P1;
 use std::alloc::{AllocError, Global};
 use std::test::Fail;
 

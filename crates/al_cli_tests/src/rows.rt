@@ -1,6 +1,6 @@
 //! Programs with the bytes and the status of each command.
 use crate::calls::{Call, File, Wanted, gives, seen};
-use crate::programs::*;
+use al_samples::*;
 use std::alloc::{AllocError, Global};
 use std::test::Fail;
 

@@ -1,12 +1,13 @@
 use al_rules::Refusal;
 use std::alloc::AllocError;
+use thiserror::Error;
 
 /// Why a source gives no typed tree.
-#[derive(Clone, Copy, Debug, PartialEq, Eq)]
+#[derive(Clone, Copy, Debug, PartialEq, Eq, Error)]
 pub enum FrontFault {
-    /// The source is refused.
+    #[error("refused: {0:?}")]
     Refused(Refusal),
-    /// Memory ran out.
+    #[error("out of memory")]
     Memory,
 }
 

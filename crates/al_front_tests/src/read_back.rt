@@ -18,12 +18,12 @@ fn text_of(alloc: Global, source: &[u8]) -> Result<Vec<u8>, Fail> {
 
 #[test]
 fn programs_are_read_back(rt: HostRuntime) -> Result<(), Fail> {
-    let text = text_of(rt.alloc(), P1)?;
+    let text = text_of(rt.alloc(), P1.as_bytes())?;
     assert!(rt; text.as_slice() == L3);
     for source in [
         P1, P2, P3, P4, P5, P6, P7, P8, P9, P10, P11, P12, P13, P14, P15,
     ] {
-        let text = text_of(rt.alloc(), source)?;
+        let text = text_of(rt.alloc(), source.as_bytes())?;
         let again = text_of(rt.alloc(), text.as_slice())?;
         assert!(rt; text.as_slice() == again.as_slice());
     }

@@ -9,10 +9,10 @@ use std::alloc::{AllocError, Global};
 use std::test::Fail;
 
 /// A source, how many items it has, and how many statements and expressions.
-type Row = (&'static [u8], usize, u64);
+type Row = (&'static str, usize, u64);
 
 const COUNTS: [Row; 16] = [
-    (b"", 0, 0),
+    ("", 0, 0),
     (P1, 1, 4),
     (P2, 1, 21),
     (P3, 1, 20),
@@ -47,7 +47,7 @@ fn is_program(alloc: Global, source: &[u8]) -> Result<bool, Fail> {
 #[test]
 fn programs_have_their_items_and_nodes(rt: HostRuntime) -> Result<(), Fail> {
     for (source, items, count) in COUNTS {
-        let program = tree(rt.alloc(), source)?;
+        let program = tree(rt.alloc(), source.as_bytes())?;
         assert_eq!(rt; (program.items.len(), nodes(&program)), (items, count));
     }
     Ok(())
@@ -74,7 +74,7 @@ fn lines(alloc: Global, program: &Program) -> Result<Vec<u32>, AllocError> {
 
 #[test]
 fn a_loop_has_the_line_of_its_for(rt: HostRuntime) -> Result<(), Fail> {
-    let program = tree(rt.alloc(), P4)?;
+    let program = tree(rt.alloc(), P4.as_bytes())?;
     let lines = lines(rt.alloc(), &program)?;
     assert_eq!(rt; lines.as_slice(), [2, 3, 5, 8, 9].as_slice());
     Ok(())

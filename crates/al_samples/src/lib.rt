@@ -1,15 +1,15 @@
 //! Whole programs of the language.
 
-pub const P1: &[u8] = b"int main(void) { printf(\"%ld\\n\", 2 + 3); }
+pub const P1: &str = "int main(void) { printf(\"%ld\\n\", 2 + 3); }
 ";
 
-pub const P2: &[u8] = b"int main(void) {
+pub const P2: &str = "int main(void) {
   long m = -9223372036854775807 - 1;
   printf(\"%ld %ld %ld %ld\\n\", m / -1, m % -1, 1 << 64, -1 >> 1);
 }
 ";
 
-pub const P3: &[u8] = b"int main(void) {
+pub const P3: &str = "int main(void) {
   long s = 7;
 #pragma alter RAW OutOfOrder reduce(*: s)
   for (long i = 5; i < 5; i++) { s *= 2; printf(\"x\"); }
@@ -18,7 +18,7 @@ pub const P3: &[u8] = b"int main(void) {
 }
 ";
 
-pub const P4: &[u8] = b"long x, y;
+pub const P4: &str = "long x, y;
 int main(void) {
   long i;
 #pragma alter RAW InOrder
@@ -30,7 +30,7 @@ int main(void) {
 }
 ";
 
-pub const P5: &[u8] = b"long x, y;
+pub const P5: &str = "long x, y;
 int main(void) {
   long i;
 #pragma alter RAW OutOfOrder
@@ -43,7 +43,7 @@ int main(void) {
 }
 ";
 
-pub const P6: &[u8] = b"long d;
+pub const P6: &str = "long d;
 int main(void) {
 #pragma alter RAW InOrder
   for (long i = 0; i < 2; i++) {
@@ -53,7 +53,7 @@ int main(void) {
 }
 ";
 
-pub const P7: &[u8] = b"long d;
+pub const P7: &str = "long d;
 int main(void) {
 #pragma alter RAW InOrder
   for (long i = 0; i < 2; i++) {
@@ -64,7 +64,7 @@ int main(void) {
 }
 ";
 
-pub const P8: &[u8] = b"int main(void) {
+pub const P8: &str = "int main(void) {
 #pragma alter RAW InOrder
   for (long i = 0; i < 2; i++)
     for (long j = 0; j < 20; j++) ;
@@ -72,7 +72,7 @@ pub const P8: &[u8] = b"int main(void) {
 }
 ";
 
-pub const P9: &[u8] = b"int main(void) {
+pub const P9: &str = "int main(void) {
   long s = 7;
 #pragma alter NONE OutOfOrder reduce(+: s)
   for (long i = 0; i < 4; i++) s += input(i);
@@ -80,7 +80,7 @@ pub const P9: &[u8] = b"int main(void) {
 }
 ";
 
-pub const P10: &[u8] = b"struct node { long v; struct node *next; };
+pub const P10: &str = "struct node { long v; struct node *next; };
 struct node *head;
 int main(void) {
 #pragma alter RAW InOrder
@@ -95,7 +95,7 @@ int main(void) {
 }
 ";
 
-pub const P11: &[u8] = b"struct box { long a[2]; struct box *p; };
+pub const P11: &str = "struct box { long a[2]; struct box *p; };
 struct box g;
 int main(void) {
   long *q = &g.a[0];
@@ -104,7 +104,7 @@ int main(void) {
 }
 ";
 
-pub const P12: &[u8] = b"int main(void) {
+pub const P12: &str = "int main(void) {
   long n = 16777217;
   printf(\"go \");
 #pragma alter NONE InOrder
@@ -112,7 +112,7 @@ pub const P12: &[u8] = b"int main(void) {
 }
 ";
 
-pub const P13: &[u8] = b"long a[3];
+pub const P13: &str = "long a[3];
 int main(void) {
   long *p = a;
 #pragma alter RAW InOrder
@@ -123,13 +123,13 @@ int main(void) {
 }
 ";
 
-pub const P14: &[u8] = b"int main(void) {
+pub const P14: &str = "int main(void) {
 #pragma alter RAW InOrder
   for (long i = 0; i < 9; i++) { if (i == 3) break; }
 }
 ";
 
-pub const P15: &[u8] = b"#include <stdio.h>
+pub const P15: &str = "#include <stdio.h>
 #include <stdlib.h>
 // K-means over whole numbers
 struct point { int x, y; int c; };

@@ -1,0 +1,26 @@
+//! Why a source is refused. The expected causes follow the table of faults and the order in which they are told.
+
+use al_front::{FrontFault, resolve};
+use al_rules::{NoteFault, NoteKind, Refusal, TypeFault, TypeKind};
+use std::alloc::{AllocError, Global};
+
+pub fn at(kind: TypeKind, line: u32) -> Refusal {
+    Refusal::Types(TypeFault::At(kind, line))
+}
+
+pub fn note(kind: NoteKind, line: u32) -> Refusal {
+    Refusal::Notes(NoteFault::At(kind, line))
+}
+
+/// Why a source is refused, or none where it is accepted.
+pub fn refusal_of(alloc: Global, source: &[u8]) -> Result<Option<Refusal>, AllocError> {
+    match resolve(alloc, source) {
+        Ok(_) => Ok(None),
+        Err(FrontFault::Refused(cause)) => Ok(Some(cause)),
+        Err(FrontFault::Memory) => Err(AllocError),
+    }
+}
+
+pub fn refusal(alloc: Global, source: &str) -> Result<Option<Refusal>, AllocError> {
+    refusal_of(alloc, source.as_bytes())
+}
