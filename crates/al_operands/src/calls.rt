@@ -133,7 +133,7 @@ fn call_choose(
     Ok(integer_call(alloc, TExpr::Choose(op, a, b))?)
 }
 
-/// The type and the term of a call.
+/// The type and the term of a call (C99 6.5.2.2p2). `Count` of its arguments, and then `Mismatch` of the first that does not fit.
 pub fn called(
     alloc: Global,
     f: Callee<'_>,

@@ -29,7 +29,11 @@ fn variable<'a>(
     scope: &Scope<'a>,
     name: &[u8],
 ) -> Result<Boxed<Operand>, Fault>
-    ensures { Checks (and_then (some_or (scopes.variable_named known.now (scopes.in_scope scope.now) name.now) Unknown) (λ v. Ok (operand_spec.of_variable v))) result }
+    ensures { Checks
+        (and_then
+        (some_or (scopes.variable_named known.now (scopes.in_scope scope.now) name.now) Unknown)
+        (λ v. Ok (operand_spec.of_variable v)))
+        result }
 {
     match known.variable_named(scope, name) {
         Some(v) => Ok(of_variable(alloc, v)?),
@@ -51,7 +55,10 @@ fn value(alloc: Global, ty: CType, x: TExpr) -> Result<Boxed<Operand>, AllocErro
 }
 
 fn size_of(alloc: Global, known: &Known<'_>, ty: &CType) -> Result<Boxed<Operand>, Fault>
-    ensures { Checks (and_then (spec.sized known.now [] ty.now) (λ _. Ok (variant.Value ctype.Int (e.Number (pos (8 * scopes.size known.now ty.now)))))) result }
+    ensures { Checks
+        (and_then (spec.sized known.now [] ty.now)
+        (λ _. Ok (variant.Value ctype.Int (e.Number (pos (8 * scopes.size known.now ty.now))))))
+        result }
 {
     sized(known, ty)?;
     let words = known.size(ty)?;
@@ -65,7 +72,11 @@ fn calloc(
     x: Boxed<Operand>,
     ty: &CType,
 ) -> Result<Boxed<Operand>, Fault>
-    ensures { Checks (and_then (operand_spec.integer x) (λ n. and_then (spec.sized known.now [] ty.now) (λ _. Ok (variant.Value (ctype.Ptr ty.now) (e.Calloc n (scopes.size known.now ty.now)))))) result }
+    ensures { Checks
+        (and_then (operand_spec.integer x)
+        (λ n. and_then (spec.sized known.now [] ty.now)
+        (λ _. Ok (variant.Value (ctype.Ptr ty.now) (e.Calloc n (scopes.size known.now ty.now))))))
+        result }
 {
     let n = integer(alloc, x)?;
     sized(known, ty)?;
@@ -81,7 +92,10 @@ fn call<'a>(
     name: &[u8],
     args: Queue<Boxed<Operand>>,
 ) -> Result<(Boxed<CType>, Boxed<TExpr>), Fault>
-    ensures { Checks (and_then (scopes.callee_named known.now (scopes.in_scope scope.now) name.now) (λ f. operand_spec.called f args)) result }
+    ensures { Checks
+        (and_then (scopes.callee_named known.now (scopes.in_scope scope.now) name.now)
+        (λ f. operand_spec.called f args))
+        result }
 {
     let f = known.callee_named(scope, name)?;
     called(alloc, f, args)
@@ -94,13 +108,18 @@ fn call_value<'a>(
     name: &[u8],
     args: Queue<Boxed<Operand>>,
 ) -> Result<Boxed<Operand>, Fault>
-    ensures { Checks (and_then (and_then (scopes.callee_named known.now (scopes.in_scope scope.now) name.now) (λ f. operand_spec.called f args)) (λ c. Ok (variant.Value c.0 c.1))) result }
+    ensures { Checks
+        (and_then
+        (and_then (scopes.callee_named known.now (scopes.in_scope scope.now) name.now)
+        (λ f. operand_spec.called f args))
+        (λ c. Ok (variant.Value c.0 c.1)))
+        result }
 {
     let (ty, x) = call(alloc, known, scope, name, args)?;
     Ok(value(alloc, ty.into_inner(), x.into_inner())?)
 }
 
-/// The type and the term of a call of this name.
+/// The type and the term of a call of this name. The first fault: of the arguments, of the name (`Unknown`, or `Mismatch` of a variable), of their count, of their types.
 pub fn call_named<'a>(
     alloc: Global,
     known: &Known<'a>,
@@ -108,13 +127,16 @@ pub fn call_named<'a>(
     name: &[u8],
     args: &[Expr],
 ) -> Result<(Boxed<CType>, Boxed<TExpr>), Fault>
-    ensures { Checks (spec.call known.now (scopes.in_scope scope.now) name.now (spec.operands known.now (scopes.in_scope scope.now) args.now)) result }
+    ensures { Checks
+        (spec.call known.now (scopes.in_scope scope.now) name.now
+        (spec.operands known.now (scopes.in_scope scope.now) args.now))
+        result }
 {
     let args = operands(alloc, known, scope, args)?;
     call(alloc, known, scope, name, args)
 }
 
-/// What an expression is.
+/// What an expression is, or the first fault: its parts from left to right, and then the whole.
 #[cycle(expressions)]
 #[tactic(auto, using(al_rules::proofs::ExpressionNodes::operand_nodes))]
 pub fn operand<'a>(
@@ -181,6 +203,7 @@ pub fn operand<'a>(
     }
 }
 
+/// What each of these expressions is, or the first fault.
 #[cycle(expressions)]
 #[tactic(auto, using(crate::proofs::Gathered::gathered))]
 pub fn operands<'a>(

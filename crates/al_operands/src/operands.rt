@@ -43,7 +43,7 @@ fn typed(ty: CType, x: TExpr) -> Value
     }
 }
 
-/// An array of arrays is no value.
+/// An array is a pointer to its first element (C99 6.3.2.1p3). An array of arrays is no value.
 fn first_element(alloc: Global, of: CType, place: TPlace) -> Result<Value, AllocError>
     ensures { IfOk result (λ v. v ≡ spec.read_case (CType-F.Array of 1) place) }
 {
@@ -142,7 +142,7 @@ fn as_target(alloc: Global, v: Value) -> Result<(Boxed<CType>, Boxed<TExpr>), Fa
     }
 }
 
-/// An integer.
+/// The term of an operand where an integer is wanted. Else `Mismatch`.
 #[tactic(auto, unfolding(al_rules::specs::Operands::integer))]
 pub fn integer(alloc: Global, x: Boxed<Operand>) -> Result<Boxed<TExpr>, Fault>
     ensures { Checks (spec.integer x) result }
@@ -151,7 +151,7 @@ pub fn integer(alloc: Global, x: Boxed<Operand>) -> Result<Boxed<TExpr>, Fault>
     Ok(Boxed::new(alloc, x)?)
 }
 
-/// An integer or a pointer.
+/// The term of an operand where an integer or a pointer is wanted. Else `Mismatch`.
 #[tactic(auto, unfolding(al_rules::specs::Operands::scalar))]
 pub fn scalar(alloc: Global, x: Boxed<Operand>) -> Result<Boxed<TExpr>, Fault>
     ensures { Checks (spec.scalar x) result }
@@ -160,7 +160,7 @@ pub fn scalar(alloc: Global, x: Boxed<Operand>) -> Result<Boxed<TExpr>, Fault>
     Ok(Boxed::new(alloc, x)?)
 }
 
-/// A pointer to something, which is followed.
+/// What the pointer of an operand leads to, and its term. `Mismatch` where it is no pointer, or `NULL`.
 #[tactic(auto, unfolding(al_rules::specs::Operands::target))]
 pub fn target(alloc: Global, x: Boxed<Operand>) -> Result<(Boxed<CType>, Boxed<TExpr>), Fault>
     ensures { Checks (spec.target x) result }
@@ -168,6 +168,7 @@ pub fn target(alloc: Global, x: Boxed<Operand>) -> Result<(Boxed<CType>, Boxed<T
     as_target(alloc, used(alloc, x.into_inner())?)
 }
 
+/// The literal that may stand for a null pointer (C99 6.3.2.3p3).
 pub fn is_zero(n: i64) -> bool
     ensures { result ≡ int_eq n (pos 0) }
 {
@@ -226,7 +227,7 @@ fn are_one_type(a: &Option<Boxed<CType>>, b: &Option<Boxed<CType>>) -> bool
     }
 }
 
-/// A value of this type.
+/// The term of an operand where a value of this type is wanted (C99 6.5.16.1p1). Else `Mismatch`.
 #[tactic(auto, unfolding(al_rules::specs::Operands::fitting))]
 pub fn fitting(alloc: Global, ty: &CType, x: Boxed<Operand>) -> Result<Boxed<TExpr>, Fault>
     ensures { Checks (spec.fitting ty.now x) result }
@@ -250,7 +251,7 @@ fn number(alloc: Global, x: TExpr) -> Result<Boxed<Operand>, AllocError>
     Boxed::new(alloc, Operand::Value(CType::Int, x))
 }
 
-/// `!` takes pointers too.
+/// `-` and `~` of an integer, and `!` of an integer or a pointer (C99 6.5.3.3p1). Else `Mismatch`.
 #[tactic(auto, unfolding(al_rules::specs::Operands::unary))]
 pub fn unary(alloc: Global, op: UnOp, x: Boxed<Operand>) -> Result<Boxed<Operand>, Fault>
     ensures { Checks (spec.unary op x) result }
@@ -303,7 +304,7 @@ fn is_integer(x: &Operand) -> bool
     }
 }
 
-/// Two integers, or two pointers of one type.
+/// Two integers, or two pointers of one type (C99 6.5.9p2).
 #[tactic(auto, using(crate::proofs::OperandCases::comparisons))]
 fn compared(
     alloc: Global,
@@ -321,6 +322,7 @@ fn compared(
     }
 }
 
+/// An operator on two integers (C99 6.5.5 to 6.5.12). `==` and `!=` take two pointers of one type, too. Else `Mismatch`.
 #[tactic(auto, unfolding(al_rules::specs::Operands::binary))]
 pub fn binary(
     alloc: Global,
@@ -350,7 +352,7 @@ pub fn binary(
     }
 }
 
-/// `&&`
+/// `&&` of two integers or pointers (C99 6.5.13p2). Else `Mismatch`.
 pub fn and(alloc: Global, x: Boxed<Operand>, y: Boxed<Operand>) -> Result<Boxed<Operand>, Fault>
     ensures { Checks (spec.of_scalars e.And x y) result }
 {
@@ -359,7 +361,7 @@ pub fn and(alloc: Global, x: Boxed<Operand>, y: Boxed<Operand>) -> Result<Boxed<
     Ok(number(alloc, TExpr::And(a, b))?)
 }
 
-/// `||`
+/// `||` of two integers or pointers (C99 6.5.14p2). Else `Mismatch`.
 pub fn or(alloc: Global, x: Boxed<Operand>, y: Boxed<Operand>) -> Result<Boxed<Operand>, Fault>
     ensures { Checks (spec.of_scalars e.Or x y) result }
 {

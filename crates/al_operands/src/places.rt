@@ -24,6 +24,7 @@ use std::alloc::{AllocError, Global};
 
 const MISMATCH: Fault = Fault::Kind(TypeKind::Mismatch);
 
+/// A local, or the place of a global.
 pub fn of_variable(alloc: Global, v: Variable<'_>) -> Result<Boxed<Operand>, AllocError>
     ensures { IfOk result (λ x. x ≡ spec.of_variable (variable_of v.entry)) }
 {
@@ -68,6 +69,7 @@ fn is_array(x: &Operand) -> bool
     }
 }
 
+/// The same two, each in a box of its own.
 pub fn boxed_place(
     alloc: Global,
     ty: CType,
@@ -124,7 +126,7 @@ fn base(alloc: Global, x: Boxed<Operand>) -> Result<(Boxed<CType>, Boxed<TPlace>
     }
 }
 
-/// An element of an array, or of what a pointer leads to.
+/// An element of an array, or of what a pointer leads to (C99 6.5.2.1p2). `Mismatch` of the array, and then of the index.
 #[tactic(auto, using(crate::proofs::ArrayCases::indexed_is))]
 pub fn indexed(
     alloc: Global,
@@ -157,7 +159,7 @@ fn field_place(
     Ok(place(alloc, ty, TPlace::Plus(of, offset))?)
 }
 
-/// A field of a place.
+/// A field of a place (C99 6.5.2.3p3). `Mismatch` where it is no struct, and `Unknown` where the struct has no such field.
 #[tactic(auto, unfolding(al_rules::specs::Operands::member))]
 pub fn member(
     alloc: Global,
@@ -178,7 +180,7 @@ pub fn member(
     }
 }
 
-/// A field of what a pointer leads to.
+/// A field of what a pointer leads to (C99 6.5.2.3p4). `Mismatch` where that is no struct, and `Unknown` where the struct has no such field.
 #[tactic(auto, unfolding(al_rules::specs::Operands::member_behind))]
 pub fn member_behind(
     alloc: Global,
@@ -192,6 +194,7 @@ pub fn member_behind(
     field_place(alloc, known, to.get(), of, field)
 }
 
+/// The place that a pointer leads to (C99 6.5.3.2p4). Else `Mismatch`.
 #[tactic(auto, unfolding(al_rules::specs::Operands::followed))]
 pub fn followed(alloc: Global, x: Boxed<Operand>) -> Result<Boxed<Operand>, Fault>
     ensures { Checks (spec.followed x) result }
@@ -201,13 +204,16 @@ pub fn followed(alloc: Global, x: Boxed<Operand>) -> Result<Boxed<Operand>, Faul
 }
 
 fn address_in(alloc: Global, ty: Boxed<CType>, q: Boxed<TPlace>) -> Result<Boxed<Operand>, Fault>
-    ensures { Checks (and_then (check.ensure (is_none (types.element ty)) Mismatch) (λ _. Ok (operand.Value (ctype.Ptr ty) (e.Addr q)))) result }
+    ensures { Checks
+        (and_then (check.ensure (is_none (types.element ty)) Mismatch)
+        (λ _. Ok (operand.Value (ctype.Ptr ty) (e.Addr q))))
+        result }
 {
     ensure(element(ty.get()).is_none(), TypeKind::Mismatch)?;
     Ok(Boxed::new(alloc, Operand::Value(CType::Ptr(ty), TExpr::Addr(q)))?)
 }
 
-/// No address is taken of a local or of an array.
+/// The address of a place (C99 6.5.3.2p3). `LocalAddress` of a local, `NotPlace` of a value, and `Mismatch` of an array.
 #[tactic(auto, unfolding(al_rules::specs::Operands::address))]
 pub fn address(alloc: Global, x: Boxed<Operand>) -> Result<Boxed<Operand>, Fault>
     ensures { Checks (spec.address x) result }
