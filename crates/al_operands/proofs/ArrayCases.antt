@@ -1,5 +1,5 @@
 -- Elements of arrays, and of what pointers lead to.
-use Rattle.std.proofs.Common.{◌≡◌, Bool, true, false, Option, Some, None, Result, Ok, Err, refl, sym, true≢false}
+use Rattle.std.proofs.Common.{◌≡◌, true, false, Option, Some, None, Ok, Err, refl, sym, true≢false}
 use Rattle.std.specs.Prelude.{is_some}
 use Rattle.al_source.specs.declared.source_tree.CType.{CType}
 use Rattle.al_core.specs.declared.typed_tree.TExpr.{TExpr}

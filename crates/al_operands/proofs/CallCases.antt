@@ -1,5 +1,5 @@
 -- Calls by what is called.
-use Rattle.std.proofs.Common.{◌≡◌, ℕ, ◌==◌, List, [], ◌∷◌, length, Ok, Err, refl}
+use Rattle.std.proofs.Common.{◌≡◌, ℕ, ◌==◌, List, [], ◌∷◌, length, Ok, refl}
 use Rattle.al_source.specs.declared.operators.RedOp.{RedOp}
 use Rattle.al_source.specs.declared.source_tree.CType.TheVariants as type
 use Rattle.al_source.specs.declared.source_tree.Func.{Func}

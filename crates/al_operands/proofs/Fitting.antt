@@ -1,5 +1,5 @@
 -- Arguments that are fitted to parameters one by one, at a place among these.
-use Rattle.std.proofs.Common.{◌≡◌, ℕ, ◌+◌, ◌<◌, ◌≤◌, List, [], ◌∷◌, ◌++◌, length, drop, get_or, Ok, Err, refl, sym, ap, ap₂, ◌∙◌}
+use Rattle.std.proofs.Common.{◌≡◌, ℕ, ◌+◌, ◌<◌, ◌≤◌, List, [], ◌∷◌, ◌++◌, length, drop, get_or, Ok, Err, sym, ap, ap₂, ◌∙◌}
 use Rattle.std.proofs.lemmas.List.{drop_all}
 use Rattle.al_source.specs.declared.source_tree.Field.{Field}
 use Rattle.al_core.specs.declared.typed_tree.TExpr.{TExpr}

@@ -1,20 +1,19 @@
 -- Operands by what they are.
-use Rattle.std.proofs.Common.{◌≡◌, ℕ, Bool, true, false, ◌&&◌, if◌then◌else◌, Option, Some, None, Result, Ok, Err, refl, ap, ◌∙◌, true≢false, sym}
-use Rattle.std.specs.Prelude.{ℤ, pos, is_ok, is_none}
+use Rattle.std.proofs.Common.{◌≡◌, ℕ, Bool, true, false, if◌then◌else◌, Some, None, Ok, Err, refl, ap, true≢false, sym}
+use Rattle.std.specs.Prelude.{ℤ, is_ok, is_none}
 use Rattle.al_source.specs.declared.operators.BinOp.{BinOp}
 use Rattle.al_source.specs.declared.source_tree.CType.{CType, out-CType}
 use Rattle.al_source.specs.declared.source_tree.CType.TheOpen.{CType-F}
 use Rattle.al_core.specs.declared.typed_tree.TExpr.{TExpr}
 use Rattle.al_core.specs.declared.typed_tree.TExpr.TheVariants as e
 use Rattle.al_core.specs.declared.typed_tree.TPlace.{TPlace}
-use Rattle.al_rules.specs.declared.faults.TypeKind.TheVariants.{Mismatch}
 use Rattle.al_rules.specs.declared.operands.Operand.{Operand}
 use Rattle.al_rules.specs.declared.operands.Operand.TheVariants.{Literal, Null, Value, Variable, Place}
 use Rattle.std.proofs.lemmas.Option.{none-some, same_Some}
 use Rattle.al_operands.specs.Literals.{literal_of}
 use Rattle.al_rules.specs.Checks.{Checked, and_then, or_else}
 use Rattle.al_rules.specs.Types.{is_int_case, is_int, element}
-use Rattle.al_rules.specs.Operands.{typed_case, read_case, used, as_integer, as_pointer, integer, pointer, of_integers, of_pointers, number}
+use Rattle.al_rules.specs.Operands.{typed_case, read_case, used, as_integer, as_pointer, integer, pointer, of_integers, number}
 use Rattle.al_rules.specs.declared.operands.Value.TheVariants.{Pointer, Useless}
 
 -- a literal

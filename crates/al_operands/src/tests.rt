@@ -3,13 +3,11 @@ use al_core::{TExpr, TPlace};
 use al_names::fault::Fault;
 use al_names::known::Known;
 use al_names::scope::{Binding, Scope};
-use al_rules::{Layout, Operand, StructLayout, TypeKind};
-use al_source::{BinOp, CType, Expr, Field, StructDef};
+use al_rules::{Layout, Operand, TypeKind};
+use al_source::{BinOp, CType, Expr};
 use sqlite_items::{Boxed, Items};
 use std::alloc::Global;
 use std::test::Fail;
-
-// ---- expressions
 
 fn boxed(alloc: Global, x: Expr) -> Result<Boxed<Expr>, Fail> {
     Ok(Boxed::new(alloc, x)?)
@@ -19,19 +17,14 @@ fn var(alloc: Global, name: &[u8]) -> Result<Boxed<Expr>, Fail> {
     boxed(alloc, Expr::Var(Items::from_slice(alloc, name)?))
 }
 
-/// `p->FIELD`
-fn behind_p(alloc: Global, field: &[u8]) -> Result<Boxed<Expr>, Fail> {
-    let p = var(alloc, b"p")?;
-    boxed(alloc, Expr::Arrow(p, Items::from_slice(alloc, field)?))
-}
-
-/// `X[n]`
-fn at_n(alloc: Global, x: Boxed<Expr>) -> Result<Boxed<Expr>, Fail> {
-    boxed(alloc, Expr::Index(x, var(alloc, b"n")?))
-}
-
 fn address(alloc: Global, x: Boxed<Expr>) -> Result<Boxed<Expr>, Fail> {
     boxed(alloc, Expr::Address(x))
+}
+
+/// `p[n]`
+fn element(alloc: Global) -> Result<Boxed<Expr>, Fail> {
+    let p = var(alloc, b"p")?;
+    boxed(alloc, Expr::Index(p, var(alloc, b"n")?))
 }
 
 /// `p == N`
@@ -46,96 +39,49 @@ fn p_is(alloc: Global, n: i64) -> Result<Boxed<Expr>, Fail> {
 /// `NAME(ARGUMENT)`
 fn call(alloc: Global, name: &[u8], argument: &[u8]) -> Result<Boxed<Expr>, Fail> {
     let mut args = Items::new(alloc);
-    args.push(var(alloc, argument)?.into_inner())?;
+    args.push(Expr::Var(Items::from_slice(alloc, argument)?))?;
     boxed(alloc, Expr::Call(Items::from_slice(alloc, name)?, args))
 }
 
-// ---- what is known where they stand
-
-/// `struct node { int a[2]; struct node *next; };`, and the types of `p` and `n`.
-#[derive(Drop)]
-struct Setting {
-    node: StructDef,
-    sizes: Layout,
-    pointer: CType,
-    number: CType,
-}
-
-fn to_node(alloc: Global) -> Result<CType, Fail> {
-    let node = CType::Struct(Items::from_slice(alloc, b"node")?);
-    Ok(CType::Ptr(Boxed::new(alloc, node)?))
-}
-
-fn field(alloc: Global, name: &[u8], ty: CType) -> Result<Field, Fail> {
-    Ok(Field {
-        name: Items::from_slice(alloc, name)?,
-        ty,
-    })
-}
-
-fn node(alloc: Global) -> Result<StructDef, Fail> {
-    let mut fields = Items::new(alloc);
-    let pair = CType::Array(Boxed::new(alloc, CType::Int)?, 2);
-    fields.push(field(alloc, b"a", pair)?)?;
-    fields.push(field(alloc, b"next", to_node(alloc)?)?)?;
-    Ok(StructDef {
-        name: Items::from_slice(alloc, b"node")?,
-        fields,
-        line: 1,
-    })
-}
-
-fn sizes(alloc: Global) -> Result<Layout, Fail> {
-    let mut structs = Items::new(alloc);
-    structs.push(StructLayout {
-        name: Items::from_slice(alloc, b"node")?,
-        words: 3,
-        offsets: Items::from_slice(alloc, &[0, 2])?,
-    })?;
-    Ok(Layout {
-        structs,
-        globals: Items::new(alloc),
-    })
-}
-
-fn new_setting(alloc: Global) -> Result<Setting, Fail> {
-    let node = node(alloc)?;
-    let sizes = sizes(alloc)?;
-    Ok(Setting {
-        node,
-        sizes,
-        pointer: to_node(alloc)?,
-        number: CType::Int,
-    })
-}
-
-fn known(alloc: Global, setting: &Setting) -> Result<Known<'_>, Fail> {
-    Ok(Known::new(alloc, &setting.sizes).with_struct(&setting.node)?)
-}
-
-/// `struct node *p; int n;`
-fn scope(alloc: Global, setting: &Setting) -> Result<Scope<'_>, Fail> {
+/// `int *p; int n;`
+fn scope<'a>(alloc: Global, pointer: &'a CType, number: &'a CType) -> Result<Scope<'a>, Fail> {
     let mut scope = Scope::new(alloc);
     scope.declare(Binding {
         name: b"p",
         number: 0,
-        ty: &setting.pointer,
+        ty: pointer,
     })?;
     scope.declare(Binding {
         name: b"n",
         number: 1,
-        ty: &setting.number,
+        ty: number,
     })?;
     Ok(scope)
 }
 
-// ---- what they are
+fn to_int(alloc: Global) -> Result<Boxed<CType>, Fail> {
+    let to = Boxed::new(alloc, CType::Int)?;
+    Ok(Boxed::new(alloc, CType::Ptr(to))?)
+}
+
+fn found_in<'a>(
+    alloc: Global,
+    layout: &'a Layout,
+    pointer: &'a CType,
+    x: &Expr,
+) -> Result<Result<Boxed<Operand>, Fault>, Fail> {
+    let scope = scope(alloc, pointer, &CType::Int)?;
+    let known = Known::new(alloc, layout);
+    Ok(operand(alloc, &known, &scope, x))
+}
 
 fn found(alloc: Global, x: Boxed<Expr>) -> Result<Result<Boxed<Operand>, Fault>, Fail> {
-    let setting = new_setting(alloc)?;
-    let known = known(alloc, &setting)?;
-    let scope = scope(alloc, &setting)?;
-    Ok(operand(alloc, &known, &scope, x.get()))
+    let pointer = to_int(alloc)?;
+    let layout = Layout {
+        structs: Items::new(alloc),
+        globals: Items::new(alloc),
+    };
+    found_in(alloc, &layout, pointer.get(), x.get())
 }
 
 fn fault(alloc: Global, x: Boxed<Expr>) -> Result<Option<TypeKind>, Fail> {
@@ -145,28 +91,13 @@ fn fault(alloc: Global, x: Boxed<Expr>) -> Result<Option<TypeKind>, Fail> {
     }
 }
 
-fn local(x: &Operand) -> Option<u32> {
-    match x {
-        Operand::Variable(k, _) => Some(*k),
-        _ => None,
-    }
-}
-
-/// How many words behind `p` a place is.
-fn words_behind_p(x: &Operand) -> Option<u32> {
-    let Operand::Place(_, TPlace::Plus(of, words)) = x else {
+/// How many words an element of number `n` has, behind `p`.
+fn words_of_nth(x: &Operand) -> Option<u32> {
+    let Operand::Place(CType::Int, TPlace::Elem(from, TExpr::Local(1), words)) = x else {
         return None;
     };
-    match of.get() {
+    match from.get() {
         TPlace::At(TExpr::Local(0)) => Some(*words),
-        _ => None,
-    }
-}
-
-/// How many words an element of number `n` has.
-fn words_of_nth(x: &Operand) -> Option<u32> {
-    match x {
-        Operand::Place(_, TPlace::Elem(_, TExpr::Local(1), words)) => Some(*words),
         _ => None,
     }
 }
@@ -183,41 +114,19 @@ fn compared_with(x: &Operand) -> Option<i64> {
 }
 
 #[test]
-fn an_inner_name_hides_an_outer_one(rt: HostRuntime) -> Result<(), Fail> {
+fn an_element_behind_a_pointer(rt: HostRuntime) -> Result<(), Fail> {
     let alloc = rt.alloc();
-    let setting = new_setting(alloc)?;
-    let known = known(alloc, &setting)?;
-    let mut scope = scope(alloc, &setting)?;
-    scope.enter();
-    scope.declare(Binding {
-        name: b"n",
-        number: 2,
-        ty: &setting.pointer,
-    })?;
-    let n = var(alloc, b"n")?;
-    let inner = operand(alloc, &known, &scope, n.get())?;
-    assert_eq!(rt; local(inner.get()), Some(2));
+    let x = found(alloc, element(alloc)?)??;
+    assert_eq!(rt; words_of_nth(x.get()), Some(1));
     Ok(())
 }
 
 #[test]
-fn places_behind_a_pointer(rt: HostRuntime) -> Result<(), Fail> {
-    let alloc = rt.alloc();
-    let next = found(alloc, behind_p(alloc, b"next")?)??;
-    assert_eq!(rt; words_behind_p(next.get()), Some(2));
-    let nodes = found(alloc, at_n(alloc, var(alloc, b"p")?)?)??;
-    assert_eq!(rt; words_of_nth(nodes.get()), Some(3));
-    let numbers = found(alloc, at_n(alloc, behind_p(alloc, b"a")?)?)??;
-    assert_eq!(rt; words_of_nth(numbers.get()), Some(1));
-    Ok(())
-}
-
-#[test]
-fn pointers_and_literals(rt: HostRuntime) -> Result<(), Fail> {
+fn a_pointer_and_a_literal(rt: HostRuntime) -> Result<(), Fail> {
     let alloc = rt.alloc();
     assert_eq!(rt; fault(alloc, p_is(alloc, 1)?)?, Some(TypeKind::Mismatch));
-    let test = found(alloc, p_is(alloc, 0)?)??;
-    assert_eq!(rt; compared_with(test.get()), Some(0));
+    let x = found(alloc, p_is(alloc, 0)?)??;
+    assert_eq!(rt; compared_with(x.get()), Some(0));
     Ok(())
 }
 
@@ -228,17 +137,12 @@ fn what_has_no_address(rt: HostRuntime) -> Result<(), Fail> {
     assert_eq!(rt; fault(alloc, local)?, Some(TypeKind::LocalAddress));
     let test = address(alloc, p_is(alloc, 0)?)?;
     assert_eq!(rt; fault(alloc, test)?, Some(TypeKind::NotPlace));
-    let array = address(alloc, behind_p(alloc, b"a")?)?;
-    assert_eq!(rt; fault(alloc, array)?, Some(TypeKind::Mismatch));
     Ok(())
 }
 
 #[test]
-fn names_that_mean_something_else(rt: HostRuntime) -> Result<(), Fail> {
+fn calls_of_what_is_none(rt: HostRuntime) -> Result<(), Fail> {
     let alloc = rt.alloc();
-    let field = behind_p(alloc, b"b")?;
-    assert_eq!(rt; fault(alloc, field)?, Some(TypeKind::Unknown));
-    assert!(rt; found(alloc, call(alloc, b"input", b"n")?)?.is_ok());
     assert_eq!(rt;
         fault(alloc, call(alloc, b"min", b"n")?)?,
         Some(TypeKind::Count)
