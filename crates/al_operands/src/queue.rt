@@ -1,0 +1,50 @@
+ghost use Rattle.std.specs.Prelude.{◌≡◌, [], ◌∷◌, ◌++◌, length, OnOk, MatchOption};
+
+use std::alloc::{AllocError, Global};
+use std::collections::VecDeque;
+use std::marker::Model;
+
+/// A list that is added to at its end and taken from at its front.
+#[derive(Drop)]
+pub struct Queue<T> {
+    items: VecDeque<T>,
+}
+
+impl<T> Model for Queue<T> {
+    ghost use Rattle.std.specs.Prelude.{List};
+
+    ghost Value = { List T };
+
+    ghost view = { λ q. q.items.items };
+}
+
+impl<T> Queue<T> {
+    pub fn new(alloc: Global) -> Queue<T>
+        ensures { result ≡ [] }
+    {
+        Queue {
+            items: VecDeque::new(alloc),
+        }
+    }
+
+    pub fn len(&self) -> usize
+        ensures { result ≡ length self.now }
+    {
+        self.items.len()
+    }
+
+    pub fn take(&mut self) -> Option<T>
+        ensures { MatchOption result ((self.old ≡ []) × (self.new ≡ [])) (λ first. self.old ≡ first ∷ self.new) }
+    {
+        self.items.pop_front()
+    }
+}
+
+impl<T: Drop> Queue<T> {
+    pub fn add(&mut self, item: T) -> Result<(), AllocError>
+        ensures { OnOk result (self.new ≡ self.old ++ item ∷ []) }
+    {
+        self.items.push_back(item)?;
+        Ok(())
+    }
+}
