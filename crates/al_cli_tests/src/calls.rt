@@ -76,7 +76,7 @@ fn words_of(alloc: Global, text: &str) -> Result<Vec<String>, AllocError> {
     Ok(words)
 }
 
-fn file(alloc: Global, file: &File<'_>) -> Result<MemFile, AllocError>
+fn file_of(alloc: Global, file: &File<'_>) -> Result<MemFile, AllocError>
     ensures { IfOk result (λ f. keys_of (named (f ∷ [])) ≡ file.now.name.now ∷ []) }
 {
     Ok(MemFile {
@@ -89,8 +89,8 @@ fn two_files(alloc: Global, one: &File<'_>, other: &File<'_>) -> Result<Items<Me
     ensures { IfOk result (λ files. keys_of (named files) ≡ one.now.name.now ∷ other.now.name.now ∷ []) }
 {
     let mut files = Items::new(alloc);
-    files.push(file(alloc, one)?)?;
-    files.push(file(alloc, other)?)?;
+    files.push(file_of(alloc, one)?)?;
+    files.push(file_of(alloc, other)?)?;
     Ok(files)
 }
 
@@ -101,7 +101,7 @@ fn sink(alloc: Global, cut: Cut) -> Result<MemSink, AllocError> {
 }
 
 /// Makes the call. The names of the files differ.
-pub fn seen(alloc: Global, call: &Call<'_>) -> Result<Seen, AllocError> {
+pub fn serve(alloc: Global, call: &Call<'_>) -> Result<Seen, AllocError> {
     let words = words_of(alloc, call.words)?;
     let files = two_files(alloc, &call.source, &call.input)?;
     if call.source.name == call.input.name {
@@ -119,7 +119,7 @@ pub fn seen(alloc: Global, call: &Call<'_>) -> Result<Seen, AllocError> {
 }
 
 pub fn gives(alloc: Global, call: &Call<'_>, wanted: &Wanted<'_>) -> Result<bool, AllocError> {
-    let seen = seen(alloc, call)?;
+    let seen = serve(alloc, call)?;
     Ok(
         seen.status == wanted.status
             && seen.out.as_slice() == wanted.out.as_bytes()

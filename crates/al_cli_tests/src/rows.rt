@@ -1,5 +1,5 @@
 //! Programs with the bytes and the status of each command.
-use crate::calls::{Call, File, Wanted, gives, seen};
+use crate::calls::{Call, File, Wanted, gives, serve};
 use al_samples::*;
 use std::alloc::{AllocError, Global};
 use std::test::Fail;
@@ -42,7 +42,7 @@ fn changed(alloc: Global, text: &str, old: &str, new: &str) -> Result<String, Al
 
 /// Whether the trace that words ask for ends in this text.
 fn ends_in(alloc: Global, words: &str, text: &str, tail: &str) -> Result<bool, AllocError> {
-    let seen = seen(
+    let seen = serve(
         alloc,
         &Call::new(words, File { name: "p.c", text }, NUMBERS),
     )?;
@@ -286,7 +286,7 @@ fn a_beginning_of_a_program_is_none(rt: HostRuntime) -> Result<(), Fail> {
             name: "p10.c",
             text: begun,
         };
-        let seen = seen(alloc, &Call::new("check p10.c", file, NUMBERS))?;
+        let seen = serve(alloc, &Call::new("check p10.c", file, NUMBERS))?;
         assert_eq!(rt; seen.status, 1, "{at}");
     }
     Ok(())
@@ -344,6 +344,12 @@ fn clusters_of_points(rt: HostRuntime) -> Result<(), Fail> {
         "",
     );
     assert_eq!(rt; broken(alloc, "p15.c", P15, &[row])?, None);
+    Ok(())
+}
+
+#[test]
+fn rounds_of_clusters(rt: HostRuntime) -> Result<(), Fail> {
+    let alloc = rt.alloc();
     let totals = "end done\nloops 4 rounds 34 attempts 128 aborted 0 span 108637\n";
     assert!(rt; ends_in(alloc, "trace p.c", P15, totals)?);
     Ok(())
