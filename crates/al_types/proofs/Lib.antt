@@ -1,0 +1,5 @@
+pub mod ItemLemmas
+pub mod StatementRules
+pub mod TypedBy
+pub mod Walked
+pub mod Within
