@@ -2,3 +2,4 @@ pub mod Plans
 pub mod Valid
 pub mod Comings
 pub mod Clauses
+mod LockstepRounds

@@ -1,5 +1,6 @@
 ghost use Rattle.std.specs.Prelude.{◌≡◌, ◌≢◌, ◌⊎◌, [], ◌∷◌, List, ℤ, length, map, string_bytes, Ok, IfSome, IsErr, IsSomeAnd};
 ghost use Rattle.al_core.specs.declared.typed_tree.Typed.{Typed};
+ghost use Rattle.al_plain.specs.Bounded.{RoundsFit};
 ghost use Rattle.al_io.specs.Counts.{DidNotRise, MayHaveRisen, HasRisen};
 ghost use Rattle.al_serve.specs.Plans.{reads_on};
 ghost use Rattle.al_serve.specs.Seen.{files_seen};
@@ -36,6 +37,11 @@ pub fn alter<F: Files, O: Sink, E: Sink>(
         Holds (map string_bytes words.now) contents job typed input
         → Writes (spec.bytes_of (spec.source_name (map string_bytes words.now) job) (spec.lockstep_report typed input job.knobs)) result
         (O.written out.old) (O.written out.new) (E.written err.old) (E.written err.new)) }
+
+    // In that run no execution of a loop has more rounds than chunks.
+    ensures rounds { (job : Job) → (typed : Typed) → (input : List ℤ)
+        → words_spec.command (map string_bytes words.now) ≡ Ok (command.Run job)
+        → RoundsFit (spec.lockstep_report typed input job.knobs).events }
 
     // Where nothing fails and memory is found, status and bytes are those that the words show over these files.
     ensures shown { DidNotRise (F.faults files.old) (F.faults files.new)

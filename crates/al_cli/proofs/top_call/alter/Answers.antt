@@ -3,10 +3,14 @@ use Rattle.std.proofs.Common.{map, string_bytes}
 use Rattle.al_serve.proofs.Outcomes.{is_as_played, is_as_told, is_planned, has_status, fault_gives, out_gives, err_gives, unread_writes, five_is_unwritten, four_is_unread, starved_writes, cut_writes, cut_unread_writes, reads_few, reads_as_told, put_out_once, put_err_once, no_put_out, no_put_err, no_put_unread}
 use Rattle.al_cli.proofs.Plans.{every_why, own_statuses, in_order}
 use Rattle.al_cli.proofs.Clauses.{headline, complete, words_give}
+use Rattle.al_cli.proofs.LockstepRounds.{lockstep_fits}
 use Rattle.al_cli.proofs.top_call.alter.Goals as goal
 
 pub returns-clause-headline : goal.returns-clause-headline
 returns-clause-headline g c = headline (map string_bytes c.args.words.now) _ _ _ _ _ _ c.serve.result c.serve.ensures
+
+pub returns-clause-rounds : goal.returns-clause-rounds
+returns-clause-rounds g c = λ job typed input is. lockstep_fits typed input job.knobs
 
 pub returns-clause-shown : goal.returns-clause-shown
 returns-clause-shown g c = is_as_played _ _ _ _ _ _ _ c.serve.result c.serve.ensures
