@@ -1,4 +1,4 @@
-ghost use Rattle.std.specs.Prelude.{◌≡◌, [], ◌∷◌, ◌++◌, length, OnOk, MatchOption};
+ghost use Rattle.std.specs.Prelude.{◌≡◌, [], ◌∷◌, ◌++◌, length, OnOk, OnErr, MatchOption};
 
 use std::alloc::{AllocError, Global};
 use std::collections::VecDeque;
@@ -19,6 +19,7 @@ impl<T> Model for Queue<T> {
 }
 
 impl<T> Queue<T> {
+    /// With nothing in it.
     pub fn new(alloc: Global) -> Queue<T>
         ensures { result ≡ [] }
     {
@@ -33,6 +34,7 @@ impl<T> Queue<T> {
         self.items.len()
     }
 
+    /// The first item, which leaves the queue.
     pub fn take(&mut self) -> Option<T>
         ensures { MatchOption result ((self.old ≡ []) × (self.new ≡ [])) (λ first. self.old ≡ first ∷ self.new) }
     {
@@ -41,8 +43,10 @@ impl<T> Queue<T> {
 }
 
 impl<T: Drop> Queue<T> {
+    /// Adds an item at the end. Where memory is wanting the queue stays as it was.
     pub fn add(&mut self, item: T) -> Result<(), AllocError>
-        ensures { OnOk result (self.new ≡ self.old ++ item ∷ []) }
+        ensures ok { OnOk result (self.new ≡ self.old ++ item ∷ []) }
+        ensures err { OnErr result (self.new ≡ self.old) }
     {
         self.items.push_back(item)?;
         Ok(())

@@ -26,4 +26,4 @@ operand-returns-in_ok-a-in-Calloc t c =
 pub operands-loop-x-preserved : goal.operands-loop-x-preserved
 operands-loop-x-preserved t c =
     c.loop-x.invariant
-    ∙ each_more (operand c.args.known.now (in_scope c.args.scope.now)) c.loop-x.done c.add.new.self c.args.xs.now c.loop-x.x-index c.x-item.result c.in_ok-operand.field-0 c.loop-x-test.true c.x-item.is c.in_ok-add.ensures c.in_ok-operand.ensures
+    ∙ each_more (operand c.args.known.now (in_scope c.args.scope.now)) c.loop-x.done c.add.new.self c.args.xs.now c.loop-x.x-index c.x-item.result c.in_ok-operand.field-0 c.loop-x-test.true c.x-item.is c.in_ok-add.ensures.ok c.in_ok-operand.ensures
