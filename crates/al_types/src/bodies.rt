@@ -14,6 +14,7 @@ use al_rules::{TypeFault, TypeKind};
 use al_source::{Expr, Stmt, StmtKind};
 use sqlite_items::{Boxed, Items};
 
+/// A `for` of these parts, with its number where it is annotated.
 fn for_kind(
     first: Option<Boxed<TStmt>>,
     test: Option<Boxed<TExpr>>,

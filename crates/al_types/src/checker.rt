@@ -185,6 +185,7 @@ pub fn continue_loop(line: u32, looped: bool) -> Result<TKind, TypeFault>
 
 #[tactic(auto, using(al_rules::proofs::StatementNodes::walk_nodes), unfolding(al_rules::specs::Walks::bind, al_rules::specs::Walks::pure, al_rules::specs::Walks::checks))]
 impl<'k, 'a> Checker<'k, 'a> {
+    /// What an expression in a statement of this line is.
     pub fn operand(
         &self,
         p: &Progress<'a>,
@@ -207,6 +208,7 @@ impl<'k, 'a> Checker<'k, 'a> {
         at_line(line, operands(self.alloc, self.known, p.scope(), xs))
     }
 
+    /// An integer or a pointer.
     pub fn condition(
         &self,
         p: &Progress<'a>,
@@ -272,6 +274,7 @@ impl<'k, 'a> Checker<'k, 'a> {
         Ok(TKind::SetLocal(n, y.into_inner()))
     }
 
+    /// An assignment: the place, and then its value (C99 6.5.16.1).
     pub fn assign(
         &self,
         p: &Progress<'a>,
@@ -287,6 +290,7 @@ impl<'k, 'a> Checker<'k, 'a> {
         at_line(line, assigned(self.alloc, to, value))
     }
 
+    /// An update of an integer (C99 6.5.16.2).
     pub fn update(
         &self,
         p: &Progress<'a>,
@@ -304,6 +308,7 @@ impl<'k, 'a> Checker<'k, 'a> {
         at_line(line, updated(self.alloc, op, of, by))
     }
 
+    /// A call as a statement.
     pub fn call(
         &self,
         p: &Progress<'a>,
@@ -320,6 +325,7 @@ impl<'k, 'a> Checker<'k, 'a> {
         Ok(TKind::Call(x.into_inner()))
     }
 
+    /// A `printf`, which has as many arguments as its text prints, each an integer.
     pub fn print(
         &self,
         p: &Progress<'a>,
@@ -338,6 +344,7 @@ impl<'k, 'a> Checker<'k, 'a> {
         Ok(TKind::Print(copy_format(self.alloc, format)?, ns))
     }
 
+    /// A `return`, whose value has the type that the function gives (C99 6.8.6.4).
     pub fn returned(
         &self,
         p: &Progress<'a>,
