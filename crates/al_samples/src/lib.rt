@@ -1,4 +1,5 @@
 //! Whole programs of the language.
+#![tactic(auto)]
 
 pub const P1: &str = "int main(void) { printf(\"%ld\\n\", 2 + 3); }
 ";
