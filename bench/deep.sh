@@ -1,6 +1,7 @@
 #!/bin/sh
 # Runs the deepest program that is accepted and ends: 256 calls are active, each inside 128 nested statements and in an
-# expression of 128 operators. It prints 7.
+# expression of 128 operators. It prints 7. `alter` asks for the stack that this takes, about 70 MiB; with 8 MiB 32 such
+# calls can be active.
 top=$(cd "$(dirname "$0")/.." && pwd) || exit 1
 folder=$(mktemp -d) || exit 1
 trap 'rm -rf "$folder"' EXIT

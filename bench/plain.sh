@@ -11,6 +11,7 @@ cat >"$folder/main.c" <<'C'
 #include <stdio.h>
 #include <time.h>
 int job(void);
+long max(long a, long b) { return a > b ? a : b; }
 int main(void) {
     struct timespec a, b;
     int times = 200;
@@ -46,7 +47,10 @@ for name in collatz matrix sieve; do
     steps=$("$top/alter" trace "$folder/$name.c" --steps 1000000000 | awk '/^loops/ { print $NF }')
     started=$(seconds "$top/alter" plain "$empty")
     whole=$(seconds "$top/alter" plain "$folder/$name.c" --steps 1000000000)
-    sed 's/\bint\b/long/g; s/\blong main(/int job(/' "$folder/$name.c" >"$folder/$name.job.c"
+    {
+        echo 'long max(long, long);'
+        sed 's/\bint\b/long/g; s/\blong main(/int job(/' "$folder/$name.c"
+    } >"$folder/$name.job.c"
     gcc -O0 -fwrapv -w -o "$folder/$name" "$folder/main.c" "$folder/$name.job.c" || exit $?
     compiled=$("$folder/$name" 2>&1 >/dev/null)
     python=$(cd "$folder" && PYTHONDONTWRITEBYTECODE=1 PYTHONPATH="$top/bench/python" python3 main.py "$name" 2>&1 >/dev/null)

@@ -62,7 +62,7 @@ answers 3 '' 'alter: NONE-p7.c:6: trap: step budget spent\n' run NONE-p7.c --lan
 answers 0 'ok\n' '' run p8.c --chunk 2 --iter-steps 64
 answers 3 '' 'alter: p8.c:4: trap: step budget spent\n' run p8.c --chunk 2 --iter-steps 63
 answers 0 '17\n' '' run p9.c n.txt --lanes 4 --chunk 1
-answers 4 '' 'alter: no such file: none.txt\n' run p9.c none.txt
+answers 4 '' 'alter: cannot read none.txt\n' run p9.c none.txt
 answers 0 '5 4 3 2 1 0 ' '' run p10.c --lanes 4 --chunk 1
 answers 0 '5 4 3 2 1 0 ' '' plain p10.c
 answers 3 '' 'alter: p11.c:6: trap: word of the other kind\n' run p11.c
