@@ -23,11 +23,11 @@ fn repeated(alloc: Global, piece: &str, count: usize) -> Result<String, AllocErr
 }
 
 /// Whether words over this source give what is wanted.
-fn over(
+fn over<'a>(
     alloc: Global,
-    words: &str,
-    name: &str,
-    text: &str,
+    words: &'a str,
+    name: &'a str,
+    text: &'a str,
     wanted: &Wanted<'_>,
 ) -> Result<bool, AllocError> {
     gives(

@@ -41,7 +41,12 @@ fn changed(alloc: Global, text: &str, old: &str, new: &str) -> Result<String, Al
 }
 
 /// Whether the trace that words ask for ends in this text.
-fn ends_in(alloc: Global, words: &str, text: &str, tail: &str) -> Result<bool, AllocError> {
+fn ends_in<'a>(
+    alloc: Global,
+    words: &'a str,
+    text: &'a str,
+    tail: &str,
+) -> Result<bool, AllocError> {
     let seen = serve(
         alloc,
         &Call::new(words, File { name: "p.c", text }, NUMBERS),
