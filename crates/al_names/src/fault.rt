@@ -25,6 +25,7 @@ impl From<AllocError> for Fault {
     }
 }
 
+/// A fault of this kind, unless the condition holds.
 pub fn ensure(holds: bool, kind: TypeKind) -> Result<(), Fault>
     ensures { Checks (spec.ensure holds kind) result }
 {
@@ -35,6 +36,7 @@ pub fn ensure(holds: bool, kind: TypeKind) -> Result<(), Fault>
     }
 }
 
+/// What was found, or a fault of this kind.
 pub fn some_or<T: Drop>(found: Option<T>, kind: TypeKind) -> Result<T, Fault>
     ensures { Checks (spec.some_or found kind) result }
 {
@@ -44,7 +46,7 @@ pub fn some_or<T: Drop>(found: Option<T>, kind: TypeKind) -> Result<T, Fault>
     }
 }
 
-/// The same with the line of the statement or item.
+/// An outcome whose fault has the line of the statement or item.
 pub fn at_line<T>(line: u32, r: Result<T, Fault>) -> Result<T, TypeFault>
     ensures { (told : Checked T) → Checks told r → Gives (at_line line told) result }
 {

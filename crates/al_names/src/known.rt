@@ -123,6 +123,7 @@ impl<'a> Known<'a> {
         }
     }
 
+    /// Whether a struct has the name.
     pub fn is_struct(&self, name: &[u8]) -> bool
         ensures { result ≡ spec.is_struct self.now.structs name.now }
     {
@@ -150,6 +151,7 @@ impl<'a> Known<'a> {
         check_type(self.structs.names(), anywhere, role, ty)
     }
 
+    /// With a struct of a new name. It fails only for want of memory.
     pub fn with_struct(self, s: &'a StructDef) -> Result<Known<'a>, AllocError>
         requires { spec.is_struct self.structs s.now.name ≡ false }
         ensures { IfOk result (λ k. k ≡ with_definition self.entry (item.Struct s.entry.now)) }
@@ -169,6 +171,7 @@ impl<'a> Known<'a> {
         })
     }
 
+    /// With a global of a name that is not taken. It fails only for want of memory.
     pub fn with_global(self, g: &'a GlobalDef) -> Result<Known<'a>, AllocError>
         requires { is_taken_in self g.now.name ≡ false }
         ensures { IfOk result (λ k. k ≡ with_definition self.entry (item.Global g.entry.now)) }
@@ -188,6 +191,7 @@ impl<'a> Known<'a> {
         })
     }
 
+    /// With a function of a name that is not taken. It fails only for want of memory.
     pub fn with_func(self, f: &'a Func) -> Result<Known<'a>, AllocError>
         requires { is_taken_in self f.now.name ≡ false }
         ensures { IfOk result (λ k. k ≡ with_definition self.entry (item.Func f.entry.now)) }
@@ -207,24 +211,28 @@ impl<'a> Known<'a> {
         })
     }
 
+    /// The globals in source order.
     pub fn globals(&self) -> &[&'a GlobalDef]
         ensures { map (λ g. g.now) result.now ≡ self.now.globals }
     {
         self.globals.all()
     }
 
+    /// The functions in source order.
     pub fn funcs(&self) -> &[&'a Func]
         ensures { map (λ f. f.now) result.now ≡ self.now.funcs }
     {
         self.funcs.all()
     }
 
+    /// The function of this number.
     pub fn func(&self, at: u32) -> Option<&'a Func>
         ensures { option_copied result ≡ slice_get self.now.funcs at }
     {
         self.funcs.get(at)
     }
 
+    /// The number of the function of this name.
     pub fn place_of_func(&self, name: &[u8]) -> Option<u32>
         ensures { result ≡ place_named (λ f. f.name) name.now self.now.funcs }
     {
@@ -270,7 +278,7 @@ impl<'a> Known<'a> {
         Some(Callee::Function(place, func))
     }
 
-    /// A local in scope, or a global.
+    /// A local in scope, or a global, which a local of its name hides (C99 6.2.1p4).
     pub fn variable_named(&self, scope: &Scope<'a>, name: &[u8]) -> Option<Variable<'a>>
         ensures { option_map variable_of result ≡ spec.variable_named self.now (spec.in_scope scope.now) name.now }
     {

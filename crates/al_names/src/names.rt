@@ -24,6 +24,7 @@ impl<'a> Model for Names<'a> {
 
 #[tactic(auto, using(crate::proofs::NameLookups::any_key, crate::proofs::NameLookups::place_key, crate::proofs::NameLookups::with_key))]
 impl<'a> Names<'a> {
+    /// No names.
     pub fn new(alloc: Global) -> Names<'a>
         ensures { result ≡ [] }
     {
@@ -42,12 +43,14 @@ impl<'a> Names<'a> {
         Ok(self.names.insert(name)?)
     }
 
+    /// Whether the name is there.
     pub fn has(&self, name: &[u8]) -> bool
         ensures { result ≡ any_named (λ n. n) name.now self.now }
     {
         self.names.contains(name)
     }
 
+    /// The number of the name.
     pub fn place(&self, name: &[u8]) -> Option<u32>
         ensures { result ≡ place_named (λ n. n) name.now self.now }
     {

@@ -61,6 +61,7 @@ fn any_named(bindings: &[Binding<'_>], name: &[u8]) -> bool
 impl<'a> Scope<'a> {
     ghost use Rattle.al_names.specs.Bindings.{binding_of, without_inner};
 
+    /// No names.
     pub fn new(alloc: Global) -> Scope<'a>
         ensures { result ≡ spec.no_scope }
     {
@@ -70,6 +71,7 @@ impl<'a> Scope<'a> {
         }
     }
 
+    /// What the name means: the innermost of its bindings (C99 6.2.1p4).
     pub fn named(&self, name: &[u8]) -> Option<Binding<'a>>
         ensures { option_map binding_of result ≡ find (λ b. bytes_eq b.name name.now) (spec.in_scope self.now) }
     {
@@ -83,6 +85,7 @@ impl<'a> Scope<'a> {
         any_named(&self.bindings[self.start..], name)
     }
 
+    /// Declares a name in the innermost scope, which hides what had it.
     pub fn declare(&mut self, binding: Binding<'a>) -> Result<(), AllocError>
         ensures { IfOk result (λ _. self.new ≡ spec.with_binding (binding_of binding.entry) self.old) }
     {

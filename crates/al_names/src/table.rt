@@ -62,6 +62,7 @@ impl<'a, T: Named> Model for Table<'a, T> {
 
 #[tactic(auto, using(crate::proofs::NameLookups::any_of_names, crate::proofs::NameLookups::place_of_names, crate::proofs::NameLookups::find_at_place))]
 impl<'a, T: Named> Table<'a, T> {
+    /// No definitions.
     pub fn new(alloc: Global) -> Table<'a, T>
         ensures { result ≡ [] }
     {
@@ -85,24 +86,28 @@ impl<'a, T: Named> Table<'a, T> {
         &self.names
     }
 
+    /// Whether one has the name.
     pub fn has(&self, name: &[u8]) -> bool
         ensures { result ≡ any_named T.name_of name.now self.now }
     {
         self.names.has(name)
     }
 
+    /// The number of the first of the name.
     pub fn place(&self, name: &[u8]) -> Option<u32>
         ensures { result ≡ place_named T.name_of name.now self.now }
     {
         self.names.place(name)
     }
 
+    /// The definition of this number.
     pub fn get(&self, at: u32) -> Option<&'a T>
         ensures { option_map (λ x. x.now) result ≡ slice_get self.now at }
     {
         self.all.get(at as usize).copied()
     }
 
+    /// The first of the name.
     pub fn named(&self, name: &[u8]) -> Option<&'a T>
         ensures { option_map (λ x. x.now) result ≡ find (λ x. bytes_eq (T.name_of x) name.now) self.now }
     {

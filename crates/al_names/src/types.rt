@@ -113,6 +113,7 @@ pub fn check_type(
     ensure(role.allows(form_of(ty)), TypeKind::Shape)
 }
 
+/// Whether two types are one. A struct is known by its name.
 #[tactic(auto, using(al_rules::proofs::TypeNodes::same_nodes, crate::proofs::TypeOuts::outs))]
 pub fn same_type(a: &CType, b: &CType) -> bool
     ensures { result ≡ spec.same_type a.now b.now }
@@ -135,6 +136,7 @@ pub fn same_type(a: &CType, b: &CType) -> bool
     }
 }
 
+/// Whether the type is an integer.
 #[tactic(auto, using(al_rules::proofs::TypeNodes::part_nodes))]
 pub fn is_int(ty: &CType) -> bool
     ensures { result ≡ spec.is_int ty.now }
@@ -145,6 +147,7 @@ pub fn is_int(ty: &CType) -> bool
     }
 }
 
+/// Whether the type is a pointer.
 #[tactic(auto, using(al_rules::proofs::TypeNodes::part_nodes))]
 pub fn is_pointer(ty: &CType) -> bool
     ensures { result ≡ is_some (spec.pointee ty.now) }
@@ -155,6 +158,7 @@ pub fn is_pointer(ty: &CType) -> bool
     }
 }
 
+/// Whether the type is `void`.
 #[tactic(auto, using(crate::proofs::TypeOuts::outs), unfolding(al_rules::specs::Statements::is_void))]
 pub fn is_void(ty: &CType) -> bool
     ensures { result ≡ statements.is_void ty.now }
@@ -173,6 +177,7 @@ pub fn element(ty: &CType) -> Option<&CType>
     }
 }
 
+/// The name of a struct.
 #[tactic(auto, using(al_rules::proofs::TypeNodes::part_nodes))]
 pub fn struct_name(ty: &CType) -> Option<&[u8]>
     ensures { option_map (λ n. n.now) result ≡ spec.struct_name ty.now }
@@ -195,6 +200,7 @@ pub fn kind_of(ty: &CType) -> Option<Kind>
     }
 }
 
+/// A copy of a type. It fails only for want of memory.
 pub fn copy(alloc: Global, ty: &CType) -> Result<CType, AllocError>
     ensures { IfOk result (λ c. c ≡ ty.now) }
 {
