@@ -6,6 +6,9 @@ trap 'rm -rf "$folder"' EXIT
 cp "$here"/*.c "$here"/n.txt "$folder" && cd "$folder" || exit 1
 failed=0
 
+# builds it, where that is to be done
+"$here/../alter" check p1.c >/dev/null || exit $?
+
 # answers STATUS OUT ERR WORD..: what alter writes and ends with for these words
 answers() {
     status=$1
