@@ -2,12 +2,13 @@
 //! of the lexer and the parser.
 #![tactic(auto)]
 
-pub mod annotations;
-pub mod faults;
-pub mod operators;
-pub mod source_tree;
-pub mod texts;
-pub mod tokens;
+mod annotations;
+mod faults;
+pub mod limits;
+mod operators;
+mod source_tree;
+mod texts;
+mod tokens;
 
 pub use annotations::{CommitOrder, LoopNote, NamedRed, Policy};
 pub use faults::{LexFault, ParseFault};
