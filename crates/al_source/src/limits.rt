@@ -35,12 +35,15 @@ pub const INPUT_BYTES: usize = 33_554_432;
 
 /// The most lanes, and those of a run that names none.
 pub const MOST_LANES: u32 = 64;
+
 pub const DEFAULT_LANES: u32 = 4;
 /// The most worker threads, and those of a run that names none.
 pub const MOST_THREADS: u32 = 64;
+
 pub const DEFAULT_THREADS: u32 = 4;
 /// The greatest chunk factor, and that of a run that names none.
 pub const MOST_CHUNK: u32 = 65_536;
+
 pub const DEFAULT_CHUNK: u32 = 16;
 /// The line size, in words, of a run that names none.
 pub const DEFAULT_LINE: u32 = 1;
@@ -48,14 +51,17 @@ pub const DEFAULT_LINE: u32 = 1;
 pub const MOST_STEPS: u32 = 1_000_000_000;
 /// The budgets of a run that names none: of an iteration, and of all code outside iterations.
 pub const DEFAULT_ITERATION_STEPS: u32 = 1_000_000;
+
 pub const DEFAULT_SERIAL_STEPS: u32 = 10_000_000;
 
 /// The variables of a loop that are tried as reductions, at most.
 pub const TRIED_REDUCTIONS: usize = 8;
 /// The candidates and the tests of a search for annotations, at most.
 pub const MOST_CANDIDATES: u32 = 80;
+
 pub const MOST_TESTS: u32 = 16;
 
 /// The greatest start and the greatest size of the generated job.
 pub const MOST_START: u32 = 2_147_483_647;
+
 pub const MOST_SIZE: u32 = 100_000;
