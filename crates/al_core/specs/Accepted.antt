@@ -11,7 +11,8 @@ use Rattle.al_core.specs.declared.choices.Red.{Red}
 use Rattle.al_core.specs.declared.typed_tree.TExpr.{TExpr, fold-TExpr, out-TExpr}
 use Rattle.al_core.specs.declared.typed_tree.TPlace.{TPlace, fold-TPlace, out-TPlace}
 use Rattle.al_core.specs.declared.typed_tree.TExpr.TheOpen.{TExpr-F, TPlace-F}
-use Rattle.al_core.specs.declared.typed_tree.TStmt.{TStmt, fold-TStmt}
+use Rattle.al_core.specs.declared.typed_tree.TStmt.{TStmt, fold-TStmt, para-TStmt}
+use Rattle.al_core.specs.declared.typed_tree.TKind.{TKind}
 use Rattle.al_core.specs.declared.typed_tree.TKind.TheOpen.{TKind-F}
 use Rattle.al_core.specs.declared.typed_tree.TFunc.{TFunc}
 use Rattle.al_core.specs.declared.typed_tree.TGlobal.{TGlobal}
@@ -19,9 +20,10 @@ use Rattle.al_core.specs.declared.typed_tree.TLocal.{TLocal}
 use Rattle.al_core.specs.declared.typed_tree.Typed.{Typed}
 use Rattle.al_core.specs.declared.values.Obj.TheVariants.{Global, Serial, Iter}
 use Rattle.al_core.specs.declared.values.Addr.TheVariants.{Word, Head, Local}
+use Rattle.al_core.specs.declared.values.Kind.{Kind}
 use Rattle.al_core.specs.declared.values.Kind.TheVariants as kind
 use Rattle.al_core.specs.World.{Obj, Addr}
-use Rattle.al_core.specs.Loops.{Loop}
+use Rattle.al_core.specs.Loops.{Loop, Start, start_of, any_stmt}
 
 -- ---- the variable
 
@@ -60,6 +62,7 @@ module _ (a : Addr) where
   expr_mentions TExpr-F.Inputs = false
   expr_mentions (TExpr-F.Choose op x y) = x || y
   expr_mentions (TExpr-F.Calloc x size) = x
+  expr_mentions (TExpr-F.Free x) = x
 
   abbrev pub place_mentions : TPlace-F Bool Bool → Bool
   place_mentions (TPlace-F.Global k) = is_global a k
@@ -79,7 +82,8 @@ module _ (a : Addr) where
 
 -- ---- addresses taken
 
--- For an expression: whether it takes the variable's address. For a place: whether it lies in the variable, and whether forming it takes the variable's address.
+-- For an expression: whether it takes the variable's address. For a place: whether it lies in the variable, and whether
+-- forming it takes the variable's address.
 
 module _ (a : Addr) where
   abbrev pub expr_takes : TExpr-F Bool (Bool × Bool) → Bool
@@ -97,6 +101,7 @@ module _ (a : Addr) where
   expr_takes TExpr-F.Inputs = false
   expr_takes (TExpr-F.Choose op x y) = x || y
   expr_takes (TExpr-F.Calloc x size) = x
+  expr_takes (TExpr-F.Free x) = x
 
   abbrev pub place_takes : TPlace-F Bool (Bool × Bool) → Bool × Bool
   place_takes (TPlace-F.Global k) = (is_global a k, false)
@@ -131,6 +136,7 @@ expr_calls (TExpr-F.Input x) = x
 expr_calls TExpr-F.Inputs = []
 expr_calls (TExpr-F.Choose op x y) = x ++ y
 expr_calls (TExpr-F.Calloc x size) = x
+expr_calls (TExpr-F.Free x) = x
 
 abbrev pub place_calls : TPlace-F (List ℕ) (List ℕ) → List ℕ
 place_calls (TPlace-F.Global k) = []
@@ -184,7 +190,8 @@ kind_terms (TKind-F.Call e) = one_expr e
 kind_terms (TKind-F.Print format es) = record { exprs = es; places = [] }
 kind_terms (TKind-F.If e s t) = both_terms (one_expr e) (both_terms s (if_terms t))
 kind_terms (TKind-F.While e s) = both_terms (one_expr e) s
-kind_terms (TKind-F.For first test third body number) = both_terms (if_terms first) (both_terms (if_expr test) (both_terms (if_terms third) body))
+kind_terms (TKind-F.For first test third body number) =
+    both_terms (if_terms first) (both_terms (if_expr test) (both_terms (if_terms third) body))
 kind_terms (TKind-F.Block ts) = all_terms ts
 kind_terms (TKind-F.Return e) = if_expr e
 kind_terms TKind-F.Break = no_terms
@@ -224,6 +231,10 @@ chooses_by red.Min red.Min = true
 chooses_by red.Max red.Max = true
 chooses_by _ _ = false
 
+abbrev pub is_int : Kind → Bool
+is_int kind.Int = true
+is_int kind.Ptr = false
+
 module _ (op : RedOp) (a : Addr) where
   -- the place is the variable itself
   abbrev pub is_place : TPlace-F TExpr TPlace → Bool
@@ -232,10 +243,10 @@ module _ (op : RedOp) (a : Addr) where
   is_place (TPlace-F.Plus p n) = false
   is_place (TPlace-F.Elem p e n) = false
 
-  -- the expression is the variable itself
+  -- the expression is the variable itself, as a number
   abbrev pub is_variable : TExpr-F TExpr TPlace → Bool
   is_variable (TExpr-F.Local k) = is_local a k
-  is_variable (TExpr-F.Load want p) = is_place (out-TPlace p)
+  is_variable (TExpr-F.Load want p) = is_int want && is_place (out-TPlace p)
   is_variable _ = false
 
   -- the expression is `min(s, e)` or `max(s, e)`, and e does not mention s
@@ -246,36 +257,49 @@ module _ (op : RedOp) (a : Addr) where
   abbrev pub is_update : BinOp → TExpr → Bool
   is_update by e = updates_by op by && not (mentions a e)
 
-  abbrev pub if_only : Option Bool → Bool
-  if_only (Some b) = b
+  -- the first part of an annotated loop is its start, and no update
+  abbrev pub starts_other : Option Start → Bool
+  starts_other (Some start) = not (is_local a start.counter)
+  starts_other None = true
+
+  abbrev pub is_plain_start : Option ℕ → Option (TStmt × Bool) → Bool
+  is_plain_start None first = true
+  is_plain_start (Some number) first = starts_other (start_of (any_stmt first))
+
+  abbrev pub if_only : Option (TStmt × Bool) → Bool
+  if_only (Some s) = s.1
   if_only None = true
 
   -- the variable is mentioned in nothing but its updates
-  abbrev pub kind_only_updates : TKind-F Bool Bool → Bool
+  abbrev pub kind_only_updates : TKind-F (TKind × Bool) (TStmt × Bool) → Bool
   kind_only_updates TKind-F.Empty = true
   kind_only_updates (TKind-F.SetLocal k e) = if is_local a k then is_choice (out-TExpr e) else not (mentions a e)
-  kind_only_updates (TKind-F.Store p e) = if is_place (out-TPlace p) then is_choice (out-TExpr e) else not (mentions_at a p) && not (mentions a e)
+  kind_only_updates (TKind-F.Store p e) =
+      if is_place (out-TPlace p) then is_choice (out-TExpr e) else not (mentions_at a p) && not (mentions a e)
   kind_only_updates (TKind-F.UpdateLocal by k e) = if is_local a k then is_update by e else not (mentions a e)
-  kind_only_updates (TKind-F.UpdateAt by p e) = if is_place (out-TPlace p) then is_update by e else not (mentions_at a p) && not (mentions a e)
+  kind_only_updates (TKind-F.UpdateAt by p e) =
+      if is_place (out-TPlace p) then is_update by e else not (mentions_at a p) && not (mentions a e)
   kind_only_updates (TKind-F.Call e) = not (mentions a e)
   kind_only_updates (TKind-F.Print format es) = not (list_any (mentions a) es)
-  kind_only_updates (TKind-F.If e s t) = not (mentions a e) && s && if_only t
-  kind_only_updates (TKind-F.While e s) = not (mentions a e) && s
-  kind_only_updates (TKind-F.For first test third body number) = if_only first && not (any_mentions a test) && if_only third && body
-  kind_only_updates (TKind-F.Block ss) = list_all (λ s. s) ss
+  kind_only_updates (TKind-F.If e s t) = not (mentions a e) && s.1 && if_only t
+  kind_only_updates (TKind-F.While e s) = not (mentions a e) && s.1
+  kind_only_updates (TKind-F.For first test third body number) =
+      is_plain_start number first && if_only first && not (any_mentions a test) && if_only third && body.1
+  kind_only_updates (TKind-F.Block ss) = list_all (λ s. s.1) ss
   kind_only_updates (TKind-F.Return e) = not (any_mentions a e)
   kind_only_updates TKind-F.Break = true
   kind_only_updates TKind-F.Continue = true
 
   unfoldable pub only_updates : TStmt → Bool
-  only_updates = fold-TStmt Bool Bool kind_only_updates (λ s. s.kind)
+  only_updates = para-TStmt Bool Bool kind_only_updates (λ s. s.kind.1)
 
 -- ---- acceptance
 
 -- the functions that a statement reaches by calls
 pub data Reached (typed : Typed) (body : TStmt) : ℕ → Type 0 where
   directly : (f : ℕ) → Contains (calls_of (terms body)) f → Reached typed body f
-  further : (g : ℕ) (func : TFunc) (f : ℕ) → Reached typed body g → slice_get typed.funcs g ≡ Some func → Contains (calls_of (terms_of func.body)) f → Reached typed body f
+  further : (g : ℕ) (func : TFunc) (f : ℕ) → Reached typed body g → slice_get typed.funcs g ≡ Some func
+      → Contains (calls_of (terms_of func.body)) f → Reached typed body f
 
 abbrev pub is_bound : Bound → ℕ → Bool
 is_bound (bound.Number n) k = false
@@ -283,7 +307,8 @@ is_bound (bound.Local j) k = j == k
 
 -- an integer local that is declared outside the loop and is neither its counter nor its bound
 pub record IsRedLocal (typed : Typed) (l : Loop) (k : ℕ) : Type 0 where
-  pub integer : (func : TFunc) × (v : TLocal) × (slice_get typed.funcs l.info.func ≡ Some func) × (slice_get func.locals k ≡ Some v) × (v.kind ≡ kind.Int)
+  pub integer : (func : TFunc) × (v : TLocal) × (slice_get typed.funcs l.info.func ≡ Some func)
+      × (slice_get func.locals k ≡ Some v) × (v.kind ≡ kind.Int)
   pub outside : (nat_le l.info.first k && nat_lt k l.info.last) ≡ false
   pub no_counter : k ≢ l.info.counter
   pub no_bound : is_bound l.info.bound k ≡ false
@@ -292,7 +317,8 @@ pub record IsRedLocal (typed : Typed) (l : Loop) (k : ℕ) : Type 0 where
 pub record IsRedGlobal (typed : Typed) (l : Loop) (k : ℕ) : Type 0 where
   pub integer : (g : TGlobal) × (slice_get typed.globals k ≡ Some g) × (g.scalar ≡ Some kind.Int)
   pub untaken : All (λ func. takes_in (Word (Global k) 0) (terms_of func.body) ≡ false) typed.funcs
-  pub unreached : (f : ℕ) (func : TFunc) → Reached typed l.body f → slice_get typed.funcs f ≡ Some func → mentions_in (Word (Global k) 0) (terms_of func.body) ≡ false
+  pub unreached : (f : ℕ) (func : TFunc) → Reached typed l.body f → slice_get typed.funcs f ≡ Some func
+      → mentions_in (Word (Global k) 0) (terms_of func.body) ≡ false
 
 abbrev pub IsRedObject : Typed → Loop → Obj → ℕ → Type 0
 IsRedObject typed l (Global k) w = IsRedGlobal typed l k × (w ≡ 0)
@@ -304,7 +330,8 @@ IsRedVariable typed l (Local k) = IsRedLocal typed l k
 IsRedVariable typed l (Word o w) = IsRedObject typed l o w
 IsRedVariable typed l (Head o) = ⊥
 
--- a list of reductions that is accepted for a loop: its variables differ, and the loop's body mentions each only in updates by its operator
+-- a list of reductions that is accepted for a loop: its variables differ, and the loop's body mentions each only in
+-- updates by its operator
 pub record IsAccepted (typed : Typed) (l : Loop) (reds : List Red) : Type 0 where
   pub distinct : AllPairs (λ r q. r.at ≢ q.at) reds
   pub variables : All (λ r. IsRedVariable typed l r.at) reds

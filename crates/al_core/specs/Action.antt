@@ -6,7 +6,8 @@ use Rattle.al_core.specs.declared.values.Kind.TheVariants as kind
 use Rattle.al_core.specs.declared.values.Trap.TheVariants as trap
 use Rattle.al_core.specs.World.{Val, Kind, Trap, Pointer, World}
 
--- which locals are private to the frame: all of them, or in an iteration the loop's counter and those from a first to below a last
+-- which locals are private to the frame: all of them, or in an iteration the loop's counter and those from a first to
+-- below a last
 pub data Private : Type 0 where
   AllPrivate : Private
   Own : ℕ → ℕ → ℕ → Private
@@ -106,14 +107,19 @@ module _ {S : Type 0} where
   all [] = pure []
   all (p ∷ ps) = p >>= (λ v. all ps >>= (λ vs. pure (v ∷ vs)))
 
-  -- A private local is read and set in the frame. Any other is the world's, where the kind that is asked for says nothing.
+  -- A private local is read and set in the frame. Any other is the world's, where the kind that is asked for says
+  -- nothing.
   abbrev pub get_local : World S → ℕ → At S Val
   get_local world k line =
-      get_frame >>= (λ f. if is_private f.own k then pure (or_zero (slice_get f.locals k)) else asks line (world.load (Local k) kind.Int))
+      get_frame
+      >>= (λ f. if is_private f.own k then pure (or_zero (slice_get f.locals k))
+      else asks line (world.load (Local k) kind.Int))
 
   abbrev pub set_local : World S → ℕ → Val → At S (Unit {0})
   set_local world k v line =
-      get_frame >>= (λ f. if is_private f.own k then set_frame (with_locals f (slice_set f.locals k v)) else asks line (world.store (Local k) v))
+      get_frame
+      >>= (λ f. if is_private f.own k then set_frame (with_locals f (slice_set f.locals k v))
+      else asks line (world.store (Local k) v))
 
   abbrev pub load : World S → Pointer → Kind → At S Val
   load world p want line = asks line (world.load (Word p.0 p.1) want)
@@ -124,6 +130,11 @@ module _ {S : Type 0} where
   -- a pointer to the first word of a new object
   abbrev pub make : World S → ℕ → At S Val
   make world words line = asks line (world.make words) >>= (λ o. pure (Ptr o 0))
+
+  -- The object at the end of a pointer is taken out. Null is the end of none, and nothing is done. The value is 0.
+  abbrev pub free : World S → Val → At S Val
+  free world (Int n) line = pure (Int (pos 0))
+  free world (Ptr o w) line = asks line (world.free o w) >> pure (Int (pos 0))
 
   abbrev pub print : World S → List ℕ → At S (Unit {0})
   print world bytes line = asks line (λ s. (Ok tt, world.print bytes s))

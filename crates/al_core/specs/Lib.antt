@@ -5,12 +5,16 @@ pub mod World
 pub mod Values
 pub mod Action
 pub mod Loops
+pub mod LoopsInPlace
 pub mod Meaning
 pub mod Memory
 pub mod Access
 pub mod Iteration
 pub mod Chunk
+pub mod Readiness
+pub mod Lines
 pub mod Clash
+pub mod Verdicts
 pub mod Applied
 pub mod Round
 pub mod Lockstep

@@ -1,20 +1,105 @@
 -- The annotated loops of a program, as its tree has them.
-use Rattle.std.specs.Prelude.{ℕ, ◌==◌, if◌then◌else◌, List, [], ◌∷◌, ◌++◌, length, Option, Some, None, slice_get, pos}
+use Rattle.std.specs.Prelude.{ℕ, ◌+◌, List, [], ◌∷◌, ◌++◌, map, length, Option, Some, None, slice_get, pos}
 use Rattle.al_core.specs.declared.choices.Bound.{Bound}
 use Rattle.al_core.specs.declared.choices.Bound.TheVariants as bound
 use Rattle.al_core.specs.declared.choices.LoopInfo.{LoopInfo}
 use Rattle.al_core.specs.declared.typed_tree.TExpr.{TExpr, out-TExpr}
 use Rattle.al_core.specs.declared.typed_tree.TPlace.{TPlace}
 use Rattle.al_core.specs.declared.typed_tree.TExpr.TheOpen.{TExpr-F}
-use Rattle.al_core.specs.declared.typed_tree.TStmt.{TStmt, fold-TStmt, map-TStmt}
-use Rattle.al_core.specs.declared.typed_tree.TKind.{TKind, map-TKind}
-use Rattle.al_core.specs.declared.typed_tree.TKind.TheOpen.{TStmt-F, TKind-F}
-use Rattle.al_core.specs.declared.typed_tree.TKind.TheViews.{roll-TStmt, roll-TKind}
+use Rattle.al_core.specs.declared.typed_tree.TStmt.{TStmt, para-TStmt, out-TStmt}
+use Rattle.al_core.specs.declared.typed_tree.TKind.{TKind, para-TKind, out-TKind}
+use Rattle.al_core.specs.declared.typed_tree.TKind.TheOpen.{TKind-F}
 use Rattle.al_core.specs.declared.typed_tree.TFunc.{TFunc}
 use Rattle.al_core.specs.declared.typed_tree.TNote.{TNote}
 use Rattle.al_core.specs.declared.typed_tree.Typed.{Typed}
 
--- ---- the bound
+-- ---- the loops in a statement
+
+-- an annotated loop where it stands: its number and its parts
+pub record ForLoop : Type 0 where
+  pub number : ℕ
+  pub first : Option TStmt
+  pub test : Option TExpr
+  pub third : Option TStmt
+  pub body : TStmt
+
+-- a statement, or a kind of one, and the annotated loops in it
+abbrev pub Seen : Type 0
+Seen = TStmt × List ForLoop
+
+abbrev pub SeenKind : Type 0
+SeenKind = TKind × List ForLoop
+
+abbrev pub all_loops : List Seen → List ForLoop
+all_loops [] = []
+all_loops (s ∷ ss) = s.1 ++ all_loops ss
+
+abbrev pub any_loops : Option Seen → List ForLoop
+any_loops (Some s) = s.1
+any_loops None = []
+
+-- the statement of a part
+abbrev pub any_stmt : {A : Type 0} → Option (TStmt × A) → Option TStmt
+any_stmt (Some s) = Some s.0
+any_stmt None = None
+
+abbrev pub this_loop : Option Seen → Option TExpr → Option Seen → Seen → Option ℕ → List ForLoop
+this_loop first test third body None = []
+this_loop first test third body (Some n) =
+    record { number = n; first = any_stmt first; test = test; third = any_stmt third; body = body.0 } ∷ []
+
+-- A loop comes before those within it.
+abbrev pub loops_here : TKind-F SeenKind Seen → List ForLoop
+loops_here (TKind-F.If e a b) = a.1 ++ any_loops b
+loops_here (TKind-F.While e a) = a.1
+loops_here (TKind-F.For first test third body number) =
+    this_loop first test third body number ++ any_loops first ++ any_loops third ++ body.1
+loops_here (TKind-F.Block ss) = all_loops ss
+loops_here _ = []
+
+unfoldable pub for_loops : TStmt → List ForLoop
+for_loops = para-TStmt (List ForLoop) (List ForLoop) loops_here (λ s. s.kind.1)
+
+unfoldable pub for_loops_of : TKind → List ForLoop
+for_loops_of = para-TKind (List ForLoop) (List ForLoop) loops_here (λ s. s.kind.1)
+
+abbrev pub for_loops_in : List TStmt → List ForLoop
+for_loops_in [] = []
+for_loops_in (s ∷ ss) = for_loops s ++ for_loops_in ss
+
+-- ---- the loops of a program
+
+-- an annotated loop, with the function in which it stands
+pub record PlacedLoop : Type 0 where
+  pub func : TFunc
+  pub loop : ForLoop
+
+abbrev pub placed : TFunc → ForLoop → PlacedLoop
+placed f l = record { func = f; loop = l }
+
+abbrev pub placed_loops : List TFunc → List PlacedLoop
+placed_loops [] = []
+placed_loops (f ∷ fs) = map (placed f) (for_loops_in f.body) ++ placed_loops fs
+
+-- all of them, in source order; the number of a loop is its place here
+unfoldable pub program_loops : Typed → List PlacedLoop
+program_loops typed = placed_loops typed.funcs
+
+-- ---- the parts of a loop
+
+-- the local that a first part sets, to which expression, and the line of that part
+pub record Start : Type 0 where
+  pub counter : ℕ
+  pub value : TExpr
+  pub line : ℕ
+
+abbrev pub start_in : ℕ → TKind-F TKind TStmt → Option Start
+start_in line (TKind-F.SetLocal k e) = Some (record { counter = k; value = e; line = line })
+start_in line _ = None
+
+abbrev pub start_of : Option TStmt → Option Start
+start_of (Some s) = start_in (out-TStmt s).line (out-TKind (out-TStmt s).kind)
+start_of None = None
 
 -- the bound is a number or a local
 abbrev pub bound_in : TExpr-F TExpr TPlace → Bound
@@ -31,72 +116,6 @@ abbrev pub bound_of : Option TExpr → Bound
 bound_of (Some test) = right_side (out-TExpr test)
 bound_of None = bound.Number (pos 0)
 
--- ---- the loops in a statement
-
--- an annotated loop where it stands: its number, the local that its first part sets, its bound and its body
-pub record NotedLoop : Type 0 where
-  pub number : ℕ
-  pub counter : ℕ
-  pub bound : Bound
-  pub body : TStmt
-
--- a statement, the local that it sets, and the annotated loops in it, in source order
-pub record Seen : Type 0 where
-  pub stmt : TStmt
-  pub sets : Option ℕ
-  pub loops : List NotedLoop
-
-pub record SeenKind : Type 0 where
-  pub kind : TKind
-  pub sets : Option ℕ
-  pub loops : List NotedLoop
-
-abbrev pub all_loops : List Seen → List NotedLoop
-all_loops [] = []
-all_loops (s ∷ ss) = s.loops ++ all_loops ss
-
-abbrev pub any_loops : Option Seen → List NotedLoop
-any_loops (Some s) = s.loops
-any_loops None = []
-
-abbrev pub any_sets : Option Seen → Option ℕ
-any_sets (Some s) = s.sets
-any_sets None = None
-
-abbrev pub found : Option ℕ → Option ℕ → Option TExpr → TStmt → List NotedLoop
-found (Some number) (Some counter) test body = record { number = number; counter = counter; bound = bound_of test; body = body } ∷ []
-found (Some number) None test body = []
-found None counter test body = []
-
-abbrev pub loops_here : TKind-F SeenKind Seen → List NotedLoop
-loops_here (TKind-F.If e a b) = a.loops ++ any_loops b
-loops_here (TKind-F.While e a) = a.loops
-loops_here (TKind-F.For first test third body number) =
-    found number (any_sets first) test body.stmt ++ any_loops first ++ any_loops third ++ body.loops
-loops_here (TKind-F.Block ss) = all_loops ss
-loops_here _ = []
-
-abbrev pub sets_here : TKind-F SeenKind Seen → Option ℕ
-sets_here (TKind-F.SetLocal k e) = Some k
-sets_here _ = None
-
-abbrev pub see_kind : TKind-F SeenKind Seen → SeenKind
-see_kind k = record { kind = roll-TKind (map-TKind SeenKind Seen TKind TStmt (λ k. k.kind) (λ s. s.stmt) k); sets = sets_here k; loops = loops_here k }
-
-abbrev pub see_stmt : TStmt-F SeenKind Seen → Seen
-see_stmt s = record { stmt = roll-TStmt (map-TStmt SeenKind Seen TKind TStmt (λ k. k.kind) (λ s. s.stmt) s); sets = s.kind.sets; loops = s.kind.loops }
-
-unfoldable pub seen : TStmt → Seen
-seen = fold-TStmt SeenKind Seen see_kind see_stmt
-
-abbrev pub loops_in : List TStmt → List NotedLoop
-loops_in [] = []
-loops_in (s ∷ ss) = (seen s).loops ++ loops_in ss
-
-abbrev pub with_number : ℕ → List NotedLoop → Option NotedLoop
-with_number n [] = None
-with_number n (f ∷ fs) = if f.number == n then Some f else with_number n fs
-
 -- ---- a program's loop of a number
 
 -- what the program says of the loop, how many locals its function has, and its body
@@ -105,22 +124,28 @@ pub record Loop : Type 0 where
   pub locals : ℕ
   pub body : TStmt
 
-abbrev pub the_loop : ℕ → TNote → TFunc → Option NotedLoop → Option Loop
-the_loop n note f None = None
-the_loop n note f (Some found) = Some (record {
-  info = record { number = n; func = note.func; line = note.line; counter = found.counter; bound = found.bound; first = note.first; last = note.last; own = note.own };
-  locals = length f.locals;
-  body = found.body;
+abbrev pub started_loop : ℕ → TNote → PlacedLoop → Option Start → Option Loop
+started_loop n note l None = None
+started_loop n note l (Some start) = Some (record {
+  info = record {
+    number = n;
+    func = note.func;
+    line = note.line;
+    counter = start.counter;
+    bound = bound_of l.loop.test;
+    first = note.first;
+    last = note.last;
+    own = note.own;
+  };
+  locals = length l.func.locals;
+  body = l.loop.body;
 })
 
-abbrev pub loop_in_func : ℕ → TNote → Option TFunc → Option Loop
-loop_in_func n note None = None
-loop_in_func n note (Some f) = the_loop n note f (with_number n (loops_in f.body))
+abbrev pub noted_loop : ℕ → Option TNote → Option PlacedLoop → Option Loop
+noted_loop n (Some note) (Some l) = started_loop n note l (start_of l.loop.first)
+noted_loop n None l = None
+noted_loop n (Some note) None = None
 
-abbrev pub loop_by_note : Typed → ℕ → Option TNote → Option Loop
-loop_by_note typed n None = None
-loop_by_note typed n (Some note) = loop_in_func n note (slice_get typed.funcs note.func)
-
--- It is looked up in the function that its entry names. In the tree of a source the entry's function, line and locals are those of the loop where it stands.
+-- In the tree of a source the entry of the number is that of the loop at this place.
 abbrev pub loop_at : Typed → ℕ → Option Loop
-loop_at typed n = loop_by_note typed n (slice_get typed.loops n)
+loop_at typed n = noted_loop n (slice_get typed.loops n) (slice_get (program_loops typed) n)

@@ -1,4 +1,5 @@
--- The memory: the words of each present object and, while an annotated loop runs, the locals of its function. Its iterations share all of these but their private ones, which are not looked at here.
+-- The memory: the words of each present object and, while an annotated loop runs, the locals of its function. Its
+-- iterations share all of these but their private ones, which are not looked at here.
 use Rattle.std.specs.Prelude.{◌≡◌, ℕ, Bool, List, [], length, Option, Some, None, is_some, option_map, slice_get, slice_set}
 use Rattle.std.specs.FinMap as map
 use Rattle.std.specs.FinMap.{FinMap}
@@ -46,7 +47,12 @@ put m (Local k) v = record m { locals = slice_set m.locals k v }
 abbrev pub add : Memory → Obj → List Val → Memory
 add m o ws = record m { objects = map.insert m.objects o ws }
 
--- Two memories agree at `Head o` where both lack o, or both have it with the same length. They agree at another address where both lack it, or both give it the same value.
+-- the memory without an object
+abbrev pub remove : Memory → Obj → Memory
+remove m o = record m { objects = map.remove m.objects o }
+
+-- Two memories agree at `Head o` where both lack o, or both have it with the same length. They agree at another address
+-- where both lack it, or both give it the same value.
 abbrev pub AgreeAt : Memory → Memory → Addr → Type 0
 AgreeAt m n (Word o w) = value_at m (Word o w) ≡ value_at n (Word o w)
 AgreeAt m n (Head o) = length_at m o ≡ length_at n o

@@ -38,7 +38,8 @@ by_choices choices number execution = mode_of (slice_get choices number)
 -- the report of a run with a choice for each annotated loop, or none where it runs plain
 unfoldable pub report : Typed → List ℤ → Sizes → List (Option Choice) → Report
 report typed input sizes choices =
-    report_of sizes.serial_steps (whole_run (record { typed = typed; input = input; sizes = sizes; modes = by_choices choices }))
+    report_of sizes.serial_steps
+    (whole_run (record { typed = typed; input = input; sizes = sizes; modes = by_choices choices }))
 
 -- without its events, where nobody watches
 abbrev pub watched : Bool → Report → Report
@@ -56,7 +57,8 @@ rounds_until (event.Round round ∷ es) = round ∷ rounds_until es
 -- the commit order of an execution, and none where it did not run in rounds
 abbrev pub commit_order : List Event → ℕ → Option (List ℕ)
 commit_order [] e = None
-commit_order (event.Enter number execution line trips chunks ∷ es) e = if execution == e then Some (commits_of (rounds_until es)) else commit_order es e
+commit_order (event.Enter number execution line trips chunks ∷ es) e =
+    if execution == e then Some (commits_of (rounds_until es)) else commit_order es e
 commit_order (event.Round round ∷ es) e = commit_order es e
 
 -- ---- the serial run
@@ -71,7 +73,8 @@ shown_of r = record { output = r.1.world.content.printed; ending = ending_of r.0
 abbrev pub in_commit_order : List Event → ℕ → ℕ → Mode
 in_commit_order events number execution = InChunks (commit_order events execution)
 
--- What a program prints, and how it ends, where each execution runs its chunks one after another on one memory, in the commit order that these events tell.
+-- What a program prints, and how it ends, where each execution runs its chunks one after another on one memory, in the
+-- commit order that these events tell.
 unfoldable pub serial_run : Typed → List ℤ → Sizes → List Event → OutputAndEnding
 serial_run typed input sizes events =
     shown_of (whole_run (record { typed = typed; input = input; sizes = sizes; modes = in_commit_order events }))

@@ -1,83 +1,62 @@
 -- A round: some chunks run on the memory at its start, and are judged and committed in order.
-use Rattle.std.specs.Prelude.{ℕ, max, Bool, true, false, ◌&&◌, ◌||◌, if◌then◌else◌, List, [], ◌∷◌, ◌++◌}
-use Rattle.std.specs.FinSet as set
-use Rattle.std.specs.FinSet.{FinSet}
-use Rattle.al_source.specs.declared.annotations.CommitOrder.{CommitOrder}
-use Rattle.al_source.specs.declared.annotations.CommitOrder.TheVariants as order
-use Rattle.al_source.specs.declared.annotations.Policy.{Policy}
+use Rattle.std.specs.Prelude.{ℕ, max, List, [], ◌∷◌, ◌++◌, map}
 use Rattle.al_core.specs.declared.choices.Choice.{Choice}
+use Rattle.al_core.specs.declared.choices.Red.{Red}
 use Rattle.al_core.specs.declared.reports.Ending.{Ending}
 use Rattle.al_core.specs.declared.reports.Ending.TheVariants as ending
 use Rattle.al_core.specs.declared.reports.Verdict.{Verdict}
-use Rattle.al_core.specs.declared.reports.Verdict.TheVariants as verdict
 use Rattle.al_core.specs.declared.reports.Judged.{Judged}
-use Rattle.al_core.specs.Orders.{addr_cmp}
 use Rattle.al_core.specs.Memory.{Memory}
 use Rattle.al_core.specs.Iteration.{Execution}
 use Rattle.al_core.specs.Chunk.{Outcome, outcome}
-use Rattle.al_core.specs.Clash.{clashes}
-use Rattle.al_core.specs.Applied.{applied}
+use Rattle.al_core.specs.Verdicts.{verdicts, committed}
+use Rattle.al_core.specs.Applied.{all_applied}
 
--- what a round has come to so far
-pub record Judging : Type 0 where
-  pub memory : Memory
-  -- the addresses that its committed chunks wrote
-  pub written : FinSet addr_cmp
-  pub failed : Bool
-  pub trapped : Bool
+pub record Round : Type 0 where
+  -- each chunk with its verdict
   pub verdicts : List Judged
+  pub memory : Memory
   pub printed : List ℕ
   pub ending : Ending
   -- the most steps of a chunk
   pub longest : ℕ
 
--- whether after a failed chunk no later one may commit
-abbrev pub is_in_order : CommitOrder → Bool
-is_in_order order.InOrder = true
-is_in_order order.OutOfOrder = false
+-- each chunk with its verdict
+abbrev pub with_chunks : List ℕ → List Verdict → List Judged
+with_chunks [] vs = []
+with_chunks (c ∷ cs) [] = []
+with_chunks (c ∷ cs) (v ∷ vs) = record { chunk = c; verdict = v } ∷ with_chunks cs vs
 
-abbrev pub commit_or_trap : Ending → Verdict
-commit_or_trap ending.Done = verdict.Commit
-commit_or_trap (ending.Trap t line) = verdict.CommitTrap
+-- bytes, and what the outcomes printed after them
+abbrev pub all_printed : List Outcome → List ℕ → List ℕ
+all_printed [] bytes = bytes
+all_printed (o ∷ os) bytes = all_printed os (bytes ++ o.printed)
 
--- the verdict on an outcome, from what the committed chunks of its round wrote, whether a chunk failed, and whether a trap was committed
-abbrev pub verdict_by : Policy → CommitOrder → FinSet addr_cmp → Bool → Bool → Outcome → Verdict
-verdict_by policy order written failed trapped o =
-    if (is_in_order order && failed) || trapped then verdict.After
-    else if clashes policy o written then verdict.Fail
-    else commit_or_trap o.ending
+-- the ending of the last outcome, or one from before where there is none
+abbrev pub last_ending : List Outcome → Ending → Ending
+last_ending [] before = before
+last_ending (o ∷ os) before = last_ending os o.ending
 
-unfoldable pub verdict_of : Choice → Judging → Outcome → Verdict
-verdict_of choice so_far o = verdict_by choice.policy choice.order so_far.written so_far.failed so_far.trapped o
-
-abbrev pub with_verdict : ℕ → Verdict → Judging → Outcome → Judging
-with_verdict c v so_far o =
-    record so_far { verdicts = so_far.verdicts ++ record { chunk = c; verdict = v } ∷ []; longest = max so_far.longest o.steps }
-
-abbrev pub committed : Choice → Judging → Outcome → Judging
-committed choice so_far o =
-    record so_far { memory = applied choice.reds so_far.memory o; written = set.union so_far.written o.touched; printed = so_far.printed ++ o.printed; ending = o.ending }
-
--- of a chunk that does not commit nothing is kept
-abbrev pub settled : Choice → Verdict → Judging → Outcome → Judging
-settled choice verdict.Commit so_far o = committed choice so_far o
-settled choice verdict.CommitTrap so_far o = record (committed choice so_far o) { trapped = true }
-settled choice verdict.Fail so_far o = record so_far { failed = true }
-settled choice verdict.After so_far o = so_far
-
-abbrev pub judged_by : Choice → ℕ → Verdict → Judging → Outcome → Judging
-judged_by choice c v so_far o = with_verdict c v (settled choice v so_far o) o
-
-unfoldable pub judged : Choice → Judging → ℕ → Outcome → Judging
-judged choice so_far c o = judged_by choice c (verdict_of choice so_far o) so_far o
+-- the most steps of an outcome, and at least so many
+abbrev pub most_steps : List Outcome → ℕ → ℕ
+most_steps [] n = n
+most_steps (o ∷ os) n = most_steps os (max n o.steps)
 
 -- every chunk runs on the memory at the round's start, whatever was committed before it
-abbrev pub judge_all : Execution → Choice → Memory → List ℕ → Judging → Judging
-judge_all x choice m [] so_far = so_far
-judge_all x choice m (c ∷ cs) so_far = judge_all x choice m cs (judged choice so_far c (outcome x choice.reds m c))
+abbrev pub outcomes : Execution → List Red → Memory → List ℕ → List Outcome
+outcomes x reds m chunks = map (outcome x reds m) chunks
 
-abbrev pub nothing_judged : Memory → Judging
-nothing_judged m = record { memory = m; written = set.empty; failed = false; trapped = false; verdicts = []; printed = []; ending = ending.Done; longest = 0 }
+-- Of the outcomes that are committed the round keeps the memory, the bytes and the ending. The longest is that of all.
+abbrev pub round_of : Choice → List ℕ → Memory → List Outcome → List Verdict → Round
+round_of choice chunks m os vs = record {
+  verdicts = with_chunks chunks vs;
+  memory = all_applied choice.reds (committed os vs) m;
+  printed = all_printed (committed os vs) [];
+  ending = last_ending (committed os vs) ending.Done;
+  longest = most_steps os 0;
+}
 
-unfoldable pub round : Execution → Choice → List ℕ → Memory → Judging
-round x choice lanes m = judge_all x choice m lanes (nothing_judged m)
+unfoldable pub round : Execution → Choice → List ℕ → Memory → Round
+round x choice chunks m =
+    let os = outcomes x choice.reds m chunks in
+    round_of choice chunks m os (verdicts choice os)

@@ -2,6 +2,8 @@
 use Rattle.std.specs.Prelude.{ℕ, ◌+◌, ◌*◌, ◌^◌, Bool, true, false, not, ◌&&◌, if◌then◌else◌, ◌==◌, nat_lt, List, [], ◌∷◌, ◌++◌, Option, Some, None, Result, Ok, Err, slice_get, ℤ, pos, negsuc, ◌+ℤ◌, ◌-ℤ◌, ◌*ℤ◌}
 use Rattle.std.specs.Ordering.{int_eq}
 use Rattle.std.specs.Fmt.{signed_decimal}
+use Rattle.al_source.specs.Steps.{and_then}
+use Rattle.al_source.specs.declared.limits.TheConstants.{LOOP_TRIPS}
 use Rattle.al_source.specs.declared.operators.BinOp.{BinOp}
 use Rattle.al_source.specs.declared.operators.UnOp.{UnOp}
 use Rattle.al_source.specs.declared.operators.UnOp.TheVariants.{Neg, BitNot, Not}
@@ -15,10 +17,6 @@ use Rattle.al_core.specs.Arithmetic.{truth_value, operated, unary}
 use Rattle.al_core.specs.Reductions.{red_apply}
 use Rattle.al_core.specs.Orders.{obj_eq}
 use Rattle.al_core.specs.World.{Obj, Val, Kind, Trap, Pointer}
-
-abbrev pub then_ok : {A B : Type 0} → Result A Trap → (A → Result B Trap) → Result B Trap
-then_ok (Ok a) f = f a
-then_ok (Err t) f = Err t
 
 -- a condition holds where its value is neither 0 nor null
 abbrev pub truth : Val → Bool
@@ -34,21 +32,21 @@ number (Ptr o w) = Err trap.Kind
 
 abbrev pub numbers : List Val → Result (List ℤ) Trap
 numbers [] = Ok []
-numbers (v ∷ vs) = then_ok (number v) (λ n. then_ok (numbers vs) (λ ns. Ok (n ∷ ns)))
+numbers (v ∷ vs) = and_then (number v) (λ n. and_then (numbers vs) (λ ns. Ok (n ∷ ns)))
 
 -- a binary operator of two numbers
 unfoldable pub operate : BinOp → Val → Val → Result Val Trap
-operate op a b = then_ok (number a) (λ x. then_ok (number b) (λ y. then_ok (operated op x y) (λ z. Ok (Int z))))
+operate op a b = and_then (number a) (λ x. and_then (number b) (λ y. and_then (operated op x y) (λ z. Ok (Int z))))
 
 -- `!` takes pointers too
 unfoldable pub operate_one : UnOp → Val → Result Val Trap
-operate_one Neg a = then_ok (number a) (λ x. Ok (Int (unary Neg x)))
-operate_one BitNot a = then_ok (number a) (λ x. Ok (Int (unary BitNot x)))
+operate_one Neg a = and_then (number a) (λ x. Ok (Int (unary Neg x)))
+operate_one BitNot a = and_then (number a) (λ x. Ok (Int (unary BitNot x)))
 operate_one Not a = Ok (of_test (not (truth a)))
 
 -- the built-in `min` and `max`
 unfoldable pub choose : RedOp → Val → Val → Result Val Trap
-choose op a b = then_ok (number a) (λ x. then_ok (number b) (λ y. Ok (Int (red_apply op x y))))
+choose op a b = and_then (number a) (λ x. and_then (number b) (λ y. Ok (Int (red_apply op x y))))
 
 -- pointers are equal where they lead to the same offset of the same object, or are both null
 abbrev pub same : Val → Val → Bool
@@ -84,7 +82,7 @@ shift p n = offset_at p.0 (pos (p.1 + n))
 
 -- the element of that index, where an element has so many words
 unfoldable pub element : Pointer → Val → ℕ → Result Pointer Trap
-element p i size = then_ok (number i) (λ n. offset_at p.0 (pos p.1 +ℤ (n *ℤ pos size)))
+element p i size = and_then (number i) (λ n. offset_at p.0 (pos p.1 +ℤ (n *ℤ pos size)))
 
 -- the input number of that index
 abbrev pub input_number : Option ℤ → Result Val Trap
@@ -115,6 +113,6 @@ not_negative (negsuc n) = 0
 abbrev pub trip_count : ℤ → ℤ → ℕ
 trip_count lo hi = not_negative (hi -ℤ lo)
 
--- not more than 16,777,216 times
+-- only so often at the most
 unfoldable pub trips : ℤ → ℤ → Result ℕ Trap
-trips lo hi = if nat_lt 16777216 (trip_count lo hi) then Err trap.Trips else Ok (trip_count lo hi)
+trips lo hi = if nat_lt LOOP_TRIPS (trip_count lo hi) then Err trap.Trips else Ok (trip_count lo hi)

@@ -17,7 +17,10 @@ pub record World (S : Type 0) : Type 0 where
   pub store : Addr → Val → S → Result (Unit {0}) Trap × S
   -- makes an object of so many words
   pub make : ℕ → S → Result Obj Trap × S
+  -- takes an object out, by a place in it
+  pub free : Obj → ℕ → S → Result (Unit {0}) Trap × S
   -- prints bytes
   pub print : List ℕ → S → S
-  -- runs an annotated loop, from its number, its start, its bound and the frame's locals: the locals after it, or a trap with a line of its own
+  -- Runs an annotated loop, from its number, its start, its bound and the frame's locals. It answers the locals after
+  -- it, or a trap with a line of its own.
   pub visit : ℕ → ℤ → ℤ → List Val → S → Result (List Val) (Trap × ℕ) × S

@@ -1,4 +1,8 @@
+ghost use Rattle.std.specs.Prelude.{◌≡◌};
+ghost use Rattle.al_core.specs.Lines.{by_words, is_line_size};
+
 use crate::values::Addr;
+use al_source::limits::DEFAULT_LINE;
 use al_source::{CommitOrder, Policy, RedOp};
 use sqlite_items::Items;
 
@@ -15,6 +19,29 @@ pub struct Choice {
     pub policy: Policy,
     pub order: CommitOrder,
     pub reds: Items<Red>,
+    /// The words of a line, by which conflicts are found: 1, 2, 4, 8 or 16.
+    pub line: u32,
+}
+
+impl Choice {
+    /// A choice whose conflicts are found word by word.
+    pub fn by_words(policy: Policy, order: CommitOrder, reds: Items<Red>) -> Choice
+        ensures { result ≡ by_words policy order reds }
+    {
+        Choice {
+            policy,
+            order,
+            reds,
+            line: DEFAULT_LINE,
+        }
+    }
+}
+
+/// Whether a number is the words of a line.
+pub fn is_line_size(words: u32) -> bool
+    ensures { result ≡ is_line_size words }
+{
+    matches!(words, 1 | 2 | 4 | 8 | 16)
 }
 
 /// What a loop's counter is compared with.
@@ -46,6 +73,8 @@ pub struct Knobs {
     pub chunk: u32,
     /// Worker threads, 1 to 64.
     pub threads: u32,
+    /// Words of a line: 1, 2, 4, 8 or 16.
+    pub line: u32,
     /// Steps of one iteration of an annotated loop, 1 to 1,000,000,000.
     pub iter_steps: u64,
     /// Steps of all code outside such iterations, 1 to 1,000,000,000.

@@ -1,20 +1,22 @@
 //! What a program is after typing, what its values are, the arithmetic, and the definition of what it means.
 #![tactic(auto)]
 
-pub mod arithmetic;
-pub mod choices;
+mod arithmetic;
+mod choices;
+mod for_loops;
 pub mod operations;
 pub mod orders;
-pub mod reductions;
-pub mod reports;
-pub mod steps;
-pub mod typed_tree;
-pub mod values;
-pub mod view;
+mod reductions;
+mod reports;
+mod steps;
+mod typed_tree;
+mod values;
+mod view;
 
 pub use al_source::{BinOp, Bytes, CommitOrder, Format, Name, Piece, Policy, RedOp, UnOp};
 pub use arithmetic::{binary, unary};
-pub use choices::{Bound, Choice, Knobs, LoopInfo, Red};
+pub use choices::{Bound, Choice, Knobs, LoopInfo, Red, is_line_size};
+pub use for_loops::{ForLoop, PlacedLoop, program_loops};
 pub use reductions::{red_apply, red_identity};
 pub use reports::{Ending, Event, Judged, Report, Verdict};
 pub use steps::Budget;

@@ -4,6 +4,7 @@ ghost use Rattle.al_core.specs.Values as spec;
 use crate::arithmetic::{binary, unary};
 use crate::reductions::red_apply;
 use crate::values::{Kind, Obj, Trap, Val};
+use al_source::limits::LOOP_TRIPS;
 use al_source::{BinOp, RedOp, UnOp};
 
 /// Whether a condition of this value holds.
@@ -160,7 +161,7 @@ pub fn trips(lo: i64, hi: i64) -> Result<u64, Trap>
         return Ok(0);
     }
     let count = hi.abs_diff(lo);
-    if count > 16_777_216 {
+    if count > LOOP_TRIPS {
         Err(Trap::Trips)
     } else {
         Ok(count)

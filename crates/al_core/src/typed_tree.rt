@@ -103,6 +103,8 @@ pub enum TExpr {
     Choose(RedOp, Boxed<TExpr>, Boxed<TExpr>),
     /// So many elements of so many words.
     Calloc(Boxed<TExpr>, u32),
+    /// Takes an object out of the memory. Its value is 0.
+    Free(Boxed<TExpr>),
 }
 
 #[cycle(typed_expr)]

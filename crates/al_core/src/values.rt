@@ -40,7 +40,7 @@ pub enum Kind {
 pub enum Trap {
     /// A null pointer is followed.
     Null,
-    /// The object is not in the memory.
+    /// The object is not in the memory: it was freed.
     Missing,
     /// The word is outside its object, or an offset is outside 32 bits.
     Bounds,
@@ -58,4 +58,8 @@ pub enum Trap {
     Alloc,
     /// 256 calls are active.
     Depth,
+    /// What is freed is a global, or a place inside an object.
+    BadFree,
+    /// The object that is freed is not in the memory.
+    Freed,
 }
