@@ -1,12 +1,10 @@
 -- The parser of statements reads what is in the grammar.
-use Rattle.std.proofs.Common.{◌≡◌, ℕ, zero, suc, ◌+◌, ◌<◌, ◌≤◌, Bool, true, false, List, [], ◌∷◌, ◌++◌, append_assoc, length, Option, Some, None, Ok, Err, refl, sym, ap, subst, ◌∙◌, arith}
+use Rattle.std.proofs.Common.{◌≡◌, ℕ, suc, ◌+◌, ◌<◌, Bool, true, false, List, [], ◌∷◌, ◌++◌, append_assoc, length, Option, Some, None, Ok, Err, refl, sym, ap, subst, ◌∙◌, arith}
 use Rattle.std.proofs.lemmas.List.{append-nil}
-use Rattle.al_source.specs.declared.tokens.Token.{Token}
 use Rattle.al_source.specs.declared.tokens.TokenKind.{TokenKind}
-use Rattle.al_source.specs.declared.tokens.TokenKind.TheVariants.{Word, Number, Text, Key, Mark, Alter, EndAlter}
+use Rattle.al_source.specs.declared.tokens.TokenKind.TheVariants.{Word, Text, Key, Mark, Alter, EndAlter}
 use Rattle.al_source.specs.declared.tokens.Mark as the_mark
 use Rattle.al_source.specs.declared.tokens.Mark.TheVariants as m
-use Rattle.al_source.specs.declared.tokens.Key as the_key
 use Rattle.al_source.specs.declared.tokens.Key.TheVariants as key
 use Rattle.al_source.specs.declared.texts.Piece.{Piece}
 use Rattle.al_source.specs.declared.operators.BinOp.{BinOp}
@@ -24,26 +22,27 @@ use Rattle.al_source.specs.declared.source_tree.Expr.TheVariants as e
 use Rattle.al_source.specs.declared.source_tree.Stmt.{Stmt}
 use Rattle.al_source.specs.declared.source_tree.StmtKind.{StmtKind}
 use Rattle.al_source.specs.declared.source_tree.StmtKind.TheVariants as kind
+use Rattle.al_source.specs.declared.limits.TheConstants.{EXPRESSION_OPERATORS}
 use Rattle.al_grammar.specs.declared.operators.NoteWord.{NoteWord}
 use Rattle.al_grammar.specs.declared.operators.NoteWord.TheVariants as note
 use Rattle.al_grammar.specs.Operators.{update_of, step_of, note_word_of}
 use Rattle.al_grammar.specs.Phrases.{Tokens, Name, Takes, takes, Means, means, line_at}
 use Rattle.al_grammar.specs.Types.{Base, Declarator}
 use Rattle.al_grammar.specs.Types as ty
-use Rattle.al_grammar.specs.Expressions.{State, Reads, Expression, Place, max_operators}
+use Rattle.al_grammar.specs.Expressions.{State, Reads, Expression, Place}
 use Rattle.al_grammar.specs.Expressions as gr
-use Rattle.al_grammar.specs.Statements.{statement_of, at, one, reduced, is_else, else_next, Values, CallValues, PrintValues, Simple, NotePolicy, NoteOrder, Reduced, Reductions, Note, Maybe, First, Third, Head, Condition, Initializer, Locals, Statement, Inner, Inners}
+use Rattle.al_grammar.specs.Statements.{statement_of, at, one, reduced, is_else, else_next, Values, CallValues, PrintValues, Simple, NotePolicy, NoteOrder, Reduced, Reductions, Note, Maybe, First, Third, Head, Parenthesized, Initializer, Locals, Statement, Inner, Inners}
 use Rattle.al_grammar.specs.Statements as g
-use Rattle.al_grammar.specs.Steps.{Read, Step, bind, pure, skip, kind_at, mark_in, mark_at, key_in, key_at, meaning_in, meaning_at, tail, same_mark, is_mark_in, is_mark, expect, expect_key, word, after_turn, repeat}
-use Rattle.al_grammar.specs.TypeParser.{base, declarator}
+use Rattle.al_source.specs.Steps.{bind, pure}
+use Rattle.al_grammar.specs.Steps.{Read, Step, mark_in, mark_at, key_in, key_at, meaning_in, meaning_at, tail, same_mark, is_mark_in, is_mark, repeat}
 use Rattle.al_grammar.specs.ExpressionParser.{expression, place, parse, unary, forget}
 use Rattle.al_grammar.specs.StatementParser as p
-use Rattle.al_grammar.proofs.StepFacts.{bind_ok, takes_kind, takes_tail, takes_shorter, kind_takes, means_at, means_tail, takes_is_mark, takes_expect, takes_expect_key, takes_word, repeat_last, repeat_next, repeat_is}
+use Rattle.al_grammar.proofs.StepFacts.{takes_kind, takes_tail, means_at, means_tail, takes_is_mark, takes_expect, takes_expect_key, takes_word, repeat_last, repeat_next}
 use Rattle.al_grammar.proofs.Shorter.{turn_takes}
 use Rattle.al_grammar.proofs.TypeFacts.{EndsType, not_mark, complete_base, complete_declarator, ends_declarator}
 use Rattle.al_grammar.proofs.CompleteExpressions.{complete, Stops, stops_takes, stops_update, stops_step, is_stop, Begins, begins, begins_takes, begins_expr, begins_reads, complete_expression, complete_place, expression_before}
 use Rattle.al_grammar.proofs.Wider.{roomier, roomier_more}
-use Rattle.al_grammar.proofs.SoundStatements.{value_shorter, variable_shorter, reduce_shorter, local_shorter, IsCall, EndsCall, semicolon, paren, sound_call, sound_statement, inner_turn, InnerTurn, again}
+use Rattle.al_grammar.proofs.SoundStatements.{value_shorter, variable_shorter, reduce_shorter, local_shorter, EndsCall, semicolon, paren, sound_call, sound_statement, inner_turn}
 
 -- ---- small steps
 
@@ -88,6 +87,9 @@ complete_print_values (g.some t r) = rw (takes_mark t, takes_tail t) (complete_v
 
 takes_text : {f : List Piece} {ts us : Tokens} → Takes (Text f) ts us → p.text ts ≡ Ok (f, us)
 takes_text t = rw (takes_kind t, takes_tail t) refl
+
+complete_parenthesized : {ts us : Tokens} {c : Expr} → Parenthesized ts c us → p.parenthesized ts ≡ Ok (c, us)
+complete_parenthesized (g.parenthesized a q b) = rw (takes_expect a, expression_before refl q b, takes_expect b) refl
 
 call_ends : {ts : Tokens} (k : StmtKind) → EndsCall ts → p.call_end k ts ≡ Ok (k, ts)
 call_ends k (semicolon t) = rw (takes_mark t) refl
@@ -134,12 +136,12 @@ record RoomyMore (ts : Tokens) (xs : List Expr) (us : Tokens) : Type 0 where
   reads : gr.More (room, ts) xs (left, us)
 
 roomy_more : {ts us : Tokens} {xs : List Expr} → Values ts xs us → RoomyMore ts xs us
-roomy_more (g.last q t) = record { room = max_operators; left = q.left; reads = gr.last q.reads t }
+roomy_more (g.last q t) = record { room = EXPRESSION_OPERATORS; left = q.left; reads = gr.last q.reads t }
 roomy_more (g.more {vs = vs} {ws = ws} {xs = xs} q t r) =
     let k = roomy_more r in
     let swap : q.left + k.room ≡ k.room + q.left = omega arith in
     record {
-      room = k.room + max_operators;
+      room = k.room + EXPRESSION_OPERATORS;
       left = q.left + k.left;
       reads = gr.more (roomier k.room q.reads) t (subst (λ n. gr.More (n, vs) xs (q.left + k.left, ws)) swap (roomier_more q.left k.reads));
     }
@@ -164,10 +166,10 @@ not_both w ts us x q t c place a =
     let (k, end) = sound_call w ts q c in
     let r = roomy k.arguments in
     let wide_place = roomier (suc r.room) place.reads in
-    let wide_call = roomier max_operators (one_call t k.opens r.reads) in
-    let same_room : suc r.room + max_operators ≡ max_operators + suc r.room = omega arith in
+    let wide_call = roomier EXPRESSION_OPERATORS (one_call t k.opens r.reads) in
+    let same_room : suc r.room + EXPRESSION_OPERATORS ≡ EXPRESSION_OPERATORS + suc r.room = omega arith in
     let first = complete wide_place (stops_assigns (suc r.room + place.left) a).operand in
-    let second = complete wide_call (stops_call (max_operators + r.left) end).operand in
+    let second = complete wide_call (stops_call (EXPRESSION_OPERATORS + r.left) end).operand in
     let both : ◌≡◌ {A = Read Expr} (Ok (x, us)) (Ok (e.Call w k.xs, q.1)) = ap forget (sym first ∙ ap (λ n. parse unary (n, ts)) same_room ∙ second) in
     assigns_no_call (subst Assigns (ap (λ o. o.1) (unwrap both)) a) end
 
@@ -252,6 +254,7 @@ placed_simple {ts} {us} {k} q = from (begins_reads q.place.reads) (placed_is q) 
         by : (c : TokenKind) → t.kind ≡ c → begins_expr t.kind ≡ true → p.simple_by (Some c) (t ∷ ts) ≡ Ok (k, us)
         by (Word w) dt f = no_call w (p.call w (t ∷ ts)) refl (takes dt)
         by (Key key.Printf) dt f = absurd (let no : false ≡ true = sym (ap begins_expr dt) ∙ f in cc)
+        by (Key key.Free) dt f = absurd (let no : false ≡ true = sym (ap begins_expr dt) ∙ f in cc)
         by c dt f = plain c dt (ap begins_expr (sym dt) ∙ f)
 
 -- what begins with a step goes on as one
@@ -273,6 +276,7 @@ complete_simple (g.step_after q t) h = placed_simple (stepped q t)
 complete_simple (g.step_before {op = op} t q) h = before_simple t ∙ rw (means_tail t, complete_place q (stops_follows h)) refl
 complete_simple (g.call t u r) h = call_simple t u r (ends_call h)
 complete_simple (g.print t u f r) h = rw (takes_kind t, takes_tail t, takes_expect u, takes_text f, complete_print_values r) refl
+complete_simple (g.free t q) h = rw (takes_kind t, takes_tail t, complete_parenthesized q) refl
 
 -- ---- annotations
 
@@ -376,12 +380,14 @@ complete_maybe (g.just q) t = maybe_open (begins_reads q.reads) ∙ rw (expressi
 -- what begins a simple statement
 abbrev pub begins_simple : TokenKind → Bool
 begins_simple (Key key.Printf) = true
+begins_simple (Key key.Free) = true
 begins_simple (Mark m.Increment) = true
 begins_simple (Mark m.Decrement) = true
 begins_simple k = begins_expr k
 
 expr_simple : (k : TokenKind) → begins_expr k ≡ true → begins_simple k ≡ true
 expr_simple (Key key.Printf) d = refl
+expr_simple (Key key.Free) d = refl
 expr_simple (Mark m.Increment) d = refl
 expr_simple (Mark m.Decrement) d = refl
 expr_simple _ d = d
@@ -407,6 +413,7 @@ first_simple (g.step_after q t) = begins_place q
 first_simple (g.step_before t q) = begins_step t
 first_simple (g.call t u r) = begins_takes begins_simple refl t
 first_simple (g.print t u f r) = begins_takes begins_simple refl t
+first_simple (g.free t q) = begins_takes begins_simple refl t
 
 -- a statement of the line that stands here
 lined_is : (q : Step StmtKind) (ts us : Tokens) (k : StmtKind) → q ts ≡ Ok (k, us) → p.lined q ts ≡ Ok (at ts k, us)
@@ -479,9 +486,6 @@ complete_third (g.simple {ts = ts} {us = us} {k = k} s) t =
 complete_head : {ts us : Tokens} {a c : Option Stmt} {b : Option Expr} → Head ts a b c us → p.head ts ≡ Ok ((a, b, c), us)
 complete_head (g.head f o a s b t c r) =
     rw (takes_expect_key f, takes_expect o, complete_first a s, takes_expect s, complete_maybe b t, takes_expect t, complete_third c r, takes_expect r) refl
-
-complete_condition : {ts us : Tokens} {c : Expr} → Condition ts c us → p.condition ts ≡ Ok (c, us)
-complete_condition (g.condition a q b) = rw (takes_expect a, expression_before refl q b, takes_expect b) refl
 
 -- ---- declarations
 
@@ -624,10 +628,10 @@ mutual
   complete_statement (g.block {d = d} t r u) = rw (takes_kind t, takes_tail t, complete_inners [] r u, takes_expect u) refl
   complete_statement (g.simple {d = d} {ts = ts} {vs = vs} {k = k} s t) =
       kind_simple d (p.statement d) (first_simple s) ∙ lined_is (λ us. bind (p.simple us) p.ended) ts vs k (rw (complete_simple s (by_semicolon t), takes_expect t) refl)
-  complete_statement (g.if_only {ts = ts} t b s n) = rw (takes_kind t, gate_open ts s, takes_tail t, complete_condition b, complete_statement s, n) refl
+  complete_statement (g.if_only {ts = ts} t b s n) = rw (takes_kind t, gate_open ts s, takes_tail t, complete_parenthesized b, complete_statement s, n) refl
   complete_statement (g.if_else {ts = ts} t b s u q) =
-      rw (takes_kind t, gate_open ts s, takes_tail t, complete_condition b, complete_statement s, takes_else u, takes_tail u, complete_statement q) refl
-  complete_statement (g.while_loop {ts = ts} t b s) = rw (takes_kind t, gate_open ts s, takes_tail t, complete_condition b, complete_statement s) refl
+      rw (takes_kind t, gate_open ts s, takes_tail t, complete_parenthesized b, complete_statement s, takes_else u, takes_tail u, complete_statement q) refl
+  complete_statement (g.while_loop {ts = ts} t b s) = rw (takes_kind t, gate_open ts s, takes_tail t, complete_parenthesized b, complete_statement s) refl
   complete_statement (g.for_loop {ts = ts} h s) = rw (takes_kind (head_first h), gate_open ts s, complete_head h, complete_statement s) refl
   complete_statement (g.noted_loop {ts = ts} t n u h s) =
       rw (takes_kind t, gate_open ts s, takes_tail t, complete_note n u, takes_end u, complete_head h, complete_statement s) refl

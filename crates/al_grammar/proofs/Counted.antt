@@ -1,12 +1,11 @@
 -- The parts of the parser that count down, at the count that is left.
-use Rattle.std.proofs.Common.{◌≡◌, ℕ, zero, suc, ◌-◌, ◌<◌, ◌≤◌, Bool, true, false, List, [], ◌∷◌, ◌++◌, length, Option, Some, None, Result, Ok, Err, refl, sym, ap, subst, ◌∙◌, arith}
+use Rattle.std.proofs.Common.{◌≡◌, ℕ, zero, suc, ◌-◌, true, false, Ok, Err, refl, ap, arith}
 use Rattle.al_source.specs.declared.tokens.Mark.TheVariants as m
 use Rattle.al_source.specs.declared.source_tree.CType.{CType}
 use Rattle.al_source.specs.declared.source_tree.CType.TheVariants as type
-use Rattle.al_source.specs.declared.source_tree.Stmt.{Stmt}
 use Rattle.al_grammar.specs.Phrases.{Tokens}
 use Rattle.al_grammar.specs.Steps.{tail, is_mark}
-use Rattle.al_grammar.specs.TypeParser.{star_by, stars, dimension_by, dimensions}
+use Rattle.al_grammar.specs.TypeParser.{stars, dimension_by, dimensions}
 use Rattle.al_grammar.specs.StatementParser.{statement, statement_step}
 
 pub stars_none : (n : ℕ) (a : CType) (ts : Tokens) → n ≡ 0 → stars n a ts ≡ Ok (a, ts)

@@ -12,7 +12,8 @@ use Rattle.al_source.specs.declared.tokens.Key.{Key}
 use Rattle.al_source.specs.declared.tokens.Mark.{Mark}
 use Rattle.al_source.specs.declared.faults.LexFault.{LexFault}
 use Rattle.al_grammar.specs.Characters.{Bytes, is_letter}
-use Rattle.al_grammar.specs.Words.{key_text, mark_text, all_keys, all_marks, key_of, mark_at}
+use Rattle.al_grammar.specs.declared.words.TheConstants.{KEYS, MARKS}
+use Rattle.al_grammar.specs.Words.{key_text, mark_text, key_of, mark_at}
 use Rattle.al_grammar.specs.Lexemes.{TextUnit, name_len, named, number_len, number_value, is_number, number_at, number_token, unit_at, inside_from, inside_len, format_of, quoted, marked, Lexeme, lexeme}
 use Rattle.al_grammar.specs.Slices.{IsSpelledBy}
 
@@ -28,12 +29,12 @@ found_passes p (y ∷ xs) x e = found_next p y xs x (λ h. found_passes p xs x h
 -- a reserved word has its bytes
 pub key_found : (word : Bytes) (k : Key) → key_of word ≡ Some k → word ≡ key_text k
 unfolding key_of
-key_found word k e = sym ((bytes_eq-Decides (key_text k) word).0 (found_passes (λ j. bytes_eq (key_text j) word) all_keys k e))
+key_found word k e = sym ((bytes_eq-Decides (key_text k) word).0 (found_passes (λ j. bytes_eq (key_text j) word) KEYS k e))
 
 -- a mark has its bytes
 pub mark_found : (z : Bytes) (m : Mark) → mark_at z ≡ Some m → take (length (mark_text m)) z ≡ mark_text m
 unfolding mark_at
-mark_found z m e = sym ((bytes_eq-Decides (mark_text m) (take (length (mark_text m)) z)).0 (found_passes (λ j. starts_with nat_eq z (mark_text j)) all_marks m e))
+mark_found z m e = sym ((bytes_eq-Decides (mark_text m) (take (length (mark_text m)) z)).0 (found_passes (λ j. starts_with nat_eq z (mark_text j)) MARKS m e))
 
 spelled_name : (word : Bytes) (o : Option Key) → key_of word ≡ o → IsSpelledBy (named word o) word
 spelled_name word None e = refl

@@ -1,5 +1,5 @@
 -- The loops of the parser, a turn at a time, as code runs them.
-use Rattle.std.proofs.Common.{◌≡◌, ℕ, Bool, true, false, List, [], ◌∷◌, ◌++◌, Ok, Err, refl}
+use Rattle.std.proofs.Common.{◌≡◌, ℕ, Bool, false, List, [], ◌∷◌, Ok, refl}
 use Rattle.al_source.specs.declared.annotations.NamedRed.{NamedRed}
 use Rattle.al_source.specs.declared.operators.RedOp.{RedOp}
 use Rattle.al_source.specs.declared.source_tree.CType.{CType}
@@ -8,7 +8,8 @@ use Rattle.al_source.specs.declared.source_tree.Expr.{Expr}
 use Rattle.al_source.specs.declared.source_tree.Stmt.{Stmt}
 use Rattle.al_source.specs.declared.source_tree.Item.{Item}
 use Rattle.al_grammar.specs.Phrases.{Tokens}
-use Rattle.al_grammar.specs.Steps.{bind, pure, after_turn, repeat}
+use Rattle.al_source.specs.Steps.{bind, pure}
+use Rattle.al_grammar.specs.Steps.{after_turn, repeat}
 use Rattle.al_grammar.specs.StatementParser.{value, variable, reduce_turn, local, inner_turn, statement}
 use Rattle.al_grammar.specs.ProgramParser.{field_name, field_turn, global_name, param_turn, items_step, item_turn}
 use Rattle.al_grammar.proofs.StepFacts.{repeat_is}

@@ -1,13 +1,11 @@
 -- The parser of items and programs reads what the grammar has, and nothing else.
-use Rattle.std.proofs.Common.{◌≡◌, ℕ, zero, suc, ◌<◌, ◌≤◌, Bool, true, false, List, [], ◌∷◌, ◌++◌, append_assoc, length, Option, Some, None, Ok, Err, refl, sym, ap, subst, ◌∙◌, arith}
-use Rattle.std.specs.Prelude.{pos, negsuc, neg_ℤ, ℤ, ◌&&◌}
+use Rattle.std.proofs.Common.{◌≡◌, ℕ, ◌<◌, ◌≤◌, Bool, true, false, List, [], ◌∷◌, ◌++◌, append_assoc, length, Option, Some, Ok, refl, sym, ap, subst, ◌∙◌, arith}
+use Rattle.std.specs.Prelude.{pos, neg_ℤ, ◌&&◌}
 use Rattle.std.proofs.lemmas.List.{append-nil}
-use Rattle.al_source.specs.declared.tokens.Token.{Token}
 use Rattle.al_source.specs.declared.tokens.TokenKind.{TokenKind}
 use Rattle.al_source.specs.declared.tokens.TokenKind.TheVariants.{Word, Number, Key, Mark}
 use Rattle.al_source.specs.declared.tokens.Mark as the_mark
 use Rattle.al_source.specs.declared.tokens.Mark.TheVariants as m
-use Rattle.al_source.specs.declared.tokens.Key as the_key
 use Rattle.al_source.specs.declared.tokens.Key.TheVariants as key
 use Rattle.al_source.specs.declared.source_tree.CType.{CType}
 use Rattle.al_source.specs.declared.source_tree.CType.TheVariants as type
@@ -17,20 +15,21 @@ use Rattle.al_source.specs.declared.source_tree.Start.TheVariants as start
 use Rattle.al_source.specs.declared.source_tree.Stmt.{Stmt}
 use Rattle.al_source.specs.declared.source_tree.Item.{Item}
 use Rattle.al_source.specs.declared.source_tree.Item.TheVariants as item
-use Rattle.al_source.specs.declared.source_tree.Program.{Program}
+use Rattle.al_source.specs.declared.limits.TheConstants.{DECLARATOR_STARS, STATEMENT_NESTING}
 use Rattle.al_grammar.specs.Phrases.{Tokens, Name, Takes, takes, line_at}
-use Rattle.al_grammar.specs.Types.{max_stars, max_dimensions, Base, Stars, Dimensions, Declarator}
+use Rattle.al_grammar.specs.Types.{Base, Stars, Dimensions, Declarator}
 use Rattle.al_grammar.specs.Types as ty
 use Rattle.al_grammar.specs.Statements.{Inners}
-use Rattle.al_grammar.specs.Programs.{max_nesting, FieldNames, Fields, Starts, global, Globals, ResultBase, Param, ParamList, Params, Items, AllItems}
+use Rattle.al_grammar.specs.Programs.{FieldNames, Fields, Starts, global, Globals, ResultBase, Param, ParamList, Params, Items, AllItems}
 use Rattle.al_grammar.specs.Programs as g
-use Rattle.al_grammar.specs.Steps.{Read, Step, bind, pure, skip, kind_at, mark_in, mark_at, key_in, key_at, tail, same_mark, same_key, is_mark_in, is_mark, is_key_in, is_key, expect, expect_key, word, after_turn, repeat}
+use Rattle.al_source.specs.Steps.{bind, pure}
+use Rattle.al_grammar.specs.Steps.{Read, Step, kind_at, mark_in, mark_at, tail, same_mark, same_key, is_mark_in, is_mark, is_key, expect, expect_key, word, repeat}
 use Rattle.al_grammar.specs.TypeParser.{base, stars, declarator}
 use Rattle.al_grammar.specs.StatementParser.{statement, braced}
 use Rattle.al_grammar.specs.ProgramParser as p
-use Rattle.al_grammar.proofs.StepFacts.{bind_ok, yields, takes_kind, takes_tail, takes_shorter, kind_takes, mark_takes, is_mark_takes, is_key_takes, takes_is_mark, takes_is_key, takes_expect, takes_expect_key, expect_takes, expect_key_takes, takes_word, word_takes, repeat_last, repeat_next, repeat_is, repeat_keeps}
+use Rattle.al_grammar.proofs.StepFacts.{bind_ok, yields, takes_kind, takes_tail, takes_shorter, kind_takes, mark_takes, is_mark_takes, is_key_takes, takes_is_mark, takes_is_key, takes_expect, takes_expect_key, expect_takes, expect_key_takes, takes_word, word_takes, repeat_last, repeat_next, repeat_keeps}
 use Rattle.al_grammar.proofs.TypeFacts.{EndsType, not_mark, not_key, sound_base, sound_stars, sound_declarator, complete_base, complete_stars, complete_declarator, ends_stars, ends_declarator, base_shorter, stars_shorter, declarator_shorter}
-use Rattle.al_grammar.proofs.SoundStatements.{Sep, goes_on, ends, sep_shorter, IsBraced, sound_braced, sound_statement}
+use Rattle.al_grammar.proofs.SoundStatements.{Sep, goes_on, ends, sep_shorter, sound_braced, sound_statement}
 use Rattle.al_grammar.proofs.Shorter.{inners_shorter}
 use Rattle.al_grammar.proofs.CompleteStatements.{complete_inners, FirstBase, by_int, by_long, by_struct, first_base}
 
@@ -245,10 +244,10 @@ sound_globals line a is ts q e =
 
 sound_param : (ts : Tokens) (q : Field × Tokens) → p.param ts ≡ Ok q → Param ts q.0 q.1
 sound_param ts q e =
-    let (a, da, dk) = bind_ok (base ts) (λ a us. bind (stars max_stars a us) (λ b vs. bind (word vs) (λ w. pure (record { name = w; ty = b })))) e in
-    let (b, db, dl) = bind_ok (stars max_stars a.0 a.1) (λ b vs. bind (word vs) (λ w. pure (record { name = w; ty = b }))) dk in
+    let (a, da, dk) = bind_ok (base ts) (λ a us. bind (stars DECLARATOR_STARS a us) (λ b vs. bind (word vs) (λ w. pure (record { name = w; ty = b })))) e in
+    let (b, db, dl) = bind_ok (stars DECLARATOR_STARS a.0 a.1) (λ b vs. bind (word vs) (λ w. pure (record { name = w; ty = b }))) dk in
     let (w, dw, dm) = bind_ok (word b.1) (λ w. pure (record { name = w; ty = b.0 })) dl in
-    yields (λ (q : Field × Tokens). Param ts q.0 q.1) (record { name = w.0; ty = b.0 }, w.1) q (g.param (sound_base ts a da) (sound_stars max_stars a.0 a.1 b db) (word_takes b.1 w dw)) dm
+    yields (λ (q : Field × Tokens). Param ts q.0 q.1) (record { name = w.0; ty = b.0 }, w.1) q (g.param (sound_base ts a da) (sound_stars DECLARATOR_STARS a.0 a.1 b db) (word_takes b.1 w dw)) dm
 
 param_sep : (fs : List Field) (ts : Tokens) (q : (List Field × Bool) × Tokens) → p.param_by fs (mark_at ts) ts ≡ Ok q → Sep m.Comma m.RightParen fs ts q
 param_sep fs ts q e = by (mark_at ts) refl e
@@ -304,13 +303,13 @@ record IsBody (ts : Tokens) (q : List Stmt × Tokens) : Type 0 where
   inside : Tokens
   close : Tokens
   opens : Takes (Mark m.LeftBrace) ts inside
-  inners : Inners max_nesting inside q.0 close
+  inners : Inners STATEMENT_NESTING inside q.0 close
   closes : Takes (Mark m.RightBrace) close q.1
 
 sound_function_body : (ts : Tokens) (q : List Stmt × Tokens) → p.body ts ≡ Ok q → IsBody ts q
 sound_function_body ts q e =
-    let (o, do', dk) = bind_ok (expect m.LeftBrace ts) (λ _. braced max_nesting (statement max_nesting)) e in
-    let b = sound_braced max_nesting (statement max_nesting) (sound_statement max_nesting) o.1 q dk in
+    let (o, do', dk) = bind_ok (expect m.LeftBrace ts) (λ _. braced STATEMENT_NESTING (statement STATEMENT_NESTING)) e in
+    let b = sound_braced STATEMENT_NESTING (statement STATEMENT_NESTING) (sound_statement STATEMENT_NESTING) o.1 q dk in
     record { inside = o.1; close = b.close; opens = expect_takes m.LeftBrace ts o do'; inners = b.inners; closes = b.closes }
 
 sound_function : (ts us : Tokens) (a : CType) (q : Item × Tokens) → ResultBase ts a us → p.function (line_at ts) a us ≡ Ok q → IsItem ts q
@@ -318,14 +317,14 @@ sound_function ts us a q r e =
     let made : CType → Name → List Field → List Stmt → Item = λ b w fs ss. item.Func (record { name = w; result = b; params = fs; body = ss; line = line_at ts }) in
     let after_params : CType → Name → List Field → Step Item = λ b w fs vs. bind (p.body vs) (λ ss. pure (made b w fs ss)) in
     let after_name : CType → Name → Step Item = λ b w vs. bind (bind (expect m.LeftParen vs) (λ _. p.params)) (after_params b w) in
-    let (b, db, dk) = bind_ok (stars max_stars a us) (λ b vs. bind (word vs) (after_name b)) e in
+    let (b, db, dk) = bind_ok (stars DECLARATOR_STARS a us) (λ b vs. bind (word vs) (after_name b)) e in
     let (w, dw, dl) = bind_ok (word b.1) (after_name b.0) dk in
     let (fs, df, dm) = bind_ok (bind (expect m.LeftParen w.1) (λ _. p.params)) (after_params b.0 w.0) dl in
     let (o, do', dn) = bind_ok (expect m.LeftParen w.1) (λ _. p.params) df in
     let (ss, ds, dp) = bind_ok (p.body fs.1) (λ ss. pure (made b.0 w.0 fs.0 ss)) dm in
     let body = sound_function_body fs.1 ss ds in
     yields (IsItem ts) (made b.0 w.0 fs.0 ss.0, ss.1) q
-    (g.function r (sound_stars max_stars a us b db) (word_takes b.1 w dw) (expect_takes m.LeftParen w.1 o do') (sound_params o.1 fs dn) body.opens body.inners body.closes) dp
+    (g.function r (sound_stars DECLARATOR_STARS a us b db) (word_takes b.1 w dw) (expect_takes m.LeftParen w.1 o do') (sound_params o.1 fs dn) body.opens body.inners body.closes) dp
 
 -- ---- programs
 
@@ -509,11 +508,11 @@ complete_params (g.none t) = rw (takes_kind t, takes_tail t) refl
 complete_params (g.void t u) = rw (takes_kind t, takes_tail t, takes_expect u) refl
 complete_params (g.some r) = params_open (first_list r) ∙ complete_list [] r
 
-complete_body : {ts us vs ws : Tokens} {ss : List Stmt} → Takes (Mark m.LeftBrace) ts us → Inners max_nesting us ss vs → Takes (Mark m.RightBrace) vs ws → p.body ts ≡ Ok (ss, ws)
+complete_body : {ts us vs ws : Tokens} {ss : List Stmt} → Takes (Mark m.LeftBrace) ts us → Inners STATEMENT_NESTING us ss vs → Takes (Mark m.RightBrace) vs ws → p.body ts ≡ Ok (ss, ws)
 complete_body o i c = rw (takes_expect o, complete_inners [] i c, takes_expect c) refl
 
 complete_function : {a b : CType} {w : Name} {t₁ t₂ t₃ t₄ t₅ t₆ t₇ t₈ : Tokens} {fs : List Field} {ss : List Stmt} (line : ℕ)
-    → Stars max_stars a t₁ b t₂ → Takes (Word w) t₂ t₃ → Takes (Mark m.LeftParen) t₃ t₄ → Params t₄ fs t₅ → Takes (Mark m.LeftBrace) t₅ t₆ → Inners max_nesting t₆ ss t₇ → Takes (Mark m.RightBrace) t₇ t₈
+    → Stars DECLARATOR_STARS a t₁ b t₂ → Takes (Word w) t₂ t₃ → Takes (Mark m.LeftParen) t₃ t₄ → Params t₄ fs t₅ → Takes (Mark m.LeftBrace) t₅ t₆ → Inners STATEMENT_NESTING t₆ ss t₇ → Takes (Mark m.RightBrace) t₇ t₈
     → p.function line a t₁ ≡ Ok (item.Func (record { name = w; result = b; params = fs; body = ss; line = line }), t₈)
 complete_function line s t o q b i c = rw (complete_stars s (not_mark m.Star t refl), takes_word t, takes_expect o, complete_params q, complete_body b i c) refl
 

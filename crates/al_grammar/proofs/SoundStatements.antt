@@ -1,12 +1,10 @@
 -- What the parser of statements reads is in the grammar.
 use Rattle.std.proofs.Common.{◌≡◌, ℕ, zero, suc, ◌<◌, ◌≤◌, Bool, true, false, List, [], ◌∷◌, ◌++◌, append_assoc, length, Option, Some, None, Ok, Err, refl, sym, ap, subst, ◌∙◌, arith}
 use Rattle.std.proofs.lemmas.List.{append-nil}
-use Rattle.al_source.specs.declared.tokens.Token.{Token}
 use Rattle.al_source.specs.declared.tokens.TokenKind.{TokenKind}
 use Rattle.al_source.specs.declared.tokens.TokenKind.TheVariants.{Word, Text, Key, Mark, Alter, EndAlter}
 use Rattle.al_source.specs.declared.tokens.Mark as the_mark
 use Rattle.al_source.specs.declared.tokens.Mark.TheVariants as m
-use Rattle.al_source.specs.declared.tokens.Key as the_key
 use Rattle.al_source.specs.declared.tokens.Key.TheVariants as key
 use Rattle.al_source.specs.declared.texts.Piece.{Piece}
 use Rattle.al_source.specs.declared.operators.BinOp.{BinOp}
@@ -26,16 +24,18 @@ use Rattle.al_source.specs.declared.source_tree.StmtKind.TheVariants as kind
 use Rattle.al_grammar.specs.declared.operators.NoteWord.{NoteWord}
 use Rattle.al_grammar.specs.declared.operators.NoteWord.TheVariants as note
 use Rattle.al_grammar.specs.Operators.{update_of, step_of, note_word_of}
-use Rattle.al_grammar.specs.Phrases.{Tokens, Name, Takes, takes, Means, means, line_at}
+use Rattle.al_grammar.specs.Words.{key_text}
+use Rattle.al_grammar.specs.Phrases.{Tokens, Name, Takes, takes, Means, line_at}
 use Rattle.al_grammar.specs.Types.{Declarator}
 use Rattle.al_grammar.specs.Expressions.{Expression, Place}
-use Rattle.al_grammar.specs.Statements.{statement_of, at, one, reduced, is_else, else_next, Values, CallValues, PrintValues, Simple, NotePolicy, NoteOrder, Reduced, Reductions, Note, Maybe, First, Third, Head, Condition, Initializer, Locals, Statement, Inner, Inners}
+use Rattle.al_grammar.specs.Statements.{statement_of, at, one, reduced, is_else, else_next, Values, CallValues, PrintValues, Simple, NotePolicy, NoteOrder, Reduced, Reductions, Note, Maybe, First, Third, Head, Parenthesized, Initializer, Locals, Statement, Inner, Inners}
 use Rattle.al_grammar.specs.Statements as g
-use Rattle.al_grammar.specs.Steps.{Read, Step, bind, pure, skip, kind_at, mark_in, mark_at, key_at, meaning_at, tail, is_mark, expect, expect_key, word, repeat}
+use Rattle.al_source.specs.Steps.{bind, pure}
+use Rattle.al_grammar.specs.Steps.{Read, Step, skip, kind_at, mark_at, key_at, meaning_at, tail, is_mark, expect, expect_key, word, repeat}
 use Rattle.al_grammar.specs.TypeParser.{base, declarator}
 use Rattle.al_grammar.specs.ExpressionParser.{expression, place}
 use Rattle.al_grammar.specs.StatementParser as p
-use Rattle.al_grammar.proofs.StepFacts.{bind_ok, yields, some_same, takes_shorter, means_shorter, kind_takes, mark_takes, key_takes, at_means, is_mark_takes, expect_takes, expect_key_takes, word_takes, repeat_keeps}
+use Rattle.al_grammar.proofs.StepFacts.{bind_ok, yields, takes_shorter, means_shorter, kind_takes, mark_takes, at_means, is_mark_takes, expect_takes, expect_key_takes, word_takes, repeat_keeps}
 use Rattle.al_grammar.proofs.TypeFacts.{sound_base, sound_declarator, declarator_shorter}
 use Rattle.al_grammar.proofs.SoundExpressions.{sound_expression, sound_place}
 use Rattle.al_grammar.proofs.Wider.{expression_shorter}
@@ -120,6 +120,18 @@ sound_print ts us q t e =
     let (x, dx, dl) = bind_ok (p.print_values f.1) (λ xs. pure (kind.Print f.0 xs)) dk in
     yields (IsSimple ts) (kind.Print f.0 x.0, x.1) q (g.print t (expect_takes m.LeftParen us o do') (text_takes o.1 f dj) (sound_print_values f.1 x dx)) dl
 
+sound_parenthesized : (ts : Tokens) (q : Expr × Tokens) → p.parenthesized ts ≡ Ok q → Parenthesized ts q.0 q.1
+sound_parenthesized ts q e =
+    let (x, dx, dk) = bind_ok (bind (expect m.LeftParen ts) (λ _. expression)) (λ c us. bind (expect m.RightParen us) (λ _. pure c)) e in
+    let (r, dr, dl) = bind_ok (expect m.LeftParen ts) (λ _. expression) dx in
+    let (s, ds, dm) = bind_ok (expect m.RightParen x.1) (λ _. pure x.0) dk in
+    yields (λ (q : Expr × Tokens). Parenthesized ts q.0 q.1) (x.0, s.1) q (g.parenthesized (expect_takes m.LeftParen ts r dr) (sound_expression r.1 x dl) (expect_takes m.RightParen x.1 s ds)) dm
+
+sound_free : (ts us : Tokens) (q : StmtKind × Tokens) → Takes (Key key.Free) ts us → p.free us ≡ Ok q → IsSimple ts q
+sound_free ts us q t e =
+    let (x, dx, dk) = bind_ok (p.parenthesized us) (λ x. pure (kind.Call (key_text key.Free) (x ∷ []))) e in
+    yields (IsSimple ts) (kind.Call (key_text key.Free) (x.0 ∷ []), x.1) q (g.free t (sound_parenthesized us x dx)) dk
+
 -- what a call is made of
 pub record IsCall (w : Name) (ts : Tokens) (q : StmtKind × Tokens) : Type 0 where
   pub inside : Tokens
@@ -197,6 +209,7 @@ sound_simple ts q e = by (kind_at ts) refl e
     by : (c : Option TokenKind) → kind_at ts ≡ c → p.simple_by c ts ≡ Ok q → IsSimple ts q
     by (Some (Word w)) d e = sound_word w ts q (kind_takes ts d) e
     by (Some (Key key.Printf)) d e = sound_print ts (tail ts) q (kind_takes ts d) e
+    by (Some (Key key.Free)) d e = sound_free ts (tail ts) q (kind_takes ts d) e
     by _ d e = sound_before ts q e
 
 -- ---- annotations
@@ -405,13 +418,6 @@ sound_head ts q e =
     (g.head (expect_key_takes key.For ts f df) (expect_takes m.LeftParen f.1 o dh) (sound_first o.1 a dj) (expect_takes m.Semicolon a.1 s ds)
     (sound_maybe s.1 b dm) (expect_takes m.Semicolon b.1 u du) (sound_third u.1 c dp) (expect_takes m.RightParen c.1 r dr)) dq
 
-sound_condition : (ts : Tokens) (q : Expr × Tokens) → p.condition ts ≡ Ok q → Condition ts q.0 q.1
-sound_condition ts q e =
-    let (x, dx, dk) = bind_ok (bind (expect m.LeftParen ts) (λ _. expression)) (λ c us. bind (expect m.RightParen us) (λ _. pure c)) e in
-    let (r, dr, dl) = bind_ok (expect m.LeftParen ts) (λ _. expression) dx in
-    let (s, ds, dm) = bind_ok (expect m.RightParen x.1) (λ _. pure x.0) dk in
-    yields (λ (q : Expr × Tokens). Condition ts q.0 q.1) (x.0, s.1) q (g.condition (expect_takes m.LeftParen ts r dr) (sound_expression r.1 x dl) (expect_takes m.RightParen x.1 s ds)) dm
-
 -- ---- declarations
 
 sound_initializer : (ts : Tokens) (q : Option Expr × Tokens) → p.initializer ts ≡ Ok q → Initializer ts q.0 q.1
@@ -567,7 +573,7 @@ module _ (d : ℕ) (nested : Step Stmt) (h : (ts : Tokens) (q : Stmt × Tokens) 
       (λ a b c ts us vs e k. inners_next a b c ts us vs (inner_turn a ts ((b, false), us) e) k) [] ts s ds in
       yields (IsBraced ts) (s.0, r.1) q (record { close = s.1; inners = subst (λ l. Inners d ts l s.1) (sym is) k; closes = expect_takes m.RightBrace s.1 r dr }) dl
 
-  sound_else : (ts us vs : Tokens) (c : Expr) (x : Stmt) (q : StmtKind × Tokens) → Takes (Key key.If) ts (tail ts) → Condition (tail ts) c us → Statement d us x vs
+  sound_else : (ts us vs : Tokens) (c : Expr) (x : Stmt) (q : StmtKind × Tokens) → Takes (Key key.If) ts (tail ts) → Parenthesized (tail ts) c us → Statement d us x vs
       → p.else_by d nested c x (else_next vs) vs ≡ Ok q → Kind d ts q
   sound_else ts us [] c x q t a b e = yields (Kind d ts) (kind.If c x None, []) q (g.if_only t a b refl) e
   sound_else ts us (v ∷ vs) c x q t a b e = by v.kind refl e
@@ -583,17 +589,17 @@ module _ (d : ℕ) (nested : Step Stmt) (h : (ts : Tokens) (q : Stmt × Tokens) 
 
   sound_branch : (ts : Tokens) (q : StmtKind × Tokens) → Takes (Key key.If) ts (tail ts) → p.branch d nested ts ≡ Ok q → Kind d ts q
   sound_branch ts q t e =
-      let (c, dc, dk) = bind_ok (bind (bind (p.gate d ts) (λ _. skip)) (λ _. p.condition)) (λ c us. bind (nested us) (λ x vs. p.else_by d nested c x (else_next vs) vs)) e in
-      let (r, dr, dl) = bind_ok (bind (p.gate d ts) (λ _. skip)) (λ _. p.condition) dc in
+      let (c, dc, dk) = bind_ok (bind (bind (p.gate d ts) (λ _. skip)) (λ _. p.parenthesized)) (λ c us. bind (nested us) (λ x vs. p.else_by d nested c x (else_next vs) vs)) e in
+      let (r, dr, dl) = bind_ok (bind (p.gate d ts) (λ _. skip)) (λ _. p.parenthesized) dc in
       let (s, ds, dm) = bind_ok (nested c.1) (λ x vs. p.else_by d nested c.0 x (else_next vs) vs) dk in
-      sound_else ts c.1 s.1 c.0 s.0 q t (subst (λ us. Condition us c.0 c.1) (sym (skipped d ts r dr)) (sound_condition r.1 c dl)) (h c.1 s ds) dm
+      sound_else ts c.1 s.1 c.0 s.0 q t (subst (λ us. Parenthesized us c.0 c.1) (sym (skipped d ts r dr)) (sound_parenthesized r.1 c dl)) (h c.1 s ds) dm
 
   sound_while : (ts : Tokens) (q : StmtKind × Tokens) → Takes (Key key.While) ts (tail ts) → p.while_loop d nested ts ≡ Ok q → Kind d ts q
   sound_while ts q t e =
-      let (c, dc, dk) = bind_ok (bind (bind (p.gate d ts) (λ _. skip)) (λ _. p.condition)) (λ c us. bind (nested us) (λ x. pure (kind.While c x))) e in
-      let (r, dr, dl) = bind_ok (bind (p.gate d ts) (λ _. skip)) (λ _. p.condition) dc in
+      let (c, dc, dk) = bind_ok (bind (bind (p.gate d ts) (λ _. skip)) (λ _. p.parenthesized)) (λ c us. bind (nested us) (λ x. pure (kind.While c x))) e in
+      let (r, dr, dl) = bind_ok (bind (p.gate d ts) (λ _. skip)) (λ _. p.parenthesized) dc in
       let (s, ds, dm) = bind_ok (nested c.1) (λ x. pure (kind.While c.0 x)) dk in
-      yields (Kind d ts) (kind.While c.0 s.0, s.1) q (g.while_loop t (subst (λ us. Condition us c.0 c.1) (sym (skipped d ts r dr)) (sound_condition r.1 c dl)) (h c.1 s ds)) dm
+      yields (Kind d ts) (kind.While c.0 s.0, s.1) q (g.while_loop t (subst (λ us. Parenthesized us c.0 c.1) (sym (skipped d ts r dr)) (sound_parenthesized r.1 c dl)) (h c.1 s ds)) dm
 
   -- a loop with the parts that its head has
   record IsFor (n : Option LoopNote) (ts : Tokens) (q : StmtKind × Tokens) : Type 0 where

@@ -1,26 +1,9 @@
 -- More room for operators does no harm, and each expression takes tokens.
-use Rattle.std.proofs.Common.{◌≡◌, ℕ, zero, suc, ◌+◌, ◌-◌, ◌*◌, ◌<◌, ◌≤◌, Bool, true, false, nat_lt, nat_eq, if◌then◌else◌, List, [], ◌∷◌, ◌++◌, append_assoc, length, Option, Some, None, Ok, Err, refl, sym, ap, subst, ◌∙◌, arith}
-use Rattle.std.proofs.lemmas.Bool.{ltb-true, lt-ltb, ltb-false, eqb-true, eq-eqb, ne_eqb, le-ltb}
-use Rattle.al_source.specs.declared.tokens.Token.{Token}
-use Rattle.al_source.specs.declared.tokens.TokenKind.{TokenKind}
-use Rattle.al_source.specs.declared.tokens.TokenKind.TheVariants.{Word, Number, Key, Mark}
-use Rattle.al_source.specs.declared.tokens.Mark as the_mark
-use Rattle.al_source.specs.declared.tokens.Mark.TheVariants as m
-use Rattle.al_source.specs.declared.tokens.Key.TheVariants as key
-use Rattle.al_source.specs.declared.operators.BinOp.{BinOp}
-use Rattle.al_source.specs.declared.source_tree.CType.{CType}
+use Rattle.std.proofs.Common.{◌≡◌, ℕ, zero, suc, ◌+◌, ◌<◌, List, length, ap, subst, ◌∙◌, arith}
 use Rattle.al_source.specs.declared.source_tree.Expr.{Expr}
-use Rattle.al_source.specs.declared.source_tree.Expr.TheVariants as e
-use Rattle.al_grammar.specs.declared.operators.Joint.{Joint}
-use Rattle.al_grammar.specs.declared.operators.Prefix.{Prefix}
-use Rattle.al_grammar.specs.Operators.{infix_of, levels, join, prefix_of, apply, update_of, step_of}
-use Rattle.al_grammar.specs.Phrases.{Tokens, Name, Takes, takes, Means, means}
-use Rattle.al_grammar.specs.Types.{SizeOf}
-use Rattle.al_grammar.specs.Expressions.{State, Reads, Arguments, More, Expression, Place, max_operators}
+use Rattle.al_grammar.specs.Phrases.{Tokens}
+use Rattle.al_grammar.specs.Expressions.{State, Reads, Arguments, More, Expression, Place}
 use Rattle.al_grammar.specs.Expressions as g
-use Rattle.al_grammar.specs.Steps.{Read, Step, bind, kind_at, mark_in, mark_at, meaning_at, tail, expect, word}
-use Rattle.al_grammar.specs.TypeParser.{operand_type, size_of}
-use Rattle.al_grammar.specs.ExpressionParser.{Outcome, Parser, and_then, keep, lift, spend, spend_two, Job, whole, climb, unary, postfix, primary, suffix, arguments, more, field, sized, element_size, whole_by, joined_by, climb_by, unary_by, named_by, primary_by, indexed, suffix_by, allocated, arguments_by, more_by, step, rank, measure, guard, go, parse, forget, expression, place}
 use Rattle.al_grammar.proofs.StepFacts.{takes_shorter, means_shorter}
 use Rattle.al_grammar.proofs.TypeFacts.{size_shorter}
 

@@ -7,7 +7,8 @@ use Rattle.al_source.specs.declared.tokens.Key.TheVariants as key
 use Rattle.al_source.specs.declared.tokens.Mark.{Mark}
 use Rattle.al_source.specs.declared.tokens.Mark.TheVariants as mark
 use Rattle.al_grammar.specs.Characters.{Bytes}
-use Rattle.al_grammar.specs.Words.{key_text, mark_text, all_marks, key_of, mark_at}
+use Rattle.al_grammar.specs.declared.words.TheConstants.{MARKS}
+use Rattle.al_grammar.specs.Words.{key_text, mark_text, key_of, mark_at}
 use Rattle.al_grammar.proofs.LexemeLemmas.{found_passes}
 
 pub key_known : (k : Key) → key_of (key_text k) ≡ Some k
@@ -67,7 +68,7 @@ nth k [] = None
 nth zero (m ∷ ms) = Some m
 nth (suc k) (m ∷ ms) = nth k ms
 
-stands_there : (m : Mark) → nth (place m) all_marks ≡ Some m
+stands_there : (m : Mark) → nth (place m) MARKS ≡ Some m
 stands_there mark.Dot = refl
 stands_there _ = refl
 
@@ -98,22 +99,22 @@ longest_in p zero most (m ∷ ms) o d e passes =
 longest_in p (suc k) most (m ∷ ms) o d e passes =
     longest_next p m ms o (p m) refl (λ _. later_shorter k (length (mark_text m)) ms o d.1 e) (λ _. longest_in p k (length (mark_text m)) ms o d.1 e passes)
 
-descends : Descends 3 all_marks
+descends : Descends 3 MARKS
 descends = (omega arith, (omega arith, (omega arith, (omega arith, (omega arith, (omega arith, (omega arith, (omega arith, (omega arith, (omega arith, (omega arith, (omega arith, (omega arith, (omega arith, (omega arith, (omega arith, (omega arith, (omega arith, (omega arith, (omega arith, (omega arith, (omega arith, (omega arith, (omega arith, (omega arith, (omega arith, (omega arith, (omega arith, (omega arith, (omega arith, (omega arith, (omega arith, (omega arith, (omega arith, (omega arith, (omega arith, (omega arith, (omega arith, (omega arith, (omega arith, (omega arith, (omega arith, (omega arith, (omega arith, tt))))))))))))))))))))))))))))))))))))))))))))
 
 -- what the text begins with is no longer than the mark at its front
 pub longest : (z : Bytes) (m other : Mark) → mark_at z ≡ Some m → starts_with nat_eq z (mark_text other) ≡ true → length (mark_text other) ≤ length (mark_text m)
 unfolding mark_at
-longest z m other e passes = subst (λ o. IsLongest (λ j. starts_with nat_eq z (mark_text j)) o other) e (longest_in (λ j. starts_with nat_eq z (mark_text j)) (place other) 3 all_marks other descends (stands_there other) passes)
+longest z m other e passes = subst (λ o. IsLongest (λ j. starts_with nat_eq z (mark_text j)) o other) e (longest_in (λ j. starts_with nat_eq z (mark_text j)) (place other) 3 MARKS other descends (stands_there other) passes)
 
 -- a text without a mark at its front begins with none
 pub no_mark : (z : Bytes) (other : Mark) → mark_at z ≡ None → starts_with nat_eq z (mark_text other) ≡ true → ⊥
 unfolding mark_at
 no_mark z other e passes =
-    let fails : starts_with nat_eq z (mark_text other) ≡ false = subst (λ o. IsLongest (λ j. starts_with nat_eq z (mark_text j)) o other) e (longest_in (λ j. starts_with nat_eq z (mark_text j)) (place other) 3 all_marks other descends (stands_there other) passes) in
+    let fails : starts_with nat_eq z (mark_text other) ≡ false = subst (λ o. IsLongest (λ j. starts_with nat_eq z (mark_text j)) o other) e (longest_in (λ j. starts_with nat_eq z (mark_text j)) (place other) 3 MARKS other descends (stands_there other) passes) in
     let both : true ≡ false = sym passes ∙ fails in
     absurd cc
 
 pub mark_begins : (z : Bytes) (m : Mark) → mark_at z ≡ Some m → starts_with nat_eq z (mark_text m) ≡ true
 unfolding mark_at
-mark_begins z m e = found_passes (λ j. starts_with nat_eq z (mark_text j)) all_marks m e
+mark_begins z m e = found_passes (λ j. starts_with nat_eq z (mark_text j)) MARKS m e

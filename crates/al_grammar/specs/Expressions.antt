@@ -8,7 +8,9 @@ use Rattle.al_source.specs.declared.source_tree.Expr.{Expr}
 use Rattle.al_source.specs.declared.source_tree.Expr.TheVariants as e
 use Rattle.al_grammar.specs.declared.operators.Joint.{Joint}
 use Rattle.al_grammar.specs.declared.operators.Prefix.{Prefix}
-use Rattle.al_grammar.specs.Operators.{infix_of, levels, join, prefix_of, apply}
+use Rattle.al_source.specs.declared.limits.TheConstants.{EXPRESSION_OPERATORS}
+use Rattle.al_grammar.specs.declared.operators.TheConstants.{LEVELS}
+use Rattle.al_grammar.specs.Operators.{infix_of, join, prefix_of, apply}
 use Rattle.al_grammar.specs.Phrases.{Tokens, Name, Takes, Means}
 use Rattle.al_grammar.specs.Types.{SizeOf}
 
@@ -26,8 +28,8 @@ mutual
   pub data Reads : Sort → State → Expr → State → Type 0 where
     joined : {p n : ℕ} {s s' : State} {x y : Expr} {op : Joint} {ts us : Tokens}
         → Reads (level p) s x (suc n, ts) → Means infix_of (p, op) ts us → Reads (level (suc p)) (n, us) y s' → Reads (level p) s (join op x y) s'
-    tighter : {p : ℕ} {s s' : State} {x : Expr} → p < levels → Reads (level (suc p)) s x s' → Reads (level p) s x s'
-    operand : {s s' : State} {x : Expr} → Reads unary s x s' → Reads (level levels) s x s'
+    tighter : {p : ℕ} {s s' : State} {x : Expr} → p < LEVELS → Reads (level (suc p)) s x s' → Reads (level p) s x s'
+    operand : {s s' : State} {x : Expr} → Reads unary s x s' → Reads (level LEVELS) s x s'
     prefixed : {n : ℕ} {s' : State} {x : Expr} {op : Prefix} {ts us : Tokens}
         → Means prefix_of op ts us → Reads unary (n, us) x s' → Reads unary (suc n, ts) (apply op x) s'
     plain : {s s' : State} {x : Expr} → Reads postfix s x s' → Reads unary s x s'
@@ -65,16 +67,12 @@ mutual
     more : {k : ℕ} {s s' : State} {x : Expr} {xs : List Expr} {ts us : Tokens}
         → Reads (level 0) s x (k, ts) → Takes (Mark m.Comma) ts us → More (k, us) xs s' → More s (x ∷ xs) s'
 
--- how many operators a whole expression may have
-abbrev pub max_operators : ℕ
-max_operators = 128
-
 -- a whole expression
 pub record Expression (ts : Tokens) (x : Expr) (us : Tokens) : Type 0 where
   pub left : ℕ
-  pub reads : Reads (level 0) (max_operators, ts) x (left, us)
+  pub reads : Reads (level 0) (EXPRESSION_OPERATORS, ts) x (left, us)
 
 -- the place of an assignment
 pub record Place (ts : Tokens) (x : Expr) (us : Tokens) : Type 0 where
   pub left : ℕ
-  pub reads : Reads unary (max_operators, ts) x (left, us)
+  pub reads : Reads unary (EXPRESSION_OPERATORS, ts) x (left, us)

@@ -13,12 +13,9 @@ use Rattle.al_source.specs.declared.source_tree.Item.{Item}
 use Rattle.al_source.specs.declared.source_tree.Item.TheVariants as item
 use Rattle.al_source.specs.declared.source_tree.Program.{Program}
 use Rattle.al_grammar.specs.Phrases.{Tokens, Name, Takes, line_at}
-use Rattle.al_grammar.specs.Types.{Base, Stars, max_stars, Declarator}
+use Rattle.al_source.specs.declared.limits.TheConstants.{DECLARATOR_STARS, STATEMENT_NESTING}
+use Rattle.al_grammar.specs.Types.{Base, Stars, Declarator}
 use Rattle.al_grammar.specs.Statements.{Inners}
-
--- how deep the statements of a function may nest
-abbrev pub max_nesting : ℕ
-max_nesting = 128
 
 -- ---- structs
 
@@ -64,7 +61,7 @@ pub data ResultBase : Tokens → CType → Tokens → Type 0 where
 
 pub data Param : Tokens → Field → Tokens → Type 0 where
   param : {ts us vs ws : Tokens} {a b : CType} {w : Name}
-      → Base ts a us → Stars max_stars a us b vs → Takes (Word w) vs ws → Param ts (record { name = w; ty = b }) ws
+      → Base ts a us → Stars DECLARATOR_STARS a us b vs → Takes (Word w) vs ws → Param ts (record { name = w; ty = b }) ws
 
 -- at least one parameter, to the `)`
 pub data ParamList : Tokens → List Field → Tokens → Type 0 where
@@ -88,8 +85,8 @@ pub data Items : Tokens → List Item → Tokens → Type 0 where
       → Items t₀ (item.Struct (record { name = w; fields = fs; line = line_at t₀ }) ∷ []) t₆
   globals : {ts us vs : Tokens} {a : CType} {is : List Item} → Base ts a us → Globals (line_at ts) a us is vs → Items ts is vs
   function : {t₀ t₁ t₂ t₃ t₄ t₅ t₆ t₇ t₈ : Tokens} {a b : CType} {w : Name} {fs : List Field} {ss : List Stmt}
-      → ResultBase t₀ a t₁ → Stars max_stars a t₁ b t₂ → Takes (Word w) t₂ t₃ → Takes (Mark m.LeftParen) t₃ t₄ → Params t₄ fs t₅
-      → Takes (Mark m.LeftBrace) t₅ t₆ → Inners max_nesting t₆ ss t₇ → Takes (Mark m.RightBrace) t₇ t₈
+      → ResultBase t₀ a t₁ → Stars DECLARATOR_STARS a t₁ b t₂ → Takes (Word w) t₂ t₃ → Takes (Mark m.LeftParen) t₃ t₄ → Params t₄ fs t₅
+      → Takes (Mark m.LeftBrace) t₅ t₆ → Inners STATEMENT_NESTING t₆ ss t₇ → Takes (Mark m.RightBrace) t₇ t₈
       → Items t₀ (item.Func (record { name = w; result = b; params = fs; body = ss; line = line_at t₀ }) ∷ []) t₈
 
 pub data AllItems : Tokens → List Item → Type 0 where

@@ -23,6 +23,7 @@ use Rattle.al_source.specs.declared.source_tree.StmtKind.TheVariants as kind
 use Rattle.al_grammar.specs.declared.operators.NoteWord.TheVariants as word
 use Rattle.al_grammar.specs.Operators.{update_of, step_of, note_word_of}
 use Rattle.al_grammar.specs.Phrases.{Tokens, Name, Takes, Means, line_at}
+use Rattle.al_grammar.specs.Words.{key_text}
 use Rattle.al_grammar.specs.Types.{Base, Declarator}
 use Rattle.al_grammar.specs.Expressions.{Expression, Place}
 
@@ -56,6 +57,11 @@ pub data PrintValues : Tokens → List Expr → Tokens → Type 0 where
   none : {ts us : Tokens} → Takes (Mark m.RightParen) ts us → PrintValues ts [] us
   some : {ts us vs : Tokens} {xs : List Expr} → Takes (Mark m.Comma) ts us → Values us xs vs → PrintValues ts xs vs
 
+-- an expression in parentheses
+pub data Parenthesized : Tokens → Expr → Tokens → Type 0 where
+  parenthesized : {ts us vs ws : Tokens} {x : Expr}
+      → Takes (Mark m.LeftParen) ts us → Expression us x vs → Takes (Mark m.RightParen) vs ws → Parenthesized ts x ws
+
 -- ---- simple: a statement without its `;`
 
 pub data Simple : Tokens → StmtKind → Tokens → Type 0 where
@@ -69,6 +75,9 @@ pub data Simple : Tokens → StmtKind → Tokens → Type 0 where
       → Takes (Word w) ts us → Takes (Mark m.LeftParen) us vs → CallValues vs xs ws → Simple ts (kind.Call w xs) ws
   print : {ts us vs ws zs : Tokens} {f : List Piece} {xs : List Expr}
       → Takes (Key key.Printf) ts us → Takes (Mark m.LeftParen) us vs → Takes (Text f) vs ws → PrintValues ws xs zs → Simple ts (kind.Print f xs) zs
+  -- in the tree a call of the name `free`, which no function can have
+  free : {ts us vs : Tokens} {x : Expr}
+      → Takes (Key key.Free) ts us → Parenthesized us x vs → Simple ts (kind.Call (key_text key.Free) (x ∷ [])) vs
 
 -- ---- note: what stands between the ends of an annotation
 
@@ -100,7 +109,7 @@ pub data Note : Tokens → LoopNote → Tokens → Type 0 where
   note : {ts us vs ws : Tokens} {p : Policy} {o : CommitOrder} {rs : List NamedRed}
       → NotePolicy ts p us → NoteOrder us o vs → Reductions vs rs ws → Note ts (record { policy = p; order = o; reduce = rs }) ws
 
--- ---- the head of a `for`, and of an `if` or `while`
+-- ---- the head of a `for`
 
 pub data Maybe : Tokens → Option Expr → Tokens → Type 0 where
   nothing : {ts : Tokens} → Maybe ts None ts
@@ -124,11 +133,6 @@ pub data Head : Tokens → Option Stmt → Option Expr → Option Stmt → Token
       → Takes (Key key.For) t₀ t₁ → Takes (Mark m.LeftParen) t₁ t₂ → First t₂ first t₃ → Takes (Mark m.Semicolon) t₃ t₄
       → Maybe t₄ test t₅ → Takes (Mark m.Semicolon) t₅ t₆ → Third t₆ third t₇ → Takes (Mark m.RightParen) t₇ t₈
       → Head t₀ first test third t₈
-
--- an expression in parentheses
-pub data Condition : Tokens → Expr → Tokens → Type 0 where
-  condition : {ts us vs ws : Tokens} {x : Expr}
-      → Takes (Mark m.LeftParen) ts us → Expression us x vs → Takes (Mark m.RightParen) vs ws → Condition ts x ws
 
 -- ---- the declarations of a block
 
@@ -166,12 +170,12 @@ mutual
     simple : {d : ℕ} {ts us vs : Tokens} {k : StmtKind} → Simple ts k us → Takes (Mark m.Semicolon) us vs → Statement (suc d) ts (at ts k) vs
     -- An `else` belongs to the nearest `if`.
     if_only : {d : ℕ} {ts us vs ws : Tokens} {c : Expr} {x : Stmt}
-        → Takes (Key key.If) ts us → Condition us c vs → Statement d vs x ws → else_next ws ≡ false → Statement (suc d) ts (at ts (kind.If c x None)) ws
+        → Takes (Key key.If) ts us → Parenthesized us c vs → Statement d vs x ws → else_next ws ≡ false → Statement (suc d) ts (at ts (kind.If c x None)) ws
     if_else : {d : ℕ} {ts us vs ws xs ys : Tokens} {c : Expr} {x y : Stmt}
-        → Takes (Key key.If) ts us → Condition us c vs → Statement d vs x ws → Takes (Key key.Else) ws xs → Statement d xs y ys
+        → Takes (Key key.If) ts us → Parenthesized us c vs → Statement d vs x ws → Takes (Key key.Else) ws xs → Statement d xs y ys
         → Statement (suc d) ts (at ts (kind.If c x (Some y))) ys
     while_loop : {d : ℕ} {ts us vs ws : Tokens} {c : Expr} {x : Stmt}
-        → Takes (Key key.While) ts us → Condition us c vs → Statement d vs x ws → Statement (suc d) ts (at ts (kind.While c x)) ws
+        → Takes (Key key.While) ts us → Parenthesized us c vs → Statement d vs x ws → Statement (suc d) ts (at ts (kind.While c x)) ws
     for_loop : {d : ℕ} {ts us vs : Tokens} {first third : Option Stmt} {test : Option Expr} {x : Stmt}
         → Head ts first test third us → Statement d us x vs → Statement (suc d) ts (at ts (kind.For first test third x None)) vs
     -- An annotated loop has the line of its `for`.
