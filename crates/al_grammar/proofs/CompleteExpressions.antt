@@ -92,7 +92,9 @@ is_stop m.Increment = true
 is_stop m.Decrement = true
 is_stop _ = false
 
-stops_by : (k : the_mark.Mark) (s : State) → is_stop k ≡ true → ((x : Expr) → suffix_by parse x (Some k) s ≡ Ok (x, s)) × ((w : Name) → named_by parse w (Some k) s ≡ Ok (e.Var w, s)) × (infix_of (Mark k) ≡ None)
+stops_by : (k : the_mark.Mark) (s : State)
+    → is_stop k ≡ true
+    → ((x : Expr) → suffix_by parse x (Some k) s ≡ Ok (x, s)) × ((w : Name) → named_by parse w (Some k) s ≡ Ok (e.Var w, s)) × (infix_of (Mark k) ≡ None)
 stops_by m.RightParen s d = ((λ x. refl), (λ w. refl), refl)
 stops_by m.RightBracket s d = ((λ x. refl), (λ w. refl), refl)
 stops_by m.Semicolon s d = ((λ x. refl), (λ w. refl), refl)
@@ -286,7 +288,8 @@ Complete g.postfix s x s' = parse postfix s ≡ parse (suffix x) s'
 Complete g.primary s x s' = parse primary s ≡ Ok (x, s')
 
 -- a mark that begins no arguments
-no_call : (k : the_mark.Mark) (n : ℕ) (t : Token) (ts : Tokens) → t.kind ≡ Mark k → ((w : Name) → named_by parse w (Some k) (n, t ∷ ts) ≡ Ok (e.Var w, (n, t ∷ ts))) → NoCall (n, t ∷ ts)
+no_call : (k : the_mark.Mark) (n : ℕ) (t : Token) (ts : Tokens)
+    → t.kind ≡ Mark k → ((w : Name) → named_by parse w (Some k) (n, t ∷ ts) ≡ Ok (e.Var w, (n, t ∷ ts))) → NoCall (n, t ∷ ts)
 no_call k n t ts dt h w = ap (λ c. named_by parse w (mark_in (Some c)) (n, t ∷ ts)) dt ∙ h w
 
 element_is : {ts us vs ws : Tokens} {a : CType} → Takes (Mark m.Comma) ts us → SizeOf us a vs → Takes (Mark m.RightParen) vs ws → element_size ts ≡ Ok (a, ws)
@@ -322,7 +325,8 @@ mutual
       complete r (no_call m.LeftBracket (suc n) t ts dt (λ w. refl))
       ∙ parse_is (suffix x) (suc n, t ∷ ts)
       ∙ ap (λ c. suffix_by parse x (mark_in (Some c)) (suc n, t ∷ ts)) dt
-      ∙ ap (λ o. bind (bind o (λ i s. bind (lift (expect m.RightBracket) s) (λ _ s. Ok (e.Index x i, s)))) (λ y. parse (suffix y))) (complete q (stops_at 0 _ end) ∙ end.climb 0 i)
+      ∙ ap (λ o. bind (bind o (λ i s. bind (lift (expect m.RightBracket) s) (λ _ s. Ok (e.Index x i, s)))) (λ y. parse (suffix y)))
+      (complete q (stops_at 0 _ end) ∙ end.climb 0 i)
       ∙ ap (λ o. bind (bind (keep k o) (λ _ s. Ok (e.Index x i, s))) (λ y. parse (suffix y))) (takes_expect u)
   complete (g.dot {n = n} {s = s} {x = x} {w = w} r (takes {t = t} dt) (takes {t = u} {ts = ts} du)) h =
       complete r (no_call m.Dot (suc n) t (u ∷ ts) dt (λ w. refl))
@@ -394,5 +398,6 @@ pub complete_place : {ts us : Tokens} {x : Expr} → Place ts x us → ((n : ℕ
 complete_place q h = ap forget (complete q.reads (h q.left).operand)
 
 -- before a mark that stops
-pub expression_before : {k : the_mark.Mark} {ts us vs : Tokens} {x : Expr} → is_stop k ≡ true → Expression ts x us → Takes (Mark k) us vs → expression ts ≡ Ok (x, us)
+pub expression_before : {k : the_mark.Mark} {ts us vs : Tokens} {x : Expr}
+    → is_stop k ≡ true → Expression ts x us → Takes (Mark k) us vs → expression ts ≡ Ok (x, us)
 expression_before s q t = complete_expression q (λ n. stops_takes n t s)

@@ -53,7 +53,8 @@ takes_mark t = ap mark_in (takes_kind t)
 no_meaning : {A : Type 0} {k : TokenKind} {ts us : Tokens} (table : TokenKind → Option A) → Takes k ts us → table k ≡ None → meaning_at table ts ≡ None
 no_meaning table t e = ap (λ o. meaning_in table o) (takes_kind t) ∙ e
 
-begins_mark : {A : Type 0} {ts : Tokens} (f : Option the_mark.Mark → A) (x : A) → Begins begins_expr ts → ((k : TokenKind) → begins_expr k ≡ true → f (mark_in (Some k)) ≡ x) → f (mark_at ts) ≡ x
+begins_mark : {A : Type 0} {ts : Tokens} (f : Option the_mark.Mark → A) (x : A)
+    → Begins begins_expr ts → ((k : TokenKind) → begins_expr k ≡ true → f (mark_in (Some k)) ≡ x) → f (mark_at ts) ≡ x
 begins_mark f x (begins {t = t} d) h = h t.kind d
 
 -- ---- calls
@@ -95,7 +96,8 @@ call_ends : {ts : Tokens} (k : StmtKind) → EndsCall ts → p.call_end k ts ≡
 call_ends k (semicolon t) = rw (takes_mark t) refl
 call_ends k (paren t) = rw (takes_mark t) refl
 
-call_is : {w : Name} {ts us vs ws : Tokens} {xs : List Expr} → Takes (Word w) ts us → Takes (Mark m.LeftParen) us vs → CallValues vs xs ws → EndsCall ws → p.call w ts ≡ Ok (kind.Call w xs, ws)
+call_is : {w : Name} {ts us vs ws : Tokens} {xs : List Expr}
+    → Takes (Word w) ts us → Takes (Mark m.LeftParen) us vs → CallValues vs xs ws → EndsCall ws → p.call w ts ≡ Ok (kind.Call w xs, ws)
 call_is {w} {xs = xs} t u r h = rw (takes_tail t, takes_expect u, complete_call_values r) (call_ends (kind.Call w xs) h)
 
 -- ---- a call that ends its statement is no place of an assignment
@@ -155,7 +157,8 @@ roomy : {ts us : Tokens} {xs : List Expr} → CallValues ts xs us → Roomy ts x
 roomy (g.none t) = record { room = 0; left = 0; reads = gr.none t }
 roomy (g.some r) = let q = roomy_more r in record { room = q.room; left = q.left; reads = gr.some q.reads }
 
-one_call : {w : Name} {ts us vs ws : Tokens} {xs : List Expr} {n l : ℕ} → Takes (Word w) ts us → Takes (Mark m.LeftParen) us vs → gr.Arguments (n, vs) xs (l, ws) → Reads gr.unary (suc n, ts) (e.Call w xs) (l, ws)
+one_call : {w : Name} {ts us vs ws : Tokens} {xs : List Expr} {n l : ℕ}
+    → Takes (Word w) ts us → Takes (Mark m.LeftParen) us vs → gr.Arguments (n, vs) xs (l, ws) → Reads gr.unary (suc n, ts) (e.Call w xs) (l, ws)
 one_call t u r = gr.plain (gr.bare (gr.call t u r))
 
 unwrap : {x y : Expr × Tokens} → ◌≡◌ {A = Read Expr} (Ok x) (Ok y) → x ≡ y
@@ -207,7 +210,8 @@ record IsPlaced (ts : Tokens) (k : StmtKind) (us : Tokens) : Type 0 where
   assigns : Assigns behind
   is : p.assign x behind ≡ Ok (k, us)
 
-assigned : {ts us vs ws : Tokens} {x y : Expr} → Place ts x us → Takes (Mark m.Assign) us vs → Expression vs y ws → Follows ws → IsPlaced ts (kind.Assign x y) ws
+assigned : {ts us vs ws : Tokens} {x y : Expr}
+    → Place ts x us → Takes (Mark m.Assign) us vs → Expression vs y ws → Follows ws → IsPlaced ts (kind.Assign x y) ws
 assigned {us = us} {x = x} q t r h = record {
   x = x;
   behind = us;
@@ -216,7 +220,8 @@ assigned {us = us} {x = x} q t r h = record {
   is = rw (no_meaning update_of t refl, no_meaning step_of t refl, takes_expect t, complete_expression r (stops_follows h)) refl;
 }
 
-updated : {ts us vs ws : Tokens} {x y : Expr} {op : BinOp} → Place ts x us → Means update_of op us vs → Expression vs y ws → Follows ws → IsPlaced ts (kind.Update op x y) ws
+updated : {ts us vs ws : Tokens} {x y : Expr} {op : BinOp}
+    → Place ts x us → Means update_of op us vs → Expression vs y ws → Follows ws → IsPlaced ts (kind.Update op x y) ws
 updated {us = us} {x = x} q t r h = record {
   x = x;
   behind = us;
@@ -266,7 +271,8 @@ step_first _ op ts d = absurd cc
 before_simple : {op : BinOp} {ts us : Tokens} → Means step_of op ts us → p.simple ts ≡ p.before_by (Some op) ts
 before_simple {op} (means {t = t} {ts = ts} d) = step_first t.kind op (t ∷ ts) d ∙ ap (λ o. p.before_by o (t ∷ ts)) d
 
-call_simple : {w : Name} {ts us vs ws : Tokens} {xs : List Expr} → Takes (Word w) ts us → Takes (Mark m.LeftParen) us vs → CallValues vs xs ws → EndsCall ws → p.simple ts ≡ Ok (kind.Call w xs, ws)
+call_simple : {w : Name} {ts us vs ws : Tokens} {xs : List Expr}
+    → Takes (Word w) ts us → Takes (Mark m.LeftParen) us vs → CallValues vs xs ws → EndsCall ws → p.simple ts ≡ Ok (kind.Call w xs, ws)
 call_simple {w} {ts} t u r h = ap (λ c. p.simple_by c ts) (takes_kind t) ∙ ap (λ o. p.first o (p.placed ts)) (call_is t u r h)
 
 pub complete_simple : {ts us : Tokens} {k : StmtKind} → Simple ts k us → Follows us → p.simple ts ≡ Ok (k, us)
@@ -280,7 +286,8 @@ complete_simple (g.free t q) h = rw (takes_kind t, takes_tail t, complete_parent
 
 -- ---- annotations
 
-complete_policy : {ts us : Tokens} {a : Policy} → NotePolicy ts a us → ((b : Policy) → meaning_at note_word_of us ≡ Some (note.Policy b) → ⊥) → p.note_policy ts ≡ Ok (a, us)
+complete_policy : {ts us : Tokens} {a : Policy}
+    → NotePolicy ts a us → ((b : Policy) → meaning_at note_word_of us ≡ Some (note.Policy b) → ⊥) → p.note_policy ts ≡ Ok (a, us)
 complete_policy (g.absent {ts = ts}) h = by (meaning_at note_word_of ts) refl
   where
     by : (o : Option NoteWord) → meaning_at note_word_of ts ≡ o → p.policy_by o ts ≡ Ok (policy.Raw, ts)
@@ -288,7 +295,8 @@ complete_policy (g.absent {ts = ts}) h = by (meaning_at note_word_of ts) refl
     by _ d = refl
 complete_policy (g.written t) h = rw (means_at t, means_tail t) refl
 
-complete_order : {ts us : Tokens} {a : CommitOrder} → NoteOrder ts a us → ((b : CommitOrder) → meaning_at note_word_of us ≡ Some (note.Order b) → ⊥) → p.note_order ts ≡ Ok (a, us)
+complete_order : {ts us : Tokens} {a : CommitOrder}
+    → NoteOrder ts a us → ((b : CommitOrder) → meaning_at note_word_of us ≡ Some (note.Order b) → ⊥) → p.note_order ts ≡ Ok (a, us)
 complete_order (g.absent {ts = ts}) h = by (meaning_at note_word_of ts) refl
   where
     by : (o : Option NoteWord) → meaning_at note_word_of ts ≡ o → p.order_by o ts ≡ Ok (order.InOrder, ts)
@@ -296,7 +304,8 @@ complete_order (g.absent {ts = ts}) h = by (meaning_at note_word_of ts) refl
     by _ d = refl
 complete_order (g.written t) h = rw (means_at t, means_tail t) refl
 
-complete_variables : {op : RedOp} {ts us : Tokens} {rs : List NamedRed} (found : List NamedRed) → Reduced op ts rs us → repeat (p.variable op) found ts ≡ Ok (found ++ rs, us)
+complete_variables : {op : RedOp} {ts us : Tokens} {rs : List NamedRed} (found : List NamedRed)
+    → Reduced op ts rs us → repeat (p.variable op) found ts ≡ Ok (found ++ rs, us)
 complete_variables {op} {ts} {us} found (g.last {w = w} t u) =
     repeat_last (p.variable op) (variable_shorter op) found (found ++ reduced op w ∷ []) ts us (rw (takes_word t, takes_mark u, takes_tail u) refl)
 complete_variables {op} {ts} {us} found (g.more {vs = vs} {w = w} {xs = xs} t u r) =
@@ -308,11 +317,13 @@ complete_variables {op} {ts} {us} found (g.more {vs = vs} {w = w} {xs = xs} t u 
 end_says : {ts us : Tokens} → Takes EndAlter ts us → meaning_at note_word_of ts ≡ None
 end_says t = no_meaning note_word_of t refl
 
-complete_reductions : {ts us vs : Tokens} {rs : List NamedRed} (found : List NamedRed) → Reductions ts rs us → Takes EndAlter us vs → repeat p.reduce_turn found ts ≡ Ok (found ++ rs, us)
+complete_reductions : {ts us vs : Tokens} {rs : List NamedRed} (found : List NamedRed)
+    → Reductions ts rs us → Takes EndAlter us vs → repeat p.reduce_turn found ts ≡ Ok (found ++ rs, us)
 complete_reductions found (g.none {ts = ts}) t =
     repeat_last p.reduce_turn reduce_shorter found found ts ts (rw (end_says t) refl) ∙ ap (λ l. Ok (l, ts)) (sym (append-nil found))
 complete_reductions {ts} {us} found (g.reduce {ys = ys} {ns = ns} {rs = rs} a b c d r q) t =
-    repeat_next p.reduce_turn reduce_shorter found (found ++ ns) ts ys (rw (means_at a, means_tail a, takes_expect b, means_at c, means_tail c, takes_expect d, complete_variables found r) refl)
+    repeat_next p.reduce_turn reduce_shorter found (found ++ ns) ts ys
+    (rw (means_at a, means_tail a, takes_expect b, means_at c, means_tail c, takes_expect d, complete_variables found r) refl)
     ∙ complete_reductions (found ++ ns) q t
     ∙ ap (λ l. Ok (l, us)) (append_assoc found ns rs)
 
@@ -334,7 +345,8 @@ says_reductions : {ts us vs : Tokens} {rs : List NamedRed} → Reductions ts rs 
 says_reductions g.none t = nothing t
 says_reductions (g.reduce a b c d r q) t = says a refl
 
-says_order : {ts us vs ws : Tokens} {a : CommitOrder} {rs : List NamedRed} → NoteOrder ts a us → Reductions us rs vs → Takes EndAlter vs ws → Says is_order_or_reduce ts
+says_order : {ts us vs ws : Tokens} {a : CommitOrder} {rs : List NamedRed}
+    → NoteOrder ts a us → Reductions us rs vs → Takes EndAlter vs ws → Says is_order_or_reduce ts
 says_order (g.written a) r t = says a refl
 says_order g.absent r t = wider (says_reductions r t)
   where
@@ -355,7 +367,8 @@ says_no_order (says {a = a} t e) b d = let is : a ≡ note.Order b = word_same (
 
 says_no_policy : {ts : Tokens} → Says is_order_or_reduce ts → (b : Policy) → meaning_at note_word_of ts ≡ Some (note.Policy b) → ⊥
 says_no_policy (nothing t) b d = some_none (sym d ∙ end_says t)
-says_no_policy (says {a = a} t e) b d = let is : a ≡ note.Policy b = word_same (sym (means_at t) ∙ d) in let no : false ≡ true = ap is_order_or_reduce (sym is) ∙ e in cc
+says_no_policy (says {a = a} t e) b d =
+    let is : a ≡ note.Policy b = word_same (sym (means_at t) ∙ d) in let no : false ≡ true = ap is_order_or_reduce (sym is) ∙ e in cc
 
 complete_note : {ts us vs : Tokens} {n : LoopNote} → Note ts n us → Takes EndAlter us vs → p.loop_note ts ≡ Ok (n, us)
 complete_note (g.note a b r) t =
@@ -428,10 +441,13 @@ simple_open (begins {t = t} {ts = ts} d) = by t.kind refl d
     no_base (Key key.Struct) d = absurd cc
     no_base _ d = refl
 
-    plain : (c : TokenKind) → t.kind ≡ c → begins_simple c ≡ true → bind (p.lined (p.first_kind (p.begins_base (key_at (t ∷ ts)))) (t ∷ ts)) (λ s. pure (Some s)) ≡ bind (p.lined p.simple (t ∷ ts)) (λ s. pure (Some s))
+    plain : (c : TokenKind)
+        → t.kind ≡ c → begins_simple c ≡ true
+        → bind (p.lined (p.first_kind (p.begins_base (key_at (t ∷ ts)))) (t ∷ ts)) (λ s. pure (Some s)) ≡ bind (p.lined p.simple (t ∷ ts)) (λ s. pure (Some s))
     plain c dt f = ap (λ b. bind (p.lined (p.first_kind b) (t ∷ ts)) (λ s. pure (Some s))) (ap (λ k. p.begins_base (key_in (Some k))) dt ∙ no_base c f)
 
-    by : (c : TokenKind) → t.kind ≡ c → begins_simple t.kind ≡ true → p.first_by (mark_in (Some c)) (t ∷ ts) ≡ bind (p.lined p.simple (t ∷ ts)) (λ s. pure (Some s))
+    by : (c : TokenKind)
+        → t.kind ≡ c → begins_simple t.kind ≡ true → p.first_by (mark_in (Some c)) (t ∷ ts) ≡ bind (p.lined p.simple (t ∷ ts)) (λ s. pure (Some s))
     by (Mark m.Semicolon) dt f = absurd (let no : false ≡ true = sym (ap begins_simple dt) ∙ f in cc)
     by c dt f = plain c dt (ap begins_simple (sym dt) ∙ f)
 
@@ -467,14 +483,17 @@ base_open : {ts : Tokens} → FirstBase ts → p.first_part ts ≡ bind (p.lined
 base_open {ts} f = ap (λ k. p.first_by k ts) (base_mark f) ∙ ap (λ b. bind (p.lined (p.first_kind b) ts) (λ s. pure (Some s))) (base_begins f)
 
 first_declaration_is : {ts us vs ws xs ys : Tokens} {a : CType} {f : Field} {x : Expr}
-    → Base ts a us → Declarator a us f vs → Takes (Mark m.Assign) vs ws → Expression ws x xs → Takes (Mark m.Semicolon) xs ys → p.first_declaration ts ≡ Ok (kind.Declare f.ty f.name (Some x), xs)
+    → Base ts a us → Declarator a us f vs → Takes (Mark m.Assign) vs ws → Expression ws x xs → Takes (Mark m.Semicolon) xs ys
+    → p.first_declaration ts ≡ Ok (kind.Declare f.ty f.name (Some x), xs)
 unfolding same_mark
-first_declaration_is b d t q u = rw (complete_base b (ends_declarator d), complete_declarator d (not_mark m.LeftBracket t refl), takes_expect t, expression_before refl q u) refl
+first_declaration_is b d t q u =
+    rw (complete_base b (ends_declarator d), complete_declarator d (not_mark m.LeftBracket t refl), takes_expect t, expression_before refl q u) refl
 
 complete_first : {ts us vs : Tokens} {x : Option Stmt} → First ts x us → Takes (Mark m.Semicolon) us vs → p.first_part ts ≡ Ok (x, us)
 complete_first g.nothing t = rw (takes_mark t) refl
 complete_first (g.declares {ts = ts} {xs = xs} {f = f} {x = x} b d t q) u =
-    base_open (first_base b) ∙ ap (λ o. bind o (λ s. pure (Some s))) (lined_is p.first_declaration ts xs (kind.Declare f.ty f.name (Some x)) (first_declaration_is b d t q u))
+    base_open (first_base b)
+    ∙ ap (λ o. bind o (λ s. pure (Some s))) (lined_is p.first_declaration ts xs (kind.Declare f.ty f.name (Some x)) (first_declaration_is b d t q u))
 complete_first (g.simple {ts = ts} {us = us} {k = k} s) t =
     simple_open (first_simple s) ∙ ap (λ o. bind o (λ s. pure (Some s))) (lined_is p.simple ts us k (complete_simple s (by_semicolon t)))
 
@@ -489,17 +508,20 @@ complete_head (g.head f o a s b t c r) =
 
 -- ---- declarations
 
-complete_initializer : {k : the_mark.Mark} {ts us vs : Tokens} {x : Option Expr} → Initializer ts x us → Takes (Mark k) us vs → is_stop k ≡ true → is_mark_in m.Assign (Some k) ≡ false → p.initializer ts ≡ Ok (x, us)
+complete_initializer : {k : the_mark.Mark} {ts us vs : Tokens} {x : Option Expr}
+    → Initializer ts x us → Takes (Mark k) us vs → is_stop k ≡ true → is_mark_in m.Assign (Some k) ≡ false → p.initializer ts ≡ Ok (x, us)
 complete_initializer g.nothing t s h = rw (not_mark m.Assign t h) refl
 complete_initializer (g.just u q) t s h = rw (takes_is_mark u, takes_tail u, expression_before s q t) refl
 
 -- no `[` comes behind a declared name
-no_bracket : {k : the_mark.Mark} {ts us vs : Tokens} {x : Option Expr} → Initializer ts x us → Takes (Mark k) us vs → is_mark_in m.LeftBracket (Some k) ≡ false → is_mark m.LeftBracket ts ≡ false
+no_bracket : {k : the_mark.Mark} {ts us vs : Tokens} {x : Option Expr}
+    → Initializer ts x us → Takes (Mark k) us vs → is_mark_in m.LeftBracket (Some k) ≡ false → is_mark m.LeftBracket ts ≡ false
 unfolding same_mark
 no_bracket g.nothing t h = not_mark m.LeftBracket t h
 no_bracket (g.just u q) t h = not_mark m.LeftBracket u refl
 
-complete_locals : {line : ℕ} {a : CType} {ts us : Tokens} {ss : List Stmt} (found : List Stmt) → Locals line a ts ss us → repeat (p.local line a) found ts ≡ Ok (found ++ ss, us)
+complete_locals : {line : ℕ} {a : CType} {ts us : Tokens} {ss : List Stmt} (found : List Stmt)
+    → Locals line a ts ss us → repeat (p.local line a) found ts ≡ Ok (found ++ ss, us)
 unfolding same_mark
 complete_locals {line} {a} {ts} {us} found (g.last {f = f} {x = x} d i t) =
     repeat_last (p.local line a) (local_shorter line a) found (found ++ statement_of line (kind.Declare f.ty f.name x) ∷ []) ts us
@@ -514,7 +536,8 @@ ends_locals : {line : ℕ} {a : CType} {ts us : Tokens} {ss : List Stmt} → Loc
 ends_locals (g.last d i t) = ends_declarator d
 ends_locals (g.more d i t r) = ends_declarator d
 
-complete_declaration : {ts us vs : Tokens} {a : CType} {ss : List Stmt} (found : List Stmt) → Base ts a us → Locals (line_at ts) a us ss vs → p.declaration found ts ≡ Ok (found ++ ss, vs)
+complete_declaration : {ts us vs : Tokens} {a : CType} {ss : List Stmt} (found : List Stmt)
+    → Base ts a us → Locals (line_at ts) a us ss vs → p.declaration found ts ≡ Ok (found ++ ss, vs)
 complete_declaration found b r = rw (complete_base b (ends_locals r)) (complete_locals found r)
 
 -- ---- statements
@@ -602,7 +625,8 @@ inner_no_brace (g.declares b r) = base_no_brace (first_base b)
 inner_no_brace (g.statement s) = statement_no_brace (first_statement s)
 
 -- a token that begins a simple statement chooses it
-kind_simple : (d : ℕ) (nested : Step Stmt) {ts : Tokens} → Begins begins_simple ts → p.statement_step d nested ts ≡ p.lined (λ us. bind (p.simple us) p.ended) ts
+kind_simple : (d : ℕ) (nested : Step Stmt) {ts : Tokens}
+    → Begins begins_simple ts → p.statement_step d nested ts ≡ p.lined (λ us. bind (p.simple us) p.ended) ts
 kind_simple d nested (begins {t = t} {ts = ts} f) = by t.kind f
   where
     by : (c : TokenKind) → begins_simple c ≡ true → p.statement_by d nested (Some c) (t ∷ ts) ≡ p.lined (λ us. bind (p.simple us) p.ended) (t ∷ ts)
@@ -627,7 +651,8 @@ mutual
   complete_statement (g.empty t) = rw (takes_kind t, takes_tail t) refl
   complete_statement (g.block {d = d} t r u) = rw (takes_kind t, takes_tail t, complete_inners [] r u, takes_expect u) refl
   complete_statement (g.simple {d = d} {ts = ts} {vs = vs} {k = k} s t) =
-      kind_simple d (p.statement d) (first_simple s) ∙ lined_is (λ us. bind (p.simple us) p.ended) ts vs k (rw (complete_simple s (by_semicolon t), takes_expect t) refl)
+      kind_simple d (p.statement d) (first_simple s)
+      ∙ lined_is (λ us. bind (p.simple us) p.ended) ts vs k (rw (complete_simple s (by_semicolon t), takes_expect t) refl)
   complete_statement (g.if_only {ts = ts} t b s n) = rw (takes_kind t, gate_open ts s, takes_tail t, complete_parenthesized b, complete_statement s, n) refl
   complete_statement (g.if_else {ts = ts} t b s u q) =
       rw (takes_kind t, gate_open ts s, takes_tail t, complete_parenthesized b, complete_statement s, takes_else u, takes_tail u, complete_statement q) refl
@@ -643,9 +668,11 @@ mutual
   complete_inner found (g.declares b r) = rw (base_begins (first_base b)) (complete_declaration found b r)
   complete_inner found (g.statement {d = d} {ts = ts} s) = rw (gate_open ts s, statement_no_base (first_statement s), complete_statement s) refl
 
-  pub complete_inners : {d : ℕ} {ts us vs : Tokens} {ss : List Stmt} (found : List Stmt) → Inners d ts ss us → Takes (Mark m.RightBrace) us vs → repeat (p.inner_turn d (p.statement d)) found ts ≡ Ok (found ++ ss, us)
+  pub complete_inners : {d : ℕ} {ts us vs : Tokens} {ss : List Stmt} (found : List Stmt)
+      → Inners d ts ss us → Takes (Mark m.RightBrace) us vs → repeat (p.inner_turn d (p.statement d)) found ts ≡ Ok (found ++ ss, us)
   complete_inners found (g.done {d = d} {ts = ts}) u =
-      repeat_last (p.inner_turn d (p.statement d)) (inner_shorter_turn d) found found ts ts (rw (takes_is_mark u) refl) ∙ ap (λ l. Ok (l, ts)) (sym (append-nil found))
+      repeat_last (p.inner_turn d (p.statement d)) (inner_shorter_turn d) found found ts ts (rw (takes_is_mark u) refl)
+      ∙ ap (λ l. Ok (l, ts)) (sym (append-nil found))
   complete_inners found (g.next {d = d} {ts = ts} {us = us} {vs = vs} {ss = ss} {rs = rs} r q) u =
       repeat_next (p.inner_turn d (p.statement d)) (inner_shorter_turn d) found (found ++ ss) ts us (rw (inner_no_brace r, complete_inner found r) refl)
       ∙ complete_inners (found ++ ss) q u

@@ -33,7 +33,8 @@ unfolding dimensions
 dimensions_other zero a ts h = refl
 dimensions_other (suc n) a ts h = rw h refl
 
-pub dimensions_more : (n : ℕ) (a : CType) (ts : Tokens) → (n ≡ 0 → ⊥) → is_mark m.LeftBracket ts ≡ true → dimensions n a ts ≡ dimension_by (dimensions (n - 1)) a true ts
+pub dimensions_more : (n : ℕ) (a : CType) (ts : Tokens)
+    → (n ≡ 0 → ⊥) → is_mark m.LeftBracket ts ≡ true → dimensions n a ts ≡ dimension_by (dimensions (n - 1)) a true ts
 unfolding dimensions
 dimensions_more zero a ts ne h = absurd (ne refl)
 dimensions_more (suc n) a ts ne h = let e : n ≡ suc n - 1 = omega arith in rw h (ap (λ n. dimension_by (dimensions n) a true ts) e)

@@ -11,7 +11,8 @@ use Rattle.al_grammar.specs.ExpressionParser.{Outcome, Parser, keep, lift, Job, 
 -- ---- steps that may fail
 
 -- two continuations that agree at what the first step gives
-pub then_same : {A B : Type 0} → (r r' : Outcome A) (k k' : A → Parser B) → r ≡ r' → ((x : A) (s : State) → r' ≡ Ok (x, s) → k x s ≡ k' x s) → bind r k ≡ bind r' k'
+pub then_same : {A B : Type 0}
+    → (r r' : Outcome A) (k k' : A → Parser B) → r ≡ r' → ((x : A) (s : State) → r' ≡ Ok (x, s) → k x s ≡ k' x s) → bind r k ≡ bind r' k'
 then_same r r' k k' e h = ap (λ q. bind q k) e ∙ alike r' h
   where
     alike : (q : Outcome _) → ((x : _) (s : State) → q ≡ Ok (x, s) → k x s ≡ k' x s) → bind q k ≡ bind q k'
@@ -36,7 +37,8 @@ if_true false x z y h e = absurd (h e)
 
 -- ---- the guard
 
-guard_same : (N N' : Job → Parser Expr) (b : ℕ) → ((j : Job) (s : State) → measure j s < b → N j s ≡ N' j s) → (j : Job) (s : State) → guard N b j s ≡ guard N' b j s
+guard_same : (N N' : Job → Parser Expr) (b : ℕ)
+    → ((j : Job) (s : State) → measure j s < b → N j s ≡ N' j s) → (j : Job) (s : State) → guard N b j s ≡ guard N' b j s
 unfolding guard
 guard_same N N' b h j s = if_same (nat_lt (measure j s) b) _ _ _ (λ e. h j s (ltb-true _ _ e))
 
@@ -54,8 +56,11 @@ stable : (f f' : ℕ) (j : Job) (s : State) → measure j s < f → measure j s 
 unfolding go
 stable zero f' j s h h' = absurd (omega arith)
 stable (suc f) zero j s h h' = absurd (omega arith)
-stable (suc f) (suc f') j s h h' = ap (λ N. step N j s) (λ i j' s'. guard_same (go f) (go f') (measure j s) (λ k u l. stable f f' k u (omega arith) (omega arith)) j' s' i)
+stable (suc f) (suc f') j s h h' =
+    ap (λ N. step N j s) (λ i j' s'. guard_same (go f) (go f') (measure j s) (λ k u l. stable f f' k u (omega arith) (omega arith)) j' s' i)
 
 pub parse_step : (j : Job) (s : State) → parse j s ≡ step (guard parse (measure j s)) j s
 unfolding go parse
-parse_step j s = ap (λ N. step N j s) (λ i j' s'. guard_same (go (measure j s)) parse (measure j s) (λ k u l. stable (measure j s) (suc (measure k u)) k u l (omega arith)) j' s' i)
+parse_step j s =
+    ap (λ N. step N j s)
+    (λ i j' s'. guard_same (go (measure j s)) parse (measure j s) (λ k u l. stable (measure j s) (suc (measure k u)) k u l (omega arith)) j' s' i)

@@ -17,7 +17,8 @@ use Rattle.al_grammar.specs.Words.{key_text, mark_text, key_of, mark_at}
 use Rattle.al_grammar.specs.Lexemes.{TextUnit, name_len, named, number_len, number_value, is_number, number_at, number_token, unit_at, inside_from, inside_len, format_of, quoted, marked, Lexeme, lexeme}
 use Rattle.al_grammar.specs.Slices.{IsSpelledBy}
 
-found_next : {X : Type 0} (p : X → Bool) (y : X) (xs : List X) (x : X) → (find p xs ≡ Some x → p x ≡ true) → (b : Bool) → p y ≡ b → cond b (Some y) (find p xs) ≡ Some x → p x ≡ true
+found_next : {X : Type 0} (p : X → Bool) (y : X) (xs : List X) (x : X)
+    → (find p xs ≡ Some x → p x ≡ true) → (b : Bool) → p y ≡ b → cond b (Some y) (find p xs) ≡ Some x → p x ≡ true
 found_next p y xs x rest true is e = let same : y ≡ x = cc in ap p (sym same) ∙ is
 found_next p y xs x rest false is e = rest e
 
@@ -49,14 +50,17 @@ spelled_number : (line : ℕ) (z : Bytes) (o : Option (ℤ × ℕ)) → number_a
 unfolding number_at
 spelled_number line z None e = tt
 spelled_number line z (Some n) e =
-    let is : (pos (number_value (take (number_len z) z)), number_len z) ≡ n = (cond_some (is_number z) (pos (number_value (take (number_len z) z)), number_len z) n e).1 in
+    let is : (pos (number_value (take (number_len z) z)), number_len z) ≡ n =
+    (cond_some (is_number z) (pos (number_value (take (number_len z) z)), number_len z) n e).1 in
     subst (λ (m : ℤ × ℕ). IsSpelledBy (kind.Number m.0) (take m.1 z)) is refl
 
 within_suc : (z : Bytes) (n : ℕ) (o : Option ℕ) → ((k : ℕ) → o ≡ Some k → k < length z) → option_map suc o ≡ Some n → n < suc (length z)
 within_suc z n None h e = absurd cc
 within_suc z n (Some k) h e = let same : suc k ≡ n = cc in let below : k < length z = h k refl in omega arith
 
-within_unit : (z : Bytes) (n : ℕ) (q : Bool) (o : Option TextUnit) → ((left k : ℕ) → inside_from left z ≡ Some k → k < length z) → cond q (Some 0) (option_and_then (λ u. option_map suc (inside_from (u.0 - 1) z)) o) ≡ Some n → n < suc (length z)
+within_unit : (z : Bytes) (n : ℕ) (q : Bool) (o : Option TextUnit)
+    → ((left k : ℕ) → inside_from left z ≡ Some k → k < length z) → cond q (Some 0) (option_and_then (λ u. option_map suc (inside_from (u.0 - 1) z)) o) ≡ Some n
+    → n < suc (length z)
 within_unit z n true o h e = let same : 0 ≡ n = cc in omega arith
 within_unit z n false None h e = absurd cc
 within_unit z n false (Some u) h e = within_suc z n (inside_from (u.0 - 1) z) (λ k d. h (u.0 - 1) k d) e

@@ -34,13 +34,16 @@ module _ (b : ℕ) where
   abbrev G : Job → Parser Expr
   G = guard parse b
 
-  open_climb : (l : ℕ) (x : Expr) (n : ℕ) (ts : Tokens) → length ts * 20 ≤ b → climb_by G l x (meaning_at infix_of ts) (n, ts) ≡ climb_by parse l x (meaning_at infix_of ts) (n, ts)
+  open_climb : (l : ℕ) (x : Expr) (n : ℕ) (ts : Tokens)
+      → length ts * 20 ≤ b → climb_by G l x (meaning_at infix_of ts) (n, ts) ≡ climb_by parse l x (meaning_at infix_of ts) (n, ts)
   open_climb l x n ts h = by (meaning_at infix_of ts) refl
     where
       with_op : (op : Joint) (m : ℕ) (c : Bool) → length (tail ts) < length ts → joined_by G l x op c (m, ts) ≡ joined_by parse l x op c (m, ts)
       with_op op m false lt = refl
       with_op op zero true lt = refl
-      with_op op (suc m) true lt = then_same (G (whole (suc l)) (m, tail ts)) (parse (whole (suc l)) (m, tail ts)) (λ y. G (climb l (join op x y))) (λ y. parse (climb l (join op x y))) (pass parse b _ _ (omega arith)) (λ y s d. let less = took _ _ _ _ d in pass parse b (climb l (join op x y)) s (omega arith))
+      with_op op (suc m) true lt =
+          then_same (G (whole (suc l)) (m, tail ts)) (parse (whole (suc l)) (m, tail ts)) (λ y. G (climb l (join op x y))) (λ y. parse (climb l (join op x y)))
+          (pass parse b _ _ (omega arith)) (λ y s d. let less = took _ _ _ _ d in pass parse b (climb l (join op x y)) s (omega arith))
 
       by : (v : Option (ℕ × Joint)) → meaning_at infix_of ts ≡ v → climb_by G l x v (n, ts) ≡ climb_by parse l x v (n, ts)
       by None d = refl
@@ -52,7 +55,8 @@ module _ (b : ℕ) where
       by : (v : Option Prefix) → meaning_at prefix_of ts ≡ v → (n : ℕ) → unary_by G v (n, ts) ≡ unary_by parse v (n, ts)
       by None d n = pass parse b postfix (n, ts) (omega arith)
       by (Some op) d zero = refl
-      by (Some op) d (suc n) = let lt = means_shorter (at_means ts d) in ap (λ r. bind r (λ x s. Ok (apply op x, s))) (pass parse b unary (n, tail ts) (omega arith))
+      by (Some op) d (suc n) =
+          let lt = means_shorter (at_means ts d) in ap (λ r. bind r (λ x s. Ok (apply op x, s))) (pass parse b unary (n, tail ts) (omega arith))
 
   open_primary : (n : ℕ) (ts : Tokens) → length ts * 20 ≤ b → primary_by G (kind_at ts) (n, ts) ≡ primary_by parse (kind_at ts) (n, ts)
   open_primary n ts h = by (kind_at ts) refl n
@@ -74,7 +78,11 @@ module _ (b : ℕ) where
           (λ x s d. let le = lifted (n, tail ts) s d in pass parse b (whole 0) s (omega arith)))
         where
           lifted : (s s' : State) → lift (expect m.LeftParen) s ≡ Ok (tt, s') → length s'.1 ≤ length s.1
-          lifted s s' d = let (q, dq, is) = lift_ok (expect m.LeftParen) s (tt, s') d in let lt = takes_shorter (expect_is s.1 q dq) in let same : length q.1 ≡ length s'.1 = ap (λ (v : Unit {0} × State). length v.1.1) is in omega arith
+          lifted s s' d =
+              let (q, dq, is) = lift_ok (expect m.LeftParen) s (tt, s') d in
+              let lt = takes_shorter (expect_is s.1 q dq) in
+              let same : length q.1 ≡ length s'.1 = ap (λ (v : Unit {0} × State). length v.1.1) is in
+              omega arith
             where
               expect_is : (ts : Tokens) (q : Unit {0} × Tokens) → expect m.LeftParen ts ≡ Ok q → Takes (Mark m.LeftParen) ts q.1
               expect_is ts q d = expect_takes m.LeftParen ts q d
@@ -82,34 +90,47 @@ module _ (b : ℕ) where
       by : (k : Option TokenKind) → kind_at ts ≡ k → (n : ℕ) → primary_by G k (n, ts) ≡ primary_by parse k (n, ts)
       by (Some (Word w)) d n = after w n (tail ts) (takes_shorter (kind_takes ts d))
       by (Some (Mark m.LeftParen)) d zero = refl
-      by (Some (Mark m.LeftParen)) d (suc n) = let lt = takes_shorter (kind_takes ts d) in ap (λ r. bind r (λ x s. bind (lift (expect m.RightParen) s) (λ _ s. Ok (x, s)))) (pass parse b (whole 0) (n, tail ts) (omega arith))
+      by (Some (Mark m.LeftParen)) d (suc n) =
+          let lt = takes_shorter (kind_takes ts d) in
+          ap (λ r. bind r (λ x s. bind (lift (expect m.RightParen) s) (λ _ s. Ok (x, s)))) (pass parse b (whole 0) (n, tail ts) (omega arith))
       by (Some (Key key.Calloc)) d n = inside n (takes_shorter (kind_takes ts d))
       by _ d n = refl
 
   open_indexed : (x : Expr) (n : ℕ) (ts : Tokens) → length (tail ts) < length ts → length ts * 20 ≤ b → indexed G x (n, ts) ≡ indexed parse x (n, ts)
   open_indexed x zero ts lt h = refl
-  open_indexed x (suc n) ts lt h = ap (λ r. bind r (λ i s. bind (lift (expect m.RightBracket) s) (λ _ s. Ok (e.Index x i, s)))) (pass parse b (whole 0) (n, tail ts) (omega arith))
+  open_indexed x (suc n) ts lt h =
+      ap (λ r. bind r (λ i s. bind (lift (expect m.RightBracket) s) (λ _ s. Ok (e.Index x i, s)))) (pass parse b (whole 0) (n, tail ts) (omega arith))
 
   open_suffix : (x : Expr) (n : ℕ) (ts : Tokens) → length ts * 20 ≤ b → suffix_by G x (mark_at ts) (n, ts) ≡ suffix_by parse x (mark_at ts) (n, ts)
   open_suffix x n ts h = by (mark_at ts) refl
     where
-      after : (o o' : Outcome Expr) → o ≡ o' → ((p : Expr × State) → o' ≡ Ok p → length p.1.1 < length ts) → bind o (λ y. G (suffix y)) ≡ bind o' (λ y. parse (suffix y))
-      after o o' same f = then_same o o' (λ y. G (suffix y)) (λ y. parse (suffix y)) same (λ y s d. let lt = f (y, s) d in pass parse b (suffix y) s (omega arith))
+      after : (o o' : Outcome Expr)
+          → o ≡ o' → ((p : Expr × State) → o' ≡ Ok p → length p.1.1 < length ts) → bind o (λ y. G (suffix y)) ≡ bind o' (λ y. parse (suffix y))
+      after o o' same f =
+          then_same o o' (λ y. G (suffix y)) (λ y. parse (suffix y)) same (λ y s d. let lt = f (y, s) d in pass parse b (suffix y) s (omega arith))
 
       by : (k : Option the_mark.Mark) → mark_at ts ≡ k → suffix_by G x k (n, ts) ≡ suffix_by parse x k (n, ts)
-      by (Some m.LeftBracket) d = after (indexed G x (n, ts)) (indexed parse x (n, ts)) (open_indexed x n ts (takes_shorter (mark_takes ts d)) h) (λ p c. (good_indexed parse good x n ts p (mark_takes ts d) c).took)
-      by (Some m.Dot) d = after (field e.Dot x (n, ts)) (field e.Dot x (n, ts)) refl (λ p c. (good_field x e.Dot n ts p (takes_shorter (mark_takes ts d)) (λ s k w us r u. g.dot r (mark_takes ts d) u) c).took)
-      by (Some m.Arrow) d = after (field e.Arrow x (n, ts)) (field e.Arrow x (n, ts)) refl (λ p c. (good_field x e.Arrow n ts p (takes_shorter (mark_takes ts d)) (λ s k w us r u. g.arrow r (mark_takes ts d) u) c).took)
+      by (Some m.LeftBracket) d =
+          after (indexed G x (n, ts)) (indexed parse x (n, ts)) (open_indexed x n ts (takes_shorter (mark_takes ts d)) h)
+          (λ p c. (good_indexed parse good x n ts p (mark_takes ts d) c).took)
+      by (Some m.Dot) d =
+          after (field e.Dot x (n, ts)) (field e.Dot x (n, ts)) refl
+          (λ p c. (good_field x e.Dot n ts p (takes_shorter (mark_takes ts d)) (λ s k w us r u. g.dot r (mark_takes ts d) u) c).took)
+      by (Some m.Arrow) d =
+          after (field e.Arrow x (n, ts)) (field e.Arrow x (n, ts)) refl
+          (λ p c. (good_field x e.Arrow n ts p (takes_shorter (mark_takes ts d)) (λ s k w us r u. g.arrow r (mark_takes ts d) u) c).took)
       by _ d = refl
 
-  open_arguments : (w : Name) (n : ℕ) (ts : Tokens) → length ts * 20 + 15 ≤ b → arguments_by G w (mark_at ts) (n, ts) ≡ arguments_by parse w (mark_at ts) (n, ts)
+  open_arguments : (w : Name) (n : ℕ) (ts : Tokens)
+      → length ts * 20 + 15 ≤ b → arguments_by G w (mark_at ts) (n, ts) ≡ arguments_by parse w (mark_at ts) (n, ts)
   open_arguments w n ts h = by (mark_at ts)
     where
       by : (k : Option the_mark.Mark) → arguments_by G w k (n, ts) ≡ arguments_by parse w k (n, ts)
       by (Some m.RightParen) = refl
       by _ = pass parse b (more w []) (n, ts) (omega arith)
 
-  open_next : (w : Name) (xs : List Expr) (n : ℕ) (ts : Tokens) → length ts * 20 ≤ b → more_by G w xs (mark_at ts) (n, ts) ≡ more_by parse w xs (mark_at ts) (n, ts)
+  open_next : (w : Name) (xs : List Expr) (n : ℕ) (ts : Tokens)
+      → length ts * 20 ≤ b → more_by G w xs (mark_at ts) (n, ts) ≡ more_by parse w xs (mark_at ts) (n, ts)
   open_next w xs n ts h = by (mark_at ts) refl
     where
       by : (k : Option the_mark.Mark) → mark_at ts ≡ k → more_by G w xs k (n, ts) ≡ more_by parse w xs k (n, ts)
@@ -120,7 +141,8 @@ open_whole : (l : ℕ) (s : State) (c : Bool) → nat_lt l LEVELS ≡ c → whol
 open_whole l s true lt =
     let below : l < LEVELS = ltb-true _ _ lt in
     let b = measure (whole l) s in
-    then_same (guard parse b (whole (suc l)) s) (parse (whole (suc l)) s) (λ x. guard parse b (climb l x)) (λ x. parse (climb l x)) (pass parse b (whole (suc l)) s (omega arith)) (λ x s' d. let less = took _ _ _ _ d in pass parse b (climb l x) s' (omega arith))
+    then_same (guard parse b (whole (suc l)) s) (parse (whole (suc l)) s) (λ x. guard parse b (climb l x)) (λ x. parse (climb l x))
+    (pass parse b (whole (suc l)) s (omega arith)) (λ x s' d. let less = took _ _ _ _ d in pass parse b (climb l x) s' (omega arith))
 open_whole l s false ge = pass parse (measure (whole l) s) unary s (omega arith)
 
 opened : (j : Job) (s : State) → step (guard parse (measure j s)) j s ≡ step parse j s
@@ -129,13 +151,16 @@ opened (climb l x) s = open_climb (measure (climb l x) s) l x s.0 s.1 (omega ari
 opened unary s = open_unary (measure unary s) s.0 s.1 (omega arith)
 opened postfix s =
     let b = measure postfix s in
-    then_same (guard parse b primary s) (parse primary s) (λ x. guard parse b (suffix x)) (λ x. parse (suffix x)) (pass parse b primary s (omega arith)) (λ x s' d. let less = took _ _ _ _ d in pass parse b (suffix x) s' (omega arith))
+    then_same (guard parse b primary s) (parse primary s) (λ x. guard parse b (suffix x)) (λ x. parse (suffix x)) (pass parse b primary s (omega arith))
+    (λ x s' d. let less = took _ _ _ _ d in pass parse b (suffix x) s' (omega arith))
 opened primary s = open_primary (measure primary s) s.0 s.1 (omega arith)
 opened (suffix x) s = open_suffix (measure (suffix x) s) x s.0 s.1 (omega arith)
 opened (arguments w) s = open_arguments (measure (arguments w) s) w s.0 s.1 (omega arith)
 opened (more w xs) s =
     let b = measure (more w xs) s in
-    then_same (guard parse b (whole 0) s) (parse (whole 0) s) (λ y s. more_by (guard parse b) w (xs ++ y ∷ []) (mark_at s.1) s) (λ y s. more_by parse w (xs ++ y ∷ []) (mark_at s.1) s) (pass parse b (whole 0) s (omega arith)) (λ y s' d. let less = took _ _ _ _ d in open_next b w (xs ++ y ∷ []) s'.0 s'.1 (omega arith))
+    then_same (guard parse b (whole 0) s) (parse (whole 0) s) (λ y s. more_by (guard parse b) w (xs ++ y ∷ []) (mark_at s.1) s)
+    (λ y s. more_by parse w (xs ++ y ∷ []) (mark_at s.1) s) (pass parse b (whole 0) s (omega arith))
+    (λ y s' d. let less = took _ _ _ _ d in open_next b w (xs ++ y ∷ []) s'.0 s'.1 (omega arith))
 
 -- The parser's equation.
 pub parse_is : (j : Job) (s : State) → parse j s ≡ step parse j s

@@ -124,7 +124,8 @@ good_field x f (suc n) ts y lt rule d =
     let (q, dq, is) = lift_ok word (n, tail ts) p dp in
     let t = word_takes (tail ts) q dq in
     let shorter = takes_shorter t in
-    extends x (suc n, ts) (f x p.0, p.1) y (subst (λ (p : Name × State). Extends x (suc n, ts) (f x p.0, p.1)) is (record { took = omega arith; sound = λ s₀ r. rule s₀ n q.0 q.1 r t })) dk
+    extends x (suc n, ts) (f x p.0, p.1) y
+    (subst (λ (p : Name × State). Extends x (suc n, ts) (f x p.0, p.1)) is (record { took = omega arith; sound = λ s₀ r. rule s₀ n q.0 q.1 r t })) dk
 
 module _ (N : Job → Parser Expr) (h : (j : Job) (s : State) (y : Expr × State) → N j s ≡ Ok y → Good j s y) where
   good_whole : (l : ℕ) (s : State) (y : Expr × State) (b : Bool) → nat_lt l LEVELS ≡ b → whole_by N l b s ≡ Ok y → Good (whole l) s y
@@ -137,9 +138,13 @@ module _ (N : Job → Parser Expr) (h : (j : Job) (s : State) (y : Expr × State
       record { took = omega arith; sound = λ _. further.sound s (g.tighter (ltb-true _ _ lt) (first.sound (ltb-true _ _ lt))) }
   good_whole l s y false ge d =
       let all = h unary s y d in
-      record { took = all.took; sound = λ le. let is : LEVELS ≡ l = omega (arith, ltb-false _ _ ge) in subst (λ k. Reads (g.level k) s y.0 y.1) is (g.operand all.sound) }
+      record {
+        took = all.took;
+        sound = λ le. let is : LEVELS ≡ l = omega (arith, ltb-false _ _ ge) in subst (λ k. Reads (g.level k) s y.0 y.1) is (g.operand all.sound);
+      }
 
-  good_joined : (l : ℕ) (x : Expr) (n : ℕ) (ts : Tokens) (op : Joint) (y : Expr × State) (q : ℕ) (b : Bool) → nat_eq q l ≡ b → Means infix_of (q, op) ts (tail ts) → joined_by N l x op b (n, ts) ≡ Ok y → Good (climb l x) (n, ts) y
+  good_joined : (l : ℕ) (x : Expr) (n : ℕ) (ts : Tokens) (op : Joint) (y : Expr × State) (q : ℕ) (b : Bool)
+      → nat_eq q l ≡ b → Means infix_of (q, op) ts (tail ts) → joined_by N l x op b (n, ts) ≡ Ok y → Good (climb l x) (n, ts) y
   good_joined l x n ts op y q false ne t d = gives (climb l x) (n, ts) (record { took = omega arith; sound = λ s₀ r. r }) d
   good_joined l x zero ts op y q true eq t d = absurd cc
   good_joined l x (suc n) ts op y q true eq t d =
@@ -159,7 +164,8 @@ module _ (N : Job → Parser Expr) (h : (j : Job) (s : State) (y : Expr × State
       by None di k = gives (climb l x) (n, ts) (record { took = omega arith; sound = λ s₀ r. r }) k
       by (Some (q, op)) di k = good_joined l x n ts op y q (nat_eq q l) refl (at_means ts di) k
 
-  good_prefixed : (n : ℕ) (ts : Tokens) (op : Prefix) (y : Expr × State) → Means prefix_of op ts (tail ts) → unary_by N (Some op) (n, ts) ≡ Ok y → Good unary (n, ts) y
+  good_prefixed : (n : ℕ) (ts : Tokens) (op : Prefix) (y : Expr × State)
+      → Means prefix_of op ts (tail ts) → unary_by N (Some op) (n, ts) ≡ Ok y → Good unary (n, ts) y
   good_prefixed zero ts op y t d = absurd cc
   good_prefixed (suc n) ts op y t d =
       let (p, dp, dk) = bind_ok (N unary (n, tail ts)) (λ x s. Ok (apply op x, s)) d in
@@ -203,7 +209,8 @@ module _ (N : Job → Parser Expr) (h : (j : Job) (s : State) (y : Expr × State
           record { took = omega arith; sound = subst (λ x. Reads g.primary (suc n, ts) x y.1) (sym is) (g.call t u r) }
       by _ du n k = gives primary (n, ts) (record { took = takes_shorter t; sound = g.variable t }) k
 
-  good_group : (n : ℕ) (ts : Tokens) (y : Expr × State) → Takes (Mark m.LeftParen) ts (tail ts) → primary_by N (Some (Mark m.LeftParen)) (n, ts) ≡ Ok y → Good primary (n, ts) y
+  good_group : (n : ℕ) (ts : Tokens) (y : Expr × State)
+      → Takes (Mark m.LeftParen) ts (tail ts) → primary_by N (Some (Mark m.LeftParen)) (n, ts) ≡ Ok y → Good primary (n, ts) y
   good_group zero ts y t d = absurd cc
   good_group (suc n) ts y t d =
       let (p, dp, dk) = bind_ok (N (whole 0) (n, tail ts)) (λ x s. bind (lift (expect m.RightParen) s) (λ _ s. Ok (x, s))) d in
@@ -213,7 +220,8 @@ module _ (N : Job → Parser Expr) (h : (j : Job) (s : State) (y : Expr × State
       let a = takes_shorter t in
       let b = takes_shorter u in
       let c = inner.took in
-      gives primary (suc n, ts) (subst (λ (s : State). Good primary (suc n, ts) (p.0, s)) after (record { took = omega arith; sound = g.group t (inner.sound (omega arith)) u })) dl
+      gives primary (suc n, ts)
+      (subst (λ (s : State). Good primary (suc n, ts) (p.0, s)) after (record { took = omega arith; sound = g.group t (inner.sound (omega arith)) u })) dl
 
   good_sized : (n : ℕ) (ts : Tokens) (y : Expr × State) → Takes (Key key.Sizeof) ts (tail ts) → sized (n, ts) ≡ Ok y → Good primary (n, ts) y
   good_sized zero ts y t d = absurd cc
@@ -221,13 +229,15 @@ module _ (N : Job → Parser Expr) (h : (j : Job) (s : State) (y : Expr × State
       let (p, dp, dk) = bind_ok (lift operand_type (n, tail ts)) (λ a s. Ok (e.SizeOf a, s)) d in
       let (q, dq, is) = lift_ok operand_type (n, tail ts) p dp in
       let size = size_from q t (sound_operand (tail ts) q dq) in
-      gives primary (suc n, ts) (subst (λ (p : CType × State). Good primary (suc n, ts) (e.SizeOf p.0, p.1)) is (record { took = size_shorter size; sound = g.size size })) dk
+      gives primary (suc n, ts)
+      (subst (λ (p : CType × State). Good primary (suc n, ts) (e.SizeOf p.0, p.1)) is (record { took = size_shorter size; sound = g.size size })) dk
 
   good_allocated : (n : ℕ) (ts : Tokens) (y : Expr × State) → Takes (Key key.Calloc) ts (tail ts) → allocated N (n, ts) ≡ Ok y → Good primary (n, ts) y
   good_allocated zero ts y t d = absurd cc
   good_allocated (suc zero) ts y t d = absurd cc
   good_allocated (suc (suc n)) ts y t d =
-      let (p, dp, dk) = bind_ok (bind (lift (expect m.LeftParen) (n, tail ts)) (λ _. N (whole 0))) (λ x s. bind (lift element_size s) (λ a s. Ok (e.Calloc x a, s))) d in
+      let (p, dp, dk) = bind_ok (bind (lift (expect m.LeftParen) (n, tail ts)) (λ _. N (whole 0)))
+      (λ x s. bind (lift element_size s) (λ a s. Ok (e.Calloc x a, s))) d in
       let (o, do', dj) = bind_ok (lift (expect m.LeftParen) (n, tail ts)) (λ _. N (whole 0)) dp in
       let (us, u, after) = closed m.LeftParen (n, tail ts) o do' in
       let inner = h (whole 0) (n, us) p (subst (λ s. N (whole 0) s ≡ Ok p) (sym after) dj) in
@@ -253,7 +263,8 @@ module _ (N : Job → Parser Expr) (h : (j : Job) (s : State) (y : Expr × State
       by (Some (Key key.Calloc)) dt k = good_allocated n ts y (kind_takes ts dt) k
       by _ dt k = absurd cc
 
-  pub good_indexed : (x : Expr) (n : ℕ) (ts : Tokens) (y : Expr × State) → Takes (Mark m.LeftBracket) ts (tail ts) → indexed N x (n, ts) ≡ Ok y → Extends x (n, ts) y
+  pub good_indexed : (x : Expr) (n : ℕ) (ts : Tokens) (y : Expr × State)
+      → Takes (Mark m.LeftBracket) ts (tail ts) → indexed N x (n, ts) ≡ Ok y → Extends x (n, ts) y
   good_indexed x zero ts y t d = absurd cc
   good_indexed x (suc n) ts y t d =
       let (p, dp, dk) = bind_ok (N (whole 0) (n, tail ts)) (λ i s. bind (lift (expect m.RightBracket) s) (λ _ s. Ok (e.Index x i, s))) d in
@@ -266,7 +277,8 @@ module _ (N : Job → Parser Expr) (h : (j : Job) (s : State) (y : Expr × State
       extends x (suc n, ts) (e.Index x p.0, q.1) y (subst (λ (s : State). Extends x (suc n, ts) (e.Index x p.0, s)) after
       (record { took = omega arith; sound = λ s₀ r. g.index r t (inner.sound (omega arith)) u })) dl
 
-  good_extended : (x : Expr) (s : State) (o : Outcome Expr) (y : Expr × State) → ((p : Expr × State) → o ≡ Ok p → Extends x s p) → bind o (λ z. N (suffix z)) ≡ Ok y → Good (suffix x) s y
+  good_extended : (x : Expr) (s : State) (o : Outcome Expr) (y : Expr × State)
+      → ((p : Expr × State) → o ≡ Ok p → Extends x s p) → bind o (λ z. N (suffix z)) ≡ Ok y → Good (suffix x) s y
   good_extended x s o y f d =
       let (p, dp, dk) = bind_ok o (λ z. N (suffix z)) d in
       let one = f p dp in
@@ -280,8 +292,12 @@ module _ (N : Job → Parser Expr) (h : (j : Job) (s : State) (y : Expr × State
     where
       by : (k : Option the_mark.Mark) → mark_at ts ≡ k → suffix_by N x k (n, ts) ≡ Ok y → Good (suffix x) (n, ts) y
       by (Some m.LeftBracket) dt k = good_extended x (n, ts) (indexed N x (n, ts)) y (λ p. good_indexed x n ts p (mark_takes ts dt)) k
-      by (Some m.Dot) dt k = good_extended x (n, ts) (field e.Dot x (n, ts)) y (λ p. good_field x e.Dot n ts p (takes_shorter (mark_takes ts dt)) (λ s k w us r u. g.dot r (mark_takes ts dt) u)) k
-      by (Some m.Arrow) dt k = good_extended x (n, ts) (field e.Arrow x (n, ts)) y (λ p. good_field x e.Arrow n ts p (takes_shorter (mark_takes ts dt)) (λ s k w us r u. g.arrow r (mark_takes ts dt) u)) k
+      by (Some m.Dot) dt k =
+          good_extended x (n, ts) (field e.Dot x (n, ts)) y
+          (λ p. good_field x e.Dot n ts p (takes_shorter (mark_takes ts dt)) (λ s k w us r u. g.dot r (mark_takes ts dt) u)) k
+      by (Some m.Arrow) dt k =
+          good_extended x (n, ts) (field e.Arrow x (n, ts)) y
+          (λ p. good_field x e.Arrow n ts p (takes_shorter (mark_takes ts dt)) (λ s k w us r u. g.arrow r (mark_takes ts dt) u)) k
       by _ dt k = gives (suffix x) (n, ts) (record { took = omega arith; sound = λ s₀ r. r }) k
 
   good_some : (w : Name) (s : State) (y : Expr × State) → N (more w []) s ≡ Ok y → Good (arguments w) s y
@@ -298,7 +314,8 @@ module _ (N : Job → Parser Expr) (h : (j : Job) (s : State) (y : Expr × State
       by _ dt k = good_some w (n, ts) y k
 
   -- after an argument
-  good_next : (w : Name) (xs : List Expr) (s : State) (x : Expr) (n : ℕ) (ts : Tokens) (y : Expr × State) → length ts < length s.1 → Reads (g.level 0) s x (n, ts) → more_by N w (xs ++ x ∷ []) (mark_at ts) (n, ts) ≡ Ok y → Good (more w xs) s y
+  good_next : (w : Name) (xs : List Expr) (s : State) (x : Expr) (n : ℕ) (ts : Tokens) (y : Expr × State)
+      → length ts < length s.1 → Reads (g.level 0) s x (n, ts) → more_by N w (xs ++ x ∷ []) (mark_at ts) (n, ts) ≡ Ok y → Good (more w xs) s y
   good_next w xs s x n ts y lt r d = by (mark_at ts) refl d
     where
       by : (k : Option the_mark.Mark) → mark_at ts ≡ k → more_by N w (xs ++ x ∷ []) k (n, ts) ≡ Ok y → Good (more w xs) s y
@@ -348,7 +365,8 @@ forgotten (Err a) p e = absurd cc
 pub sound_expression : (ts : Tokens) (p : Expr × Tokens) → expression ts ≡ Ok p → Expression ts p.0 p.1
 sound_expression ts p d =
     let (q, dq, is) = forgotten (parse (whole 0) (EXPRESSION_OPERATORS, ts)) p d in
-    subst (λ (p : Expr × Tokens). Expression ts p.0 p.1) is (record { left = q.1.0; reads = (good (whole 0) (EXPRESSION_OPERATORS, ts) q dq).sound (omega arith) })
+    subst (λ (p : Expr × Tokens). Expression ts p.0 p.1) is
+    (record { left = q.1.0; reads = (good (whole 0) (EXPRESSION_OPERATORS, ts) q dq).sound (omega arith) })
 
 pub sound_place : (ts : Tokens) (p : Expr × Tokens) → place ts ≡ Ok p → Place ts p.0 p.1
 sound_place ts p d =

@@ -142,7 +142,9 @@ module _ {A : Type 0} (turn : A → Step (A × Bool)) (takes_one : (a b : A) (ts
   stable (suc f) zero a ts h h' = absurd (omega arith)
   stable (suc f) (suc f') a ts h h' = by (turn a ts) refl (λ b us lt. stable f f' b us (omega arith) (omega arith))
     where
-      by : (o : Read (A × Bool)) → turn a ts ≡ o → ((b : A) (us : Tokens) → length us < length ts → loop turn f b us ≡ loop turn f' b us) → bind o (λ r. after_turn (loop turn f) r.0 r.1) ≡ bind o (λ r. after_turn (loop turn f') r.0 r.1)
+      by : (o : Read (A × Bool))
+          → turn a ts ≡ o → ((b : A) (us : Tokens) → length us < length ts → loop turn f b us ≡ loop turn f' b us)
+          → bind o (λ r. after_turn (loop turn f) r.0 r.1) ≡ bind o (λ r. after_turn (loop turn f') r.0 r.1)
       by (Err e) d ih = refl
       by (Ok ((b, true), us)) d ih = refl
       by (Ok ((b, false), us)) d ih = ih b us (takes_one a b ts us d)

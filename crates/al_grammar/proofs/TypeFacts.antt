@@ -1,7 +1,7 @@
 -- The parser of types and declared names reads what the grammar has, and nothing else.
 use Rattle.std.proofs.Common.{◌≡◌, ℕ, zero, suc, ◌<◌, ◌≤◌, Bool, true, false, [], ◌∷◌, length, Option, Some, None, Ok, refl, ap, subst, ◌∙◌, arith}
 use Rattle.std.specs.Prelude.{ℤ, pos, ◌&&◌, nat_le, int_le, ◌≤ℤ◌}
-use Rattle.std.proofs.lemmas.Bool.{leb-true, le-leb}
+use Rattle.std.proofs.lemmas.Bool.{leb-true, le-leb, and_parts}
 use Rattle.std.proofs.lemmas.Int.{ints}
 use Rattle.al_source.specs.declared.tokens.TokenKind.{TokenKind}
 use Rattle.al_source.specs.declared.tokens.TokenKind.TheVariants.{Number, Key, Mark}
@@ -50,7 +50,9 @@ unfolding stars
 sound_stars zero a ts p e = yields (λ p. Stars zero a ts p.0 p.1) (a, ts) p g.none e
 sound_stars (suc n) a ts p e = by (is_mark m.Star ts) refl e (λ b. sound_stars n (type.Ptr a) b p)
   where
-    by : (b : Bool) → is_mark m.Star ts ≡ b → star_by (stars n) a b ts ≡ Ok p → ((us : Tokens) → stars n (type.Ptr a) us ≡ Ok p → Stars n (type.Ptr a) us p.0 p.1) → Stars (suc n) a ts p.0 p.1
+    by : (b : Bool)
+        → is_mark m.Star ts ≡ b → star_by (stars n) a b ts ≡ Ok p → ((us : Tokens) → stars n (type.Ptr a) us ≡ Ok p → Stars n (type.Ptr a) us p.0 p.1)
+        → Stars (suc n) a ts p.0 p.1
     by true d e ih = g.star (is_mark_takes m.Star ts d) (ih (tail ts) e)
     by false d e ih = yields (λ p. Stars (suc n) a ts p.0 p.1) (a, ts) p g.none e
 
@@ -66,17 +68,12 @@ is_within a b e = grind (arith, ints)
 within_is : (a b : ℤ) → a ≤ℤ b → int_le a b ≡ true
 within_is a b h = grind (arith, ints)
 
-both_true : (a b : Bool) → (a && b) ≡ true → (a ≡ true) × (b ≡ true)
-both_true true true e = (refl, refl)
-both_true true false e = absurd cc
-both_true false b e = absurd cc
-
 length_is : (k : TokenKind) (l : ℕ) → length_of k ≡ Some l → IsLength k l
 length_is (Number (pos n)) l e = by (nat_le 1 n && int_le (pos n) DIMENSION_LENGTH) refl e
   where
     by : (b : Bool) → (nat_le 1 n && int_le (pos n) DIMENSION_LENGTH) ≡ b → length_by n b ≡ Some l → IsLength (Number (pos n)) l
     by true d e =
-        let (low, high) = both_true (nat_le 1 n) (int_le (pos n) DIMENSION_LENGTH) d in
+        let (low, high) = and_parts (nat_le 1 n) (int_le (pos n) DIMENSION_LENGTH) d in
         subst (IsLength (Number (pos n))) (some_same e) (record { is = refl; above = leb-true _ _ low; below = is_within _ _ high })
     by false d e = absurd cc
 length_is _ l e = absurd cc
@@ -102,7 +99,8 @@ sound_dimensions (suc n) a ts p e = by (is_mark m.LeftBracket ts) refl e (λ us 
     by : (b : Bool) → is_mark m.LeftBracket ts ≡ b → dimension_by (dimensions n) a b ts ≡ Ok p
         → ((us : Tokens) (q : CType × Tokens) → dimensions n a us ≡ Ok q → Dimensions n a us q.0 q.1) → Dimensions (suc n) a ts p.0 p.1
     by true d e ih =
-        let (l, dl, dk) = bind_ok (take_length (tail ts)) (λ l us. bind (bind (expect m.RightBracket us) (λ _. dimensions n a)) (λ b. pure (type.Array b l))) e in
+        let (l, dl, dk) = bind_ok (take_length (tail ts)) (λ l us. bind (bind (expect m.RightBracket us) (λ _. dimensions n a)) (λ b. pure (type.Array b l)))
+        e in
         let (q, dq, dm) = bind_ok (bind (expect m.RightBracket l.1) (λ _. dimensions n a)) (λ b. pure (type.Array b l.0)) dk in
         let (r, dr, dn) = bind_ok (expect m.RightBracket l.1) (λ _. dimensions n a) dq in
         let h = sound_length (tail ts) l dl in
@@ -112,7 +110,8 @@ sound_dimensions (suc n) a ts p e = by (is_mark m.LeftBracket ts) refl e (λ us 
 
 pub sound_declarator : (a : CType) (ts : Tokens) (p : Field × Tokens) → declarator a ts ≡ Ok p → Declarator a ts p.0 p.1
 sound_declarator a ts p e =
-    let (b, db, dk) = bind_ok (stars DECLARATOR_STARS a ts) (λ b us. bind (word us) (λ w vs. bind (dimensions DECLARATOR_DIMENSIONS b vs) (λ c. pure (record { name = w; ty = c })))) e in
+    let (b, db, dk) = bind_ok (stars DECLARATOR_STARS a ts)
+    (λ b us. bind (word us) (λ w vs. bind (dimensions DECLARATOR_DIMENSIONS b vs) (λ c. pure (record { name = w; ty = c })))) e in
     let (w, dw, dl) = bind_ok (word b.1) (λ w vs. bind (dimensions DECLARATOR_DIMENSIONS b.0 vs) (λ c. pure (record { name = w; ty = c }))) dk in
     let (c, dc, dm) = bind_ok (dimensions DECLARATOR_DIMENSIONS b.0 w.1) (λ c. pure (record { name = w.0; ty = c })) dl in
     yields (λ (p : Field × Tokens). Declarator a ts p.0 p.1) (record { name = w.0; ty = c.0 }, c.1) p
@@ -131,12 +130,22 @@ pub record OperandType (ts : Tokens) (p : CType × Tokens) : Type 0 where
 
 pub sound_operand : (ts : Tokens) (p : CType × Tokens) → operand_type ts ≡ Ok p → OperandType ts p
 sound_operand ts p e =
-    let (a, da, dk) = bind_ok (bind (expect m.LeftParen ts) (λ _. base)) (λ a us. bind (stars DECLARATOR_STARS a us) (λ b vs. bind (expect m.RightParen vs) (λ _. pure b))) e in
+    let (a, da, dk) = bind_ok (bind (expect m.LeftParen ts) (λ _. base))
+    (λ a us. bind (stars DECLARATOR_STARS a us) (λ b vs. bind (expect m.RightParen vs) (λ _. pure b))) e in
     let (o, do', dj) = bind_ok (expect m.LeftParen ts) (λ _. base) da in
     let (b, db, dl) = bind_ok (stars DECLARATOR_STARS a.0 a.1) (λ b vs. bind (expect m.RightParen vs) (λ _. pure b)) dk in
     let (c, dc, dm) = bind_ok (expect m.RightParen b.1) (λ _. pure b.0) dl in
     yields (OperandType ts) (b.0, c.1) p
-    (record { base_type = a.0; opened = o.1; base_end = a.1; close = b.1; opens = expect_takes m.LeftParen ts o do'; base = sound_base o.1 a dj; stars = sound_stars DECLARATOR_STARS a.0 a.1 b db; closes = expect_takes m.RightParen b.1 c dc }) dm
+    (record {
+      base_type = a.0;
+      opened = o.1;
+      base_end = a.1;
+      close = b.1;
+      opens = expect_takes m.LeftParen ts o do';
+      base = sound_base o.1 a dj;
+      stars = sound_stars DECLARATOR_STARS a.0 a.1 b db;
+      closes = expect_takes m.RightParen b.1 c dc;
+    }) dm
 
 pub size_from : {ts us : Tokens} (p : CType × Tokens) → Takes (Key key.Sizeof) ts us → OperandType us p → SizeOf ts p.0 p.1
 size_from p t o = g.size_of t o.opens o.base o.stars o.closes
@@ -164,7 +173,8 @@ optional_is (ph.left_out) h = rw h refl
 optional_is (ph.written t) h = rw (takes_is_key t, takes_tail t) refl
 
 -- a key that is not the optional one is seen past it
-past_optional : {k : the_key.Key} {ts us : Tokens} (c : the_key.Key) → Optional (Key k) ts us → is_key c us ≡ false → is_key_in c (Some k) ≡ false → is_key c ts ≡ false
+past_optional : {k : the_key.Key} {ts us : Tokens} (c : the_key.Key)
+    → Optional (Key k) ts us → is_key c us ≡ false → is_key_in c (Some k) ≡ false → is_key c ts ≡ false
 past_optional c ph.left_out h e = h
 past_optional c (ph.written t) h e = not_key c t e
 
@@ -216,7 +226,8 @@ ends_declarator (g.declarator s t d) = ends_stars s t refl refl
 -- after the `sizeof`
 pub complete_operand : {ts us : Tokens} {a : CType} → SizeOf ts a us → operand_type (tail ts) ≡ Ok (a, us)
 unfolding same_mark
-complete_operand (g.size_of t u b s v) = rw (takes_tail t, takes_expect u, complete_base b (ends_stars s v refl refl), complete_stars s (not_mark m.Star v refl), takes_expect v) refl
+complete_operand (g.size_of t u b s v) =
+    rw (takes_tail t, takes_expect u, complete_base b (ends_stars s v refl refl), complete_stars s (not_mark m.Star v refl), takes_expect v) refl
 
 pub size_key : {ts us : Tokens} {a : CType} → SizeOf ts a us → Takes (Key key.Sizeof) ts (tail ts)
 size_key (g.size_of (takes d) u b s v) = takes d
@@ -241,10 +252,12 @@ stars_shorter (g.star t r) = let a = takes_shorter t in let b = stars_shorter r 
 
 pub dimensions_shorter : {n : ℕ} {a b : CType} {ts us : Tokens} → Dimensions n a ts b us → length us ≤ length ts
 dimensions_shorter g.none = omega arith
-dimensions_shorter (g.dimension t v low high u r) = let a = takes_shorter t in let b = takes_shorter v in let c = takes_shorter u in let d = dimensions_shorter r in omega arith
+dimensions_shorter (g.dimension t v low high u r) =
+    let a = takes_shorter t in let b = takes_shorter v in let c = takes_shorter u in let d = dimensions_shorter r in omega arith
 
 pub declarator_shorter : {a : CType} {ts us : Tokens} {f : Field} → Declarator a ts f us → length us < length ts
 declarator_shorter (g.declarator s t d) = let a = stars_shorter s in let b = takes_shorter t in let c = dimensions_shorter d in omega arith
 
 pub size_shorter : {ts us : Tokens} {a : CType} → SizeOf ts a us → length us < length ts
-size_shorter (g.size_of t u b s v) = let a = takes_shorter t in let c = takes_shorter u in let d = base_shorter b in let e = stars_shorter s in let f = takes_shorter v in omega arith
+size_shorter (g.size_of t u b s v) =
+    let a = takes_shorter t in let c = takes_shorter u in let d = base_shorter b in let e = stars_shorter s in let f = takes_shorter v in omega arith

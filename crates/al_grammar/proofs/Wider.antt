@@ -55,10 +55,12 @@ widen_is zero k ts = let e : k ≡ 0 + k = omega arith in ap (λ q. (q, ts)) e
 widen_is (suc n) k ts = let e : suc (n + k) ≡ suc n + k = omega arith in ap wide (widen_is n k ts) ∙ ap (λ q. (q, ts)) e
 
 pub roomier : {j : g.Sort} {k l : ℕ} {ts us : Tokens} {x : Expr} (n : ℕ) → Reads j (k, ts) x (l, us) → Reads j (n + k, ts) x (n + l, us)
-roomier {j} {k} {l} {ts} {us} {x} n r = subst (λ s. Reads j s x (n + l, us)) (widen_is n k ts) (subst (λ s. Reads j (widen n (k, ts)) x s) (widen_is n l us) (widens n r))
+roomier {j} {k} {l} {ts} {us} {x} n r =
+    subst (λ s. Reads j s x (n + l, us)) (widen_is n k ts) (subst (λ s. Reads j (widen n (k, ts)) x s) (widen_is n l us) (widens n r))
 
 pub roomier_more : {k l : ℕ} {ts us : Tokens} {xs : List Expr} (n : ℕ) → More (k, ts) xs (l, us) → More (n + k, ts) xs (n + l, us)
-roomier_more {k} {l} {ts} {us} {xs} n r = subst (λ s. More s xs (n + l, us)) (widen_is n k ts) (subst (λ s. More (widen n (k, ts)) xs s) (widen_is n l us) (widens_more n r))
+roomier_more {k} {l} {ts} {us} {xs} n r =
+    subst (λ s. More s xs (n + l, us)) (widen_is n k ts) (subst (λ s. More (widen n (k, ts)) xs s) (widen_is n l us) (widens_more n r))
 
 -- ---- each expression takes tokens
 
@@ -80,7 +82,13 @@ mutual
   reads_shorter (g.group t r u) = let a = reads_shorter r in let c = takes_shorter t in let d = takes_shorter u in omega arith
   reads_shorter (g.size z) = size_shorter z
   reads_shorter (g.allocation t u r c z v) =
-      let a = takes_shorter t in let b = takes_shorter u in let d = reads_shorter r in let e = takes_shorter c in let f = size_shorter z in let h = takes_shorter v in omega arith
+      let a = takes_shorter t in
+      let b = takes_shorter u in
+      let d = reads_shorter r in
+      let e = takes_shorter c in
+      let f = size_shorter z in
+      let h = takes_shorter v in
+      omega arith
 
   arguments_shorter : {s s' : State} {xs : List Expr} → Arguments s xs s' → length s'.1 < length s.1
   arguments_shorter (g.none t) = takes_shorter t

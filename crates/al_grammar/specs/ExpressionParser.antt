@@ -111,7 +111,10 @@ module _ (N : Job → Parser Expr) where
   grouped = spend >> N (whole 0) >>= λ x. lift (expect m.RightParen) >> pure x
 
   abbrev pub allocated : Parser Expr
-  allocated = spend_two >> lift (expect m.LeftParen) >> N (whole 0) >>= λ x. lift element_size >>= λ a. pure (e.Calloc x a)
+  allocated =
+      spend_two >> lift (expect m.LeftParen) >> N (whole 0) >>= λ x.
+      lift element_size >>= λ a.
+      pure (e.Calloc x a)
 
   abbrev pub primary_by : Option TokenKind → Parser Expr
   primary_by (Some (Number v)) = advance >> pure (e.Number v)

@@ -40,10 +40,14 @@ abbrev pub field_turn : List Field → Step (List Field × Bool)
 field_turn fs = field_line fs >>= λ all. λ ts. pure (all, is_mark m.RightBrace ts) ts
 
 abbrev pub struct_body : Step (Name × List Field)
-struct_body = expect_key key.Struct >> word >>= λ w. expect m.LeftBrace >> repeat field_turn [] >>= λ fs. expect m.RightBrace >> expect m.Semicolon >> pure (w, fs)
+struct_body =
+    expect_key key.Struct >> word >>= λ w.
+    expect m.LeftBrace >> repeat field_turn [] >>= λ fs.
+    expect m.RightBrace >> expect m.Semicolon >> pure (w, fs)
 
 abbrev pub structure : Step Item
-structure = λ ts. bind (struct_body ts) (λ p. pure (item.Struct (record { name = p.0; fields = p.1; line = line_at ts })))
+structure =
+    λ ts. bind (struct_body ts) (λ p. pure (item.Struct (record { name = p.0; fields = p.1; line = line_at ts })))
 
 -- ---- globals
 
@@ -71,7 +75,10 @@ global_by is _ = refuse
 
 -- one declared name, with the mark behind it
 abbrev pub global_name : ℕ → CType → List Item → Step (List Item × Bool)
-global_name line a is = declarator a >>= λ f. starts >>= λ s. λ ts. global_by (is ++ global line f s ∷ []) (mark_at ts) ts
+global_name line a is =
+    declarator a >>= λ f.
+    starts >>= λ s.
+    λ ts. global_by (is ++ global line f s ∷ []) (mark_at ts) ts
 
 -- ---- functions
 
@@ -99,7 +106,12 @@ body = expect m.LeftBrace >> braced STATEMENT_NESTING (statement STATEMENT_NESTI
 
 -- after the result's type without stars
 abbrev pub function : ℕ → CType → Step Item
-function line a = stars DECLARATOR_STARS a >>= λ b. word >>= λ w. expect m.LeftParen >> params >>= λ fs. body >>= λ ss. pure (item.Func (record { name = w; result = b; params = fs; body = ss; line = line }))
+function line a =
+    stars DECLARATOR_STARS a >>= λ b.
+    word >>= λ w.
+    expect m.LeftParen >> params >>= λ fs.
+    body >>= λ ss.
+    pure (item.Func (record { name = w; result = b; params = fs; body = ss; line = line }))
 
 abbrev pub past_by : Bool → Tokens → Tokens → Tokens
 past_by true past here = past

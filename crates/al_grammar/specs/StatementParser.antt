@@ -185,7 +185,11 @@ abbrev pub reduce_turn : List NamedRed → Step (List NamedRed × Bool)
 reduce_turn rs = λ ts. reduce_by rs (meaning_at note_word_of ts) ts
 
 abbrev pub loop_note : Step LoopNote
-loop_note = note_policy >>= λ p. note_order >>= λ o. repeat reduce_turn [] >>= λ rs. pure (record { policy = p; order = o; reduce = rs })
+loop_note =
+    note_policy >>= λ p.
+    note_order >>= λ o.
+    repeat reduce_turn [] >>= λ rs.
+    pure (record { policy = p; order = o; reduce = rs })
 
 abbrev pub end_note_by : Option TokenKind → Step (Unit {0})
 end_note_by (Some EndAlter) = skip
@@ -215,7 +219,11 @@ begins_base (Some key.Struct) = true
 begins_base _ = false
 
 abbrev pub first_declaration : Step StmtKind
-first_declaration = base >>= λ a. declarator a >>= λ f. expect m.Assign >> expression >>= λ x. pure (kind.Declare f.ty f.name (Some x))
+first_declaration =
+    base >>= λ a.
+    declarator a >>= λ f.
+    expect m.Assign >> expression >>= λ x.
+    pure (kind.Declare f.ty f.name (Some x))
 
 abbrev pub first_kind : Bool → Step StmtKind
 first_kind true = first_declaration
@@ -240,7 +248,11 @@ Head = Option Stmt × Option Expr × Option Stmt
 
 -- from the `for` to the `)`
 abbrev pub head : Step Head
-head = expect_key key.For >> expect m.LeftParen >> first_part >>= λ a. expect m.Semicolon >> maybe >>= λ b. expect m.Semicolon >> third_part >>= λ c. expect m.RightParen >> pure (a, b, c)
+head =
+    expect_key key.For >> expect m.LeftParen >> first_part >>= λ a.
+    expect m.Semicolon >> maybe >>= λ b.
+    expect m.Semicolon >> third_part >>= λ c.
+    expect m.RightParen >> pure (a, b, c)
 
 -- ---- declarations
 
@@ -258,7 +270,10 @@ local_by ss _ = refuse
 
 -- one declared name, with the mark behind it
 abbrev pub local : ℕ → CType → List Stmt → Step (List Stmt × Bool)
-local line a ss = declarator a >>= λ f. initializer >>= λ x. λ ts. local_by (ss ++ statement_of line (kind.Declare f.ty f.name x) ∷ []) (mark_at ts) ts
+local line a ss =
+    declarator a >>= λ f.
+    initializer >>= λ x.
+    λ ts. local_by (ss ++ statement_of line (kind.Declare f.ty f.name x) ∷ []) (mark_at ts) ts
 
 -- a whole declaration, behind those that were read before
 abbrev pub declaration : List Stmt → Step (List Stmt)

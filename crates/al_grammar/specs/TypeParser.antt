@@ -51,7 +51,10 @@ abbrev pub take_length : Step ℕ
 take_length = λ ts. take_length_by (meaning_at length_of ts) ts
 
 abbrev pub dimension_by : (CType → Step CType) → CType → Bool → Step CType
-dimension_by again a true = skip >> take_length >>= λ l. expect m.RightBracket >> again a >>= λ b. pure (type.Array b l)
+dimension_by again a true =
+    skip >> take_length >>= λ l.
+    expect m.RightBracket >> again a >>= λ b.
+    pure (type.Array b l)
 dimension_by again a false = pure a
 
 -- at most so many dimensions
@@ -60,7 +63,11 @@ dimensions zero a = pure a
 dimensions (suc n) a = λ ts. dimension_by (dimensions n) a (is_mark m.LeftBracket ts) ts
 
 abbrev pub declarator : CType → Step Field
-declarator a = stars DECLARATOR_STARS a >>= λ b. word >>= λ w. dimensions DECLARATOR_DIMENSIONS b >>= λ c. pure (record { name = w; ty = c })
+declarator a =
+    stars DECLARATOR_STARS a >>= λ b.
+    word >>= λ w.
+    dimensions DECLARATOR_DIMENSIONS b >>= λ c.
+    pure (record { name = w; ty = c })
 
 -- `( base * )`
 abbrev pub operand_type : Step CType
