@@ -48,3 +48,7 @@ pub statement_some : (d : ℕ) (ts : Tokens) → (d ≡ 0 → ⊥) → statement
 unfolding statement
 statement_some zero ts ne = absurd (ne refl)
 statement_some (suc d) ts ne = let e : d ≡ suc d - 1 = omega arith in ap (λ n. statement_step n (statement n) ts) e
+
+pub ruleset star_steps = (stars_none, stars_other, stars_more)
+
+pub ruleset dimension_steps = (dimensions_none, dimensions_other, dimensions_more)

@@ -62,3 +62,5 @@ pub items_more : (found : List Item) (ts : Tokens) → (ts ≡ [] → ⊥)
     ≡ bind {A = List Item × Bool} (bind (items_step found ts) (λ all. pure (all, false))) (λ r. after_turn (repeat item_turn) r.0 r.1)
 items_more found [] ne = absurd (ne refl)
 items_more found (t ∷ ts) ne = items_is found (t ∷ ts)
+
+pub ruleset item_steps = (items_end, items_more)

@@ -180,3 +180,9 @@ climb_other l x s q op d ne = parse_is (climb l x) s ∙ ap (λ v. climb_by pars
 pub climb_same : (l : ℕ) (x : Expr) (s : State) (q : ℕ) (op : Joint) → meaning_at infix_of s.1 ≡ Some (q, op) → q ≡ l
     → parse (climb l x) s ≡ bind (bind (spend s) (λ _. parse (whole (l + 1)))) (λ y. parse (climb l (join op x y)))
 climb_same l x s q op d eq = rw add-one (parse_is (climb l x) s ∙ ap (λ v. climb_by parse l x v s) d ∙ ap (λ b. joined_by parse l x op b s) (eq-eqb q l eq))
+
+-- a level of binary operators
+pub ruleset level_steps = (whole_tighter, whole_operand)
+
+-- what comes behind a left operand
+pub ruleset climb_steps = (parse_is, climb_other, climb_same)
