@@ -77,7 +77,8 @@ module _ (known : Known) (scope : List Binding) where
   operand-SizeOf a = of_operand (Expr-F.SizeOf a) _ (s.rolls-SizeOf a)
 
   pub operand-Calloc : (x : Expr) (a : CType)
-      → operand known scope (s.Calloc x a) ≡ (operand known scope x >>= integer >>= (λ n. sized known scope a >> Ok (Value (type.Ptr a) (e.Calloc n (size known a)))))
+      → operand known scope (s.Calloc x a)
+      ≡ (operand known scope x >>= integer >>= (λ n. sized known scope a >> Ok (Value (type.Ptr a) (e.Calloc n (size known a)))))
   operand-Calloc x a = of_operand (Expr-F.Calloc x a) _ (s.rolls-Calloc x a)
 
 pub ruleset operand_nodes = (

@@ -24,13 +24,15 @@ use Rattle.al_rules.specs.WellFormed.{FitsKind, PlaceKind, is_one, is_int_local,
 
 module _ (typed : Typed) (results : List (Option Kind)) (locals : List TLocal) where
   of_fits : (x : TExpr-F TExpr TPlace) (d : TExpr) → roll-TExpr x ≡ d
-      → fits typed results locals d ≡ expr_fits typed results locals (map-TExpr TExpr TPlace FitsKind PlaceKind (fits typed results locals) (place_kind typed results locals) x)
+      → fits typed results locals d
+      ≡ expr_fits typed results locals (map-TExpr TExpr TPlace FitsKind PlaceKind (fits typed results locals) (place_kind typed results locals) x)
   unfolding fits place_kind
   of_fits x d is = ap (λ d. fold-TExpr FitsKind PlaceKind (expr_fits typed results locals) (place_kind_case typed results locals) d) (sym is)
       ∙ fold-roll-TExpr FitsKind PlaceKind (expr_fits typed results locals) (place_kind_case typed results locals) x
 
   of_place : (x : TPlace-F TExpr TPlace) (d : TPlace) → roll-TPlace x ≡ d
-      → place_kind typed results locals d ≡ place_kind_case typed results locals (map-TPlace TExpr TPlace FitsKind PlaceKind (fits typed results locals) (place_kind typed results locals) x)
+      → place_kind typed results locals d
+      ≡ place_kind_case typed results locals (map-TPlace TExpr TPlace FitsKind PlaceKind (fits typed results locals) (place_kind typed results locals) x)
   unfolding fits place_kind
   of_place x d is = ap (λ d. fold-TPlace FitsKind PlaceKind (expr_fits typed results locals) (place_kind_case typed results locals) d) (sym is)
       ∙ fold-roll-TPlace FitsKind PlaceKind (expr_fits typed results locals) (place_kind_case typed results locals) x
@@ -45,7 +47,8 @@ module _ (typed : Typed) (results : List (Option Kind)) (locals : List TLocal) w
   fits-Local n want = ap (λ (f : FitsKind). f want) (of_fits (TExpr-F.Local n) _ (e.rolls-Local n))
 
   pub fits-Load : (k : Kind) (p : TPlace) (want : Kind)
-      → fits typed results locals (e.Load k p) want ≡ (is_one k want && (place_kind typed results locals p).formed && may_want (place_kind typed results locals p).wants k)
+      → fits typed results locals (e.Load k p) want
+      ≡ (is_one k want && (place_kind typed results locals p).formed && may_want (place_kind typed results locals p).wants k)
   fits-Load k p want = ap (λ (f : FitsKind). f want) (of_fits (TExpr-F.Load k p) _ (e.rolls-Load k p))
 
   pub fits-Addr : (p : TPlace) (want : Kind) → fits typed results locals (e.Addr p) want ≡ (is_one Ptr want && (place_kind typed results locals p).formed)
@@ -72,7 +75,8 @@ module _ (typed : Typed) (results : List (Option Kind)) (locals : List TLocal) w
   fits-Or x y want = ap (λ (f : FitsKind). f want) (of_fits (TExpr-F.Or x y) _ (e.rolls-Or x y))
 
   pub fits-Call : (f : ℕ) (xs : List TExpr) (want : Kind)
-      → fits typed results locals (e.Call f xs) want ≡ (gives (slice_get results f) want && fit_params (map (fits typed results locals) xs) (slice_get typed.funcs f))
+      → fits typed results locals (e.Call f xs) want
+      ≡ (gives (slice_get results f) want && fit_params (map (fits typed results locals) xs) (slice_get typed.funcs f))
   fits-Call f xs want = ap (λ (f : FitsKind). f want) (of_fits (TExpr-F.Call f xs) _ (e.rolls-Call f xs))
 
   pub fits-Input : (x : TExpr) (want : Kind) → fits typed results locals (e.Input x) want ≡ (is_one Int want && fits typed results locals x Int)
@@ -103,7 +107,8 @@ module _ (typed : Typed) (results : List (Option Kind)) (locals : List TLocal) w
   place-Plus q n = of_place (TPlace-F.Plus q n) _ (p.rolls-Plus q n)
 
   pub place-Elem : (q : TPlace) (x : TExpr) (n : ℕ)
-      → place_kind typed results locals (p.Elem q x n) ≡ record { formed = (place_kind typed results locals q).formed && fits typed results locals x Int; wants = None }
+      → place_kind typed results locals (p.Elem q x n)
+      ≡ record { formed = (place_kind typed results locals q).formed && fits typed results locals x Int; wants = None }
   place-Elem q x n = of_place (TPlace-F.Elem q x n) _ (p.rolls-Elem q x n)
 
 module _ (typed : Typed) (results : List (Option Kind)) (locals : List TLocal) (result : Option Kind) where
@@ -116,7 +121,9 @@ module _ (typed : Typed) (results : List (Option Kind)) (locals : List TLocal) (
   simple_any None looped = true
 
   of_formed : (x : TKind-F TKind TStmt) (d : TKind) → roll-TKind x ≡ d
-      → formed_in typed results locals result d ≡ kind_formed typed results locals result (map-TKind TKind TStmt FormedKind FormedStmt (λ d. (d, formed_in typed results locals result d)) (λ s. (s, formed typed results locals result s)) x)
+      → formed_in typed results locals result d
+      ≡ kind_formed typed results locals result
+      (map-TKind TKind TStmt FormedKind FormedStmt (λ d. (d, formed_in typed results locals result d)) (λ s. (s, formed typed results locals result s)) x)
   unfolding formed formed_in
   of_formed x d is = ap (λ d. para-TKind (Bool → Bool) (Bool → Bool) (kind_formed typed results locals result) (λ s. s.kind.1) d) (sym is)
       ∙ para-roll-TKind (Bool → Bool) (Bool → Bool) (kind_formed typed results locals result) (λ s. s.kind.1) x
@@ -134,7 +141,8 @@ module _ (typed : Typed) (results : List (Option Kind)) (locals : List TLocal) (
   formed-SetLocal n x looped = ap (λ (f : Bool → Bool). f looped) (of_formed (TKind-F.SetLocal n x) _ (k.rolls-SetLocal n x))
 
   pub formed-Store : (q : TPlace) (x : TExpr) (looped : Bool)
-      → formed_in typed results locals result (k.Store q x) looped ≡ ((place_kind typed results locals q).formed && fits_want (place_kind typed results locals q).wants (fits typed results locals x))
+      → formed_in typed results locals result (k.Store q x) looped
+      ≡ ((place_kind typed results locals q).formed && fits_want (place_kind typed results locals q).wants (fits typed results locals x))
   formed-Store q x looped = ap (λ (f : Bool → Bool). f looped) (of_formed (TKind-F.Store q x) _ (k.rolls-Store q x))
 
   pub formed-UpdateLocal : (op : BinOp) (n : ℕ) (x : TExpr) (looped : Bool)
@@ -142,7 +150,8 @@ module _ (typed : Typed) (results : List (Option Kind)) (locals : List TLocal) (
   formed-UpdateLocal op n x looped = ap (λ (f : Bool → Bool). f looped) (of_formed (TKind-F.UpdateLocal op n x) _ (k.rolls-UpdateLocal op n x))
 
   pub formed-UpdateAt : (op : BinOp) (q : TPlace) (x : TExpr) (looped : Bool)
-      → formed_in typed results locals result (k.UpdateAt op q x) looped ≡ ((place_kind typed results locals q).formed && may_want (place_kind typed results locals q).wants Int && fits typed results locals x Int)
+      → formed_in typed results locals result (k.UpdateAt op q x) looped
+      ≡ ((place_kind typed results locals q).formed && may_want (place_kind typed results locals q).wants Int && fits typed results locals x Int)
   formed-UpdateAt op q x looped = ap (λ (f : Bool → Bool). f looped) (of_formed (TKind-F.UpdateAt op q x) _ (k.rolls-UpdateAt op q x))
 
   pub formed-Call : (x : TExpr) (looped : Bool) → formed_in typed results locals result (k.Call x) looped ≡ call_formed typed results locals (out-TExpr x) x
@@ -153,7 +162,8 @@ module _ (typed : Typed) (results : List (Option Kind)) (locals : List TLocal) (
   formed-Print f xs looped = ap (λ (f : Bool → Bool). f looped) (of_formed (TKind-F.Print f xs) _ (k.rolls-Print f xs))
 
   pub formed-If : (x : TExpr) (s : TStmt) (t : Option TStmt) (looped : Bool)
-      → formed_in typed results locals result (k.If x s t) looped ≡ (fits_either (fits typed results locals x) && formed typed results locals result s looped && formed_any t looped)
+      → formed_in typed results locals result (k.If x s t) looped
+      ≡ (fits_either (fits typed results locals x) && formed typed results locals result s looped && formed_any t looped)
   formed-If x s (Some t) looped = ap (λ (f : Bool → Bool). f looped) (of_formed (TKind-F.If x s (Some t)) _ (k.rolls-If x s (Some t)))
   formed-If x s None looped = ap (λ (f : Bool → Bool). f looped) (of_formed (TKind-F.If x s None) _ (k.rolls-If x s None))
 
@@ -162,11 +172,17 @@ module _ (typed : Typed) (results : List (Option Kind)) (locals : List TLocal) (
   formed-While x s looped = ap (λ (f : Bool → Bool). f looped) (of_formed (TKind-F.While x s) _ (k.rolls-While x s))
 
   pub formed-For : (first : Option TStmt) (test : Option TExpr) (third : Option TStmt) (body : TStmt) (number : Option ℕ) (looped : Bool)
-      → formed_in typed results locals result (k.For first test third body number) looped ≡ (simple_any first looped && test_formed typed results locals test && simple_any third looped && formed typed results locals result body true)
-  formed-For (Some first) test (Some third) body number looped = ap (λ (f : Bool → Bool). f looped) (of_formed (TKind-F.For (Some first) test (Some third) body number) _ (k.rolls-For (Some first) test (Some third) body number))
-  formed-For (Some first) test None body number looped = ap (λ (f : Bool → Bool). f looped) (of_formed (TKind-F.For (Some first) test None body number) _ (k.rolls-For (Some first) test None body number))
-  formed-For None test (Some third) body number looped = ap (λ (f : Bool → Bool). f looped) (of_formed (TKind-F.For None test (Some third) body number) _ (k.rolls-For None test (Some third) body number))
-  formed-For None test None body number looped = ap (λ (f : Bool → Bool). f looped) (of_formed (TKind-F.For None test None body number) _ (k.rolls-For None test None body number))
+      → formed_in typed results locals result (k.For first test third body number) looped
+      ≡ (simple_any first looped && test_formed typed results locals test && simple_any third looped && formed typed results locals result body true)
+  formed-For (Some first) test (Some third) body number looped =
+      ap (λ (f : Bool
+      → Bool). f looped) (of_formed (TKind-F.For (Some first) test (Some third) body number) _ (k.rolls-For (Some first) test (Some third) body number))
+  formed-For (Some first) test None body number looped =
+      ap (λ (f : Bool → Bool). f looped) (of_formed (TKind-F.For (Some first) test None body number) _ (k.rolls-For (Some first) test None body number))
+  formed-For None test (Some third) body number looped =
+      ap (λ (f : Bool → Bool). f looped) (of_formed (TKind-F.For None test (Some third) body number) _ (k.rolls-For None test (Some third) body number))
+  formed-For None test None body number looped =
+      ap (λ (f : Bool → Bool). f looped) (of_formed (TKind-F.For None test None body number) _ (k.rolls-For None test None body number))
 
   pub formed-Return : (x : Option TExpr) (looped : Bool)
       → formed_in typed results locals result (k.Return x) looped ≡ return_formed typed results locals result x
@@ -179,7 +195,8 @@ module _ (typed : Typed) (results : List (Option Kind)) (locals : List TLocal) (
   formed-Continue looped = ap (λ (f : Bool → Bool). f looped) (of_formed TKind-F.Continue _ k.rolls-Continue)
 
   each_formed : (ss : List TStmt) (looped : Bool)
-      → all_formed typed results locals (map (λ s. (s, formed typed results locals result s)) ss) looped ≡ list_all (λ s. formed typed results locals result s looped) ss
+      → all_formed typed results locals (map (λ s. (s, formed typed results locals result s)) ss) looped
+      ≡ list_all (λ s. formed typed results locals result s looped) ss
   each_formed [] looped = refl
   each_formed (s ∷ ss) looped = ap (λ b. formed typed results locals result s looped && b) (each_formed ss looped)
 
@@ -236,11 +253,17 @@ module _ (func : ℕ) where
   counted-While x s line = ap (λ (f : ℕ → Counted). f line) (of_counted (TKind-F.While x s) _ (k.rolls-While x s))
 
   pub counted-For : (first : Option TStmt) (test : Option TExpr) (third : Option TStmt) (body : TStmt) (number : Option ℕ) (line : ℕ)
-      → counted_in func (k.For first test third body number) line ≡ for_counted func line number (both_counted (if_counted (counted_any first)) (if_counted (counted_any third))) (counted func body)
-  counted-For (Some first) test (Some third) body number line = ap (λ (f : ℕ → Counted). f line) (of_counted (TKind-F.For (Some first) test (Some third) body number) _ (k.rolls-For (Some first) test (Some third) body number))
-  counted-For (Some first) test None body number line = ap (λ (f : ℕ → Counted). f line) (of_counted (TKind-F.For (Some first) test None body number) _ (k.rolls-For (Some first) test None body number))
-  counted-For None test (Some third) body number line = ap (λ (f : ℕ → Counted). f line) (of_counted (TKind-F.For None test (Some third) body number) _ (k.rolls-For None test (Some third) body number))
-  counted-For None test None body number line = ap (λ (f : ℕ → Counted). f line) (of_counted (TKind-F.For None test None body number) _ (k.rolls-For None test None body number))
+      → counted_in func (k.For first test third body number) line
+      ≡ for_counted func line number (both_counted (if_counted (counted_any first)) (if_counted (counted_any third))) (counted func body)
+  counted-For (Some first) test (Some third) body number line =
+      ap (λ (f : ℕ
+      → Counted). f line) (of_counted (TKind-F.For (Some first) test (Some third) body number) _ (k.rolls-For (Some first) test (Some third) body number))
+  counted-For (Some first) test None body number line =
+      ap (λ (f : ℕ → Counted). f line) (of_counted (TKind-F.For (Some first) test None body number) _ (k.rolls-For (Some first) test None body number))
+  counted-For None test (Some third) body number line =
+      ap (λ (f : ℕ → Counted). f line) (of_counted (TKind-F.For None test (Some third) body number) _ (k.rolls-For None test (Some third) body number))
+  counted-For None test None body number line =
+      ap (λ (f : ℕ → Counted). f line) (of_counted (TKind-F.For None test None body number) _ (k.rolls-For None test None body number))
 
   pub counted-Return : (x : Option TExpr) (line : ℕ) → counted_in func (k.Return x) line ≡ none_counted
   counted-Return x line = ap (λ (f : ℕ → Counted). f line) (of_counted (TKind-F.Return x) _ (k.rolls-Return x))
