@@ -1,9 +1,7 @@
 //! Laws over the definitions of what a program means. A law stands on a function that does nothing.
 #![tactic(auto)]
 
-pub mod bounds;
 pub mod budgets;
 pub mod chunks;
 pub mod records;
 pub mod reductions;
-pub mod rounds;
