@@ -1,22 +1,18 @@
 -- A chunk without reductions is the direct run of its iterations.
-use Rattle.std.proofs.Common.{◌≡◌, ℕ, zero, suc, ◌+◌, ◌-◌, ◌<◌, ◌≤◌, List, [], length, Some, None, true, false, refl, sym, ap, subst, ◌∙◌, arith}
-use Rattle.std.specs.Prelude.{is_some, slice_get}
+use Rattle.std.proofs.Common.{◌≡◌, ℕ, zero, suc, ◌+◌, ◌-◌, ◌<◌, ◌≤◌, List, [], Some, refl, sym, ap, subst, ◌∙◌, arith}
 use Rattle.std.specs.FinMap as fin
 use Rattle.std.specs.FinSet as set
 use Rattle.std.specs.FinSet.{contains-empty}
 use Rattle.std.proofs.Math.Bool.{true≢false}
 use Rattle.al_core.specs.declared.reports.Ending.{Ending}
 use Rattle.al_core.specs.declared.reports.Ending.TheVariants as ending
-use Rattle.al_core.specs.declared.values.Addr.TheVariants.{Local}
-use Rattle.al_core.specs.declared.values.Obj.{Obj}
-use Rattle.al_core.specs.declared.values.Obj.TheVariants.{Iter}
 use Rattle.al_core.specs.Orders.{obj_cmp}
 use Rattle.al_core.specs.Memory.{Memory}
 use Rattle.al_core.specs.declared.choices.Red.{Red}
 use Rattle.al_core.specs.Access.{Allocations, AccessRecord, Content, in_iteration}
-use Rattle.al_core.specs.Iteration.{Execution, Finished, ending_of, iteration, iteration_from, then_by, then_runs, add_steps, iterations}
+use Rattle.al_core.specs.Iteration.{Execution, Finished, ending_of, iteration, iteration_from, then_by, then_runs, iterations}
 use Rattle.al_core.specs.Chunk.{chunk_start, chunk_end, chunk_trips, chunk_runs, chunk_from, fresh_accesses, outcome_of, outcome}
-use Rattle.al_core.specs.Readiness.{IsNameFrom, IsFresh}
+use Rattle.al_core.specs.Readiness.{IsFresh}
 use Rattle.al_core.specs.Applied.{applied}
 use Rattle.al_core.specs.Serial.{direct}
 use Rattle.al_laws.specs.Recording.{without_log, HasNoReds}
@@ -80,7 +76,8 @@ module _ (m : Memory) (x : Execution) (first last : ℕ) where
       ends _ ((of_iteration (λ A. Keeps (Stays m x.number first last) {A = A})
       (keeps_closed (Stays m x.number first last) in_iteration (stays m x.number first last)) x j).by (iteration_from x j c) (starts j c f l b))
 
-  then_keeps : (r : Finished) (f : Content → Finished) → Holds r.content → ((c : Content) → Holds c → Holds (f c).content) → (e : Ending) → Holds (then_by e r f).content
+  then_keeps : (r : Finished) (f : Content → Finished) → Holds r.content → ((c : Content) → Holds c → Holds (f c).content) → (e : Ending)
+      → Holds (then_by e r f).content
   then_keeps r f b h ending.Done = h r.content b
   then_keeps r f b h (ending.Trap t line) = b
 
@@ -114,7 +111,8 @@ record SameEnd (r q : Finished) : Type 0 where
   pub ending : r.ending ≡ q.ending
   pub steps : r.steps ≡ q.steps
 
-any_allocations : (x : Execution) (n j : ℕ) (c : Content) (a b : Allocations) → SameEnd (iterations x n j (record c { allocations = a })) (iterations x n j (record c { allocations = b }))
+any_allocations : (x : Execution) (n j : ℕ) (c : Content) (a b : Allocations)
+    → SameEnd (iterations x n j (record c { allocations = a })) (iterations x n j (record c { allocations = b }))
 unfolding iteration
 any_allocations x zero j c a b = record { memory = refl; printed = refl; ending = refl; steps = refl }
 any_allocations x (suc n) j c a b = record { memory = refl; printed = refl; ending = refl; steps = refl }

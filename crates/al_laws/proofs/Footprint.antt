@@ -23,7 +23,8 @@ use Rattle.al_laws.proofs.Overlay.{put_elsewhere}
 use Rattle.al_laws.proofs.Stays.{SameBut, Grows, lacks, load_reads, get_put, get_remove, weaker, word_put, inserted_here, inserted_more, limited, or_left, or_right, is_among, among_append, none_set, none_left, obj_differs}
 use Rattle.al_laws.proofs.Agree.{Matches, Kept}
 
-set_both : (x y : List Val) (w : ℕ) (v : Val) → is_some (slice_get x w) ≡ true → is_some (slice_get y w) ≡ true → slice_get (slice_set x w v) w ≡ slice_get (slice_set y w v) w
+set_both : (x y : List Val) (w : ℕ) (v : Val) → is_some (slice_get x w) ≡ true → is_some (slice_get y w) ≡ true
+    → slice_get (slice_set x w v) w ≡ slice_get (slice_set y w v) w
 set_both [] y w v p q = absurd (true≢false (sym p))
 set_both (a ∷ x) [] w v p q = absurd (true≢false (sym q))
 set_both (a ∷ x) (b ∷ y) zero v p q = refl
@@ -47,7 +48,8 @@ touched_before u b a f c = ap (λ z. z || set.contains u a) (sym f) ∙ sym (set
 module _ (m n : Memory) (same_count : length m.locals ≡ length n.locals) where
   -- what a memory still has of the one that it was copied from
   pub record Half (from now : Memory) (accesses : AccessRecord) : Type 0 where
-    pub kept : (o : Obj) → set.contains accesses.made o ≡ false → is_among accesses.freed o ≡ false → SameBut accesses.touched o (map.get from.objects o) (map.get now.objects o)
+    pub kept : (o : Obj) → set.contains accesses.made o ≡ false → is_among accesses.freed o ≡ false
+        → SameBut accesses.touched o (map.get from.objects o) (map.get now.objects o)
     pub gone : (o : Obj) → set.contains accesses.made o ≡ false → is_among accesses.freed o ≡ true → map.get now.objects o ≡ None
     pub locals_length : length now.locals ≡ length from.locals
     pub locals : (k : ℕ) → set.contains accesses.touched (Local k) ≡ false → slice_get now.locals k ≡ slice_get from.locals k
@@ -117,13 +119,15 @@ module _ (m n : Memory) (same_count : length m.locals ≡ length n.locals) where
   word_there (Some x) (Some y) w l = same_shape x y l w
 
   -- an untouched word is as it was
-  word_as_found : (t : FinSet addr_cmp) (o : Obj) (w : ℕ) (x x' : Option (List Val)) → set.contains t (Word o w) ≡ false → SameBut t o x x' → word_in x' w ≡ word_in x w
+  word_as_found : (t : FinSet addr_cmp) (o : Obj) (w : ℕ) (x x' : Option (List Val)) → set.contains t (Word o w) ≡ false → SameBut t o x x'
+      → word_in x' w ≡ word_in x w
   word_as_found t o w None None n s = refl
   word_as_found t o w None (Some x') n s = absurd s
   word_as_found t o w (Some x) None n s = absurd s
   word_as_found t o w (Some x) (Some x') n s = s.1 w n
 
-  half_by : (from now : Memory) (accesses l : AccessRecord) → l.made ≡ accesses.made → l.freed ≡ accesses.freed → l.touched ≡ accesses.touched → Half from now accesses → Half from now l
+  half_by : (from now : Memory) (accesses l : AccessRecord) → l.made ≡ accesses.made → l.freed ≡ accesses.freed → l.touched ≡ accesses.touched
+      → Half from now accesses → Half from now l
   half_by from now accesses l em ef et h = record {
     kept = λ o f c. subst (λ z. SameBut z o (map.get from.objects o) (map.get now.objects o)) (sym et) (h.kept o (ap (λ z. set.contains z o) (sym em) ∙ f) (ap (λ z. is_among z o) (sym ef) ∙ c));
     gone = λ o f c. h.gone o (ap (λ z. set.contains z o) (sym em) ∙ f) (ap (λ z. is_among z o) (sym ef) ∙ c);
@@ -144,7 +148,8 @@ module _ (m n : Memory) (same_count : length m.locals ≡ length n.locals) where
     local_there : (k : ℕ) → is_some (slice_get s.memory.locals k) ≡ is_some (slice_get t.memory.locals k)
     local_there k = same_shape s.memory.locals t.memory.locals (h.half_s.locals_length ∙ same_count ∙ sym h.half_t.locals_length) k
 
-    untouched_now : (o : Obj) (w : ℕ) → set.contains h.accesses.made o ≡ false → set.contains h.accesses.touched (Word o w) ≡ false → AgreeAt m n (Word o w) → value_at s.memory (Word o w) ≡ value_at t.memory (Word o w)
+    untouched_now : (o : Obj) (w : ℕ) → set.contains h.accesses.made o ≡ false → set.contains h.accesses.touched (Word o w) ≡ false → AgreeAt m n (Word o w)
+        → value_at s.memory (Word o w) ≡ value_at t.memory (Word o w)
     untouched_now o w f c e =
         elim (is_among h.accesses.freed o) as (λ b. is_among h.accesses.freed o ≡ b → value_at s.memory (Word o w) ≡ value_at t.memory (Word o w)) [
           | true ↦ λ g. ap (λ x. word_in x w) (h.half_s.gone o f g ∙ sym (h.half_t.gone o f g))
@@ -154,14 +159,16 @@ module _ (m n : Memory) (same_count : length m.locals ≡ length n.locals) where
         ] refl
 
     -- a word that was touched, or that the two memories agree at
-    word_now : (o : Obj) (w : ℕ) → set.contains h.accesses.made o ≡ false → (set.contains h.accesses.touched (Word o w) ≡ false → AgreeAt m n (Word o w)) → value_at s.memory (Word o w) ≡ value_at t.memory (Word o w)
+    word_now : (o : Obj) (w : ℕ) → set.contains h.accesses.made o ≡ false → (set.contains h.accesses.touched (Word o w) ≡ false → AgreeAt m n (Word o w))
+        → value_at s.memory (Word o w) ≡ value_at t.memory (Word o w)
     word_now o w f e =
         elim (set.contains h.accesses.touched (Word o w)) as (λ b. set.contains h.accesses.touched (Word o w) ≡ b → value_at s.memory (Word o w) ≡ value_at t.memory (Word o w)) [
           | true ↦ λ c. h.touched (Word o w) c
           | false ↦ λ c. untouched_now o w f c (e c)
         ] refl
 
-    local_now : (k : ℕ) → (set.contains h.accesses.touched (Local k) ≡ false → AgreeAt m n (Local k)) → value_at s.memory (Local k) ≡ value_at t.memory (Local k)
+    local_now : (k : ℕ) → (set.contains h.accesses.touched (Local k) ≡ false → AgreeAt m n (Local k))
+        → value_at s.memory (Local k) ≡ value_at t.memory (Local k)
     local_now k e =
         elim (set.contains h.accesses.touched (Local k)) as (λ b. set.contains h.accesses.touched (Local k) ≡ b → value_at s.memory (Local k) ≡ value_at t.memory (Local k)) [
           | true ↦ λ c. h.touched (Local k) c
@@ -169,7 +176,8 @@ module _ (m n : Memory) (same_count : length m.locals ≡ length n.locals) where
         ] refl
 
     -- with other reads
-    near_reads : (l : AccessRecord) → l.made ≡ h.accesses.made → l.freed ≡ h.accesses.freed → l.touched ≡ h.accesses.touched → Near (with_accesses s l) (with_accesses t l)
+    near_reads : (l : AccessRecord) → l.made ≡ h.accesses.made → l.freed ≡ h.accesses.freed → l.touched ≡ h.accesses.touched
+        → Near (with_accesses s l) (with_accesses t l)
     near_reads l em ef et = record {
       accesses = l;
       is_s = refl;
@@ -184,7 +192,8 @@ module _ (m n : Memory) (same_count : length m.locals ≡ length n.locals) where
 
   -- ---- loads
 
-  more_of_load : (accesses : AccessRecord) (a : Addr) (v : Option Val) (q : Addr) → set.contains (with_head accesses a).reads q ≡ true → set.contains (record_load accesses a v).reads q ≡ true
+  more_of_load : (accesses : AccessRecord) (a : Addr) (v : Option Val) (q : Addr) → set.contains (with_head accesses a).reads q ≡ true
+      → set.contains (record_load accesses a v).reads q ≡ true
   more_of_load accesses a (Some v) q e =
       elim (set.contains (with_head accesses a).touched a) as (λ b. set.contains (if b then with_head accesses a else record (with_head accesses a) { reads = set.insert (with_head accesses a).reads a }).reads q ≡ true) [
         | true ↦ e
@@ -198,30 +207,36 @@ module _ (m n : Memory) (same_count : length m.locals ≡ length n.locals) where
   more_of_head accesses (Local k) q e = e
 
   -- what a load finds and has not touched, it reads
-  load_reads_it : (accesses : AccessRecord) (a : Addr) (v : Val) → set.contains (with_head accesses a).touched a ≡ false → set.contains (record_load accesses a (Some v)).reads a ≡ true
+  load_reads_it : (accesses : AccessRecord) (a : Addr) (v : Val) → set.contains (with_head accesses a).touched a ≡ false
+      → set.contains (record_load accesses a (Some v)).reads a ≡ true
   load_reads_it accesses a v f =
-      ap (λ b. set.contains (if b then with_head accesses a else record (with_head accesses a) { reads = set.insert (with_head accesses a).reads a }).reads a) f ∙ inserted_here (with_head accesses a).reads a
+      ap (λ b. set.contains (if b then with_head accesses a else record (with_head accesses a) { reads = set.insert (with_head accesses a).reads a }).reads a) f
+      ∙ inserted_here (with_head accesses a).reads a
 
   same_none : (y : Option Val) → false ≡ is_some y → y ≡ None
   same_none None e = refl
   same_none (Some v) e = absurd (true≢false (sym e))
 
   module _ (s t : Content) (h : Near s t) where
-    word_loaded : (o : Obj) (w : ℕ) (v : Option Val) → value_at s.memory (Word o w) ≡ v → set.contains h.accesses.made o ≡ false → AgreeOn (record_load h.accesses (Word o w) v).reads → value_at s.memory (Word o w) ≡ value_at t.memory (Word o w)
+    word_loaded : (o : Obj) (w : ℕ) (v : Option Val) → value_at s.memory (Word o w) ≡ v → set.contains h.accesses.made o ≡ false
+        → AgreeOn (record_load h.accesses (Word o w) v).reads → value_at s.memory (Word o w) ≡ value_at t.memory (Word o w)
     word_loaded o w (Some v) e f g = word_now s t h o w f (λ c. g (Word o w) (load_reads_it h.accesses (Word o w) v c))
     word_loaded o w None e f g =
         e ∙ sym (same_none (value_at t.memory (Word o w)) (sym (ap is_some e) ∙ word_there (map.get s.memory.objects o) (map.get t.memory.objects o) w (head_now s t h o f (g (Head o) (inserted_here h.accesses.reads (Head o))))))
 
-    local_loaded : (k : ℕ) (v : Option Val) → value_at s.memory (Local k) ≡ v → AgreeOn (record_load h.accesses (Local k) v).reads → value_at s.memory (Local k) ≡ value_at t.memory (Local k)
+    local_loaded : (k : ℕ) (v : Option Val) → value_at s.memory (Local k) ≡ v → AgreeOn (record_load h.accesses (Local k) v).reads
+        → value_at s.memory (Local k) ≡ value_at t.memory (Local k)
     local_loaded k (Some v) e g = local_now s t h k (λ c. g (Local k) (load_reads_it h.accesses (Local k) v c))
     local_loaded k None e g = e ∙ sym (same_none (value_at t.memory (Local k)) (sym (ap is_some e) ∙ local_there s t h k))
 
     head_of_load : (o : Obj) (w : ℕ) (v : Option Val) → AgreeOn (record_load h.accesses (Word o w) v).reads → AgreeAt m n (Head o)
     head_of_load o w v g = g (Head o) (more_of_load h.accesses (Word o w) v (Head o) (inserted_here h.accesses.reads (Head o)))
 
-    same_load : (a : Addr) (k : Kind) → value_at s.memory a ≡ value_at t.memory a → missing_or_outside s.memory a ≡ missing_or_outside t.memory a → load_in s.memory a k ≡ load_in t.memory a k
+    same_load : (a : Addr) (k : Kind) → value_at s.memory a ≡ value_at t.memory a → missing_or_outside s.memory a ≡ missing_or_outside t.memory a
+        → load_in s.memory a k ≡ load_in t.memory a k
     same_load a k e f =
-        ap (loaded s.memory a k) e ∙ elim (value_at t.memory a) as (λ v. loaded s.memory a k v ≡ loaded t.memory a k v) [ Some v ↦ refl | None ↦ ap (λ z. Err z) f ]
+        ap (loaded s.memory a k) e
+        ∙ elim (value_at t.memory a) as (λ v. loaded s.memory a k v ≡ loaded t.memory a k v) [ Some v ↦ refl | None ↦ ap (λ z. Err z) f ]
 
     abbrev Same : {A : Type 0} → A × Content → A × Content → Type 0
     Same p q = (p.0 ≡ q.0) × Near p.1 q.1
@@ -233,7 +248,8 @@ module _ (m n : Memory) (same_count : length m.locals ≡ length n.locals) where
     own_missing : (o : Obj) (w : ℕ) → set.contains h.accesses.made o ≡ true → missing_or_outside s.memory (Word o w) ≡ missing_or_outside t.memory (Word o w)
     own_missing o w c = ap (λ x. if is_some x then trap.Bounds else trap.Missing) (h.made o c)
 
-    other_missing : (o : Obj) (w : ℕ) → set.contains h.accesses.made o ≡ false → AgreeAt m n (Head o) → missing_or_outside s.memory (Word o w) ≡ missing_or_outside t.memory (Word o w)
+    other_missing : (o : Obj) (w : ℕ) → set.contains h.accesses.made o ≡ false → AgreeAt m n (Head o)
+        → missing_or_outside s.memory (Word o w) ≡ missing_or_outside t.memory (Word o w)
     other_missing o w f e = ap (λ b. if b then trap.Bounds else trap.Missing) (there (map.get s.memory.objects o) (map.get t.memory.objects o) (head_now s t h o f e))
 
     -- the read is recorded alike
@@ -245,18 +261,21 @@ module _ (m n : Memory) (same_count : length m.locals ≡ length n.locals) where
     loaded_alike a k e f =
         (same_load a k e f, subst (λ v. Near (with_accesses s (record_load h.accesses a (value_at s.memory a))) (with_accesses t (record_load h.accesses a v))) e (read_near a (value_at s.memory a)))
 
-    load_word : (o : Obj) (w : ℕ) (k : Kind) (b : Bool) → set.contains h.accesses.made o ≡ b → Good (if b then s else with_accesses s (record_load h.accesses (Word o w) (value_at s.memory (Word o w))))
+    load_word : (o : Obj) (w : ℕ) (k : Kind) (b : Bool) → set.contains h.accesses.made o ≡ b
+        → Good (if b then s else with_accesses s (record_load h.accesses (Word o w) (value_at s.memory (Word o w))))
         → Same (load_in s.memory (Word o w) k, if b then s else with_accesses s (record_load h.accesses (Word o w) (value_at s.memory (Word o w)))) (load_in t.memory (Word o w) k, if b then t else with_accesses t (record_load h.accesses (Word o w) (value_at t.memory (Word o w))))
     load_word o w k true c g = (same_load (Word o w) k (own_word o w c) (own_missing o w c), h)
     load_word o w k false c g =
         loaded_alike (Word o w) k (word_loaded o w (value_at s.memory (Word o w)) refl c g) (other_missing o w c (head_of_load o w (value_at s.memory (Word o w)) g))
 
-    load_alike : (a : Addr) (k : Kind) → Good (load_recorded s h.accesses a k None).1 → Same (load_recorded s h.accesses a k None) (load_recorded t h.accesses a k None)
+    load_alike : (a : Addr) (k : Kind) → Good (load_recorded s h.accesses a k None).1
+        → Same (load_recorded s h.accesses a k None) (load_recorded t h.accesses a k None)
     load_alike (Word o w) k g = load_word o w k (set.contains h.accesses.made o) refl g
     load_alike (Head o) k g = loaded_alike (Head o) k refl refl
     load_alike (Local i) k g = loaded_alike (Local i) k (local_loaded i (value_at s.memory (Local i)) refl g) refl
 
-    load_by_index : (a : Addr) (k : Kind) (i : Option ℕ) → Good (load_recorded s h.accesses a k i).1 → Same (load_recorded s h.accesses a k i) (load_recorded t h.accesses a k i)
+    load_by_index : (a : Addr) (k : Kind) (i : Option ℕ) → Good (load_recorded s h.accesses a k i).1
+        → Same (load_recorded s h.accesses a k i) (load_recorded t h.accesses a k i)
     load_by_index a k (Some i) g = (refl, h)
     load_by_index a k None g = load_alike a k g
 
@@ -266,11 +285,13 @@ module _ (m n : Memory) (same_count : length m.locals ≡ length n.locals) where
         (subst (λ l. Good (load_by (Some h.accesses) s a k).1 → Same (load_by (Some h.accesses) s a k) (load_by l t a k)) (sym h.is_t) (load_by_index a k (red_index h.accesses.reds a)))
 
   -- what was read before is still read
-  load_back_own : (s : Content) (accesses : AccessRecord) (a : Addr) (b : Bool) → s.accesses ≡ Some accesses → Good (if b then s else with_accesses s (record_load accesses a (value_at s.memory a))) → Good s
+  load_back_own : (s : Content) (accesses : AccessRecord) (a : Addr) (b : Bool) → s.accesses ≡ Some accesses
+      → Good (if b then s else with_accesses s (record_load accesses a (value_at s.memory a))) → Good s
   load_back_own s accesses a true e g = g
   load_back_own s accesses a false e g = subst GoodLog (sym e) (λ q c. g q (more_of_load accesses a (value_at s.memory a) q (more_of_head accesses a q c)))
 
-  load_back_index : (s : Content) (accesses : AccessRecord) (a : Addr) (k : Kind) (i : Option ℕ) → s.accesses ≡ Some accesses → Good (load_recorded s accesses a k i).1 → Good s
+  load_back_index : (s : Content) (accesses : AccessRecord) (a : Addr) (k : Kind) (i : Option ℕ) → s.accesses ≡ Some accesses
+      → Good (load_recorded s accesses a k i).1 → Good s
   load_back_index s accesses a k (Some i) e g = g
   load_back_index s accesses a k None e g = load_back_own s accesses a (is_own accesses a) e g
 
@@ -285,7 +306,9 @@ module _ (m n : Memory) (same_count : length m.locals ≡ length n.locals) where
   -- ---- stores
 
   -- one copy, after a word was put
-  half_word : (from now : Memory) (accesses : AccessRecord) (o : Obj) (w : ℕ) (v : Val) (l : AccessRecord) → l.made ≡ accesses.made → l.freed ≡ accesses.freed → Grows accesses.touched l.touched → (set.contains accesses.made o ≡ false → set.contains l.touched (Word o w) ≡ true) → Half from now accesses → Half from (put now (Word o w) v) l
+  half_word : (from now : Memory) (accesses : AccessRecord) (o : Obj) (w : ℕ) (v : Val) (l : AccessRecord) → l.made ≡ accesses.made → l.freed ≡ accesses.freed
+      → Grows accesses.touched l.touched → (set.contains accesses.made o ≡ false → set.contains l.touched (Word o w) ≡ true) → Half from now accesses
+      → Half from (put now (Word o w) v) l
   half_word from now accesses o w v l em ef grows written h = record {
     kept = λ q f c.
         let f' = ap (λ z. set.contains z q) (sym em) ∙ f in
@@ -305,33 +328,39 @@ module _ (m n : Memory) (same_count : length m.locals ≡ length n.locals) where
     locals = λ k f. h.locals k (lacks accesses.touched l.touched grows (Local k) f);
   }
 
-  half_local : (from now : Memory) (accesses : AccessRecord) (k : ℕ) (v : Val) (l : AccessRecord) → l.made ≡ accesses.made → l.freed ≡ accesses.freed → Grows accesses.touched l.touched → set.contains l.touched (Local k) ≡ true → Half from now accesses → Half from (put now (Local k) v) l
+  half_local : (from now : Memory) (accesses : AccessRecord) (k : ℕ) (v : Val) (l : AccessRecord) → l.made ≡ accesses.made → l.freed ≡ accesses.freed
+      → Grows accesses.touched l.touched → set.contains l.touched (Local k) ≡ true → Half from now accesses → Half from (put now (Local k) v) l
   half_local from now accesses k v l em ef grows written h = record {
     kept = λ q f c.
         weaker accesses.touched l.touched q (map.get from.objects q) (map.get now.objects q) grows
         (h.kept q (ap (λ z. set.contains z q) (sym em) ∙ f) (ap (λ z. is_among z q) (sym ef) ∙ c));
     gone = λ q f c. h.gone q (ap (λ z. set.contains z q) (sym em) ∙ f) (ap (λ z. is_among z q) (sym ef) ∙ c);
     locals_length = length-set now.locals k v ∙ h.locals_length;
-    locals = λ i f. get_set_other now.locals i k v (λ e. true≢false (sym written ∙ ap (λ i. set.contains l.touched (Local i)) (sym e) ∙ f)) ∙ h.locals i (lacks accesses.touched l.touched grows (Local i) f);
+    locals = λ i f. get_set_other now.locals i k v (λ e. true≢false (sym written ∙ ap (λ i. set.contains l.touched (Local i)) (sym e) ∙ f))
+        ∙ h.locals i (lacks accesses.touched l.touched grows (Local i) f);
   }
 
   -- at each address the two memories answer alike after the same put, if they did before, or if it is the address of the put and a value is there in both
-  put_object_alike : (s t : Memory) (o : Obj) (w : ℕ) (v : Val) (q : Obj) → map.get s.objects q ≡ map.get t.objects q → map.get (put s (Word o w) v).objects q ≡ map.get (put t (Word o w) v).objects q
+  put_object_alike : (s t : Memory) (o : Obj) (w : ℕ) (v : Val) (q : Obj) → map.get s.objects q ≡ map.get t.objects q
+      → map.get (put s (Word o w) v).objects q ≡ map.get (put t (Word o w) v).objects q
   put_object_alike s t o w v q e = get_put s o w v q ∙ ap (λ x. if obj_eq q o then option_map (λ l. slice_set l w v) x else x) e ∙ sym (get_put t o w v q)
 
-  set_there : (x y : Option (List Val)) (w : ℕ) (v : Val) → is_some (word_in x w) ≡ true → is_some (word_in y w) ≡ true → word_in (option_map (λ l. slice_set l w v) x) w ≡ word_in (option_map (λ l. slice_set l w v) y) w
+  set_there : (x y : Option (List Val)) (w : ℕ) (v : Val) → is_some (word_in x w) ≡ true → is_some (word_in y w) ≡ true
+      → word_in (option_map (λ l. slice_set l w v) x) w ≡ word_in (option_map (λ l. slice_set l w v) y) w
   set_there None y w v p q = absurd (true≢false (sym p))
   set_there (Some x) None w v p q = absurd (true≢false (sym q))
   set_there (Some x) (Some y) w v p q = set_both x y w v p q
 
-  put_word_alike : (s t : Memory) (o : Obj) (w : ℕ) (v : Val) → is_some (value_at s (Word o w)) ≡ true → is_some (value_at t (Word o w)) ≡ true → value_at (put s (Word o w) v) (Word o w) ≡ value_at (put t (Word o w) v) (Word o w)
+  put_word_alike : (s t : Memory) (o : Obj) (w : ℕ) (v : Val) → is_some (value_at s (Word o w)) ≡ true → is_some (value_at t (Word o w)) ≡ true
+      → value_at (put s (Word o w) v) (Word o w) ≡ value_at (put t (Word o w) v) (Word o w)
   put_word_alike s t o w v p q =
       ap (λ x. word_in x w) (get_put s o w v o ∙ ap (λ b. if b then option_map (λ l. slice_set l w v) (map.get s.objects o) else map.get s.objects o) (obj_itself o))
       ∙ set_there (map.get s.objects o) (map.get t.objects o) w v p q
       ∙ sym (ap (λ x. word_in x w) (get_put t o w v o ∙ ap (λ b. if b then option_map (λ l. slice_set l w v) (map.get t.objects o) else map.get t.objects o) (obj_itself o)))
 
   module _ (s t : Content) (h : Near s t) where
-    word_put_near : (o : Obj) (w : ℕ) (v : Val) (l : AccessRecord) (ls lt : Option AccessRecord) → ls ≡ Some l → lt ≡ Some l → l.made ≡ h.accesses.made → l.freed ≡ h.accesses.freed → Grows h.accesses.touched l.touched → (set.contains h.accesses.made o ≡ false → set.contains l.touched (Word o w) ≡ true)
+    word_put_near : (o : Obj) (w : ℕ) (v : Val) (l : AccessRecord) (ls lt : Option AccessRecord) → ls ≡ Some l → lt ≡ Some l → l.made ≡ h.accesses.made
+        → l.freed ≡ h.accesses.freed → Grows h.accesses.touched l.touched → (set.contains h.accesses.made o ≡ false → set.contains l.touched (Word o w) ≡ true)
         → ((a : Addr) → addr_eq a (Word o w) ≡ false → set.contains l.touched a ≡ true → set.contains h.accesses.touched a ≡ true) → is_some (value_at s.memory (Word o w)) ≡ true → is_some (value_at t.memory (Word o w)) ≡ true
         → Near (record { memory = put s.memory (Word o w) v; allocations = s.allocations; printed = s.printed; accesses = ls }) (record { memory = put t.memory (Word o w) v; allocations = t.allocations; printed = t.printed; accesses = lt })
     word_put_near o w v l ls lt is it em ef grows written before ps pt = record {
@@ -369,7 +398,8 @@ module _ (m n : Memory) (same_count : length m.locals ≡ length n.locals) where
       half_t = half_local n t.memory h.accesses k v (with_touched h.accesses (Local k)) refl refl (inserted_more h.accesses.touched (Local k)) (inserted_here h.accesses.touched (Local k)) h.half_t;
     }
 
-    store_word : (o : Obj) (w : ℕ) (x : Val) (b : Bool) (vs vt : Option Val) → set.contains h.accesses.made o ≡ b → value_at s.memory (Word o w) ≡ vs → value_at t.memory (Word o w) ≡ vt → is_some vs ≡ is_some vt → (b ≡ false → AgreeAt m n (Head o))
+    store_word : (o : Obj) (w : ℕ) (x : Val) (b : Bool) (vs vt : Option Val) → set.contains h.accesses.made o ≡ b → value_at s.memory (Word o w) ≡ vs
+        → value_at t.memory (Word o w) ≡ vt → is_some vs ≡ is_some vt → (b ≡ false → AgreeAt m n (Head o))
         → Same s t h (store_in (if b then s else with_accesses s (record_store h.accesses (Word o w) vs)) (Word o w) x vs) (store_in (if b then t else with_accesses t (record_store h.accesses (Word o w) vt)) (Word o w) x vt)
     store_word o w x true (Some y) (Some z) c es et p head =
         (refl, word_put_near o w x h.accesses s.accesses t.accesses h.is_s h.is_t refl refl (λ a f. f) (λ f. absurd (true≢false (sym c ∙ f))) (λ a e f. f) (ap is_some es) (ap is_some et))
@@ -389,11 +419,13 @@ module _ (m n : Memory) (same_count : length m.locals ≡ length n.locals) where
     store_local k x None (Some z) es et p = absurd (true≢false (sym p))
 
     -- a store reads the head
-    store_head : (o : Obj) (w : ℕ) (x : Val) (vs : Option Val) → Good (store_in (with_accesses s (record_store h.accesses (Word o w) vs)) (Word o w) x vs).1 → AgreeAt m n (Head o)
+    store_head : (o : Obj) (w : ℕ) (x : Val) (vs : Option Val) → Good (store_in (with_accesses s (record_store h.accesses (Word o w) vs)) (Word o w) x vs).1
+        → AgreeAt m n (Head o)
     store_head o w x (Some y) g = g (Head o) (inserted_here h.accesses.reads (Head o))
     store_head o w x None g = g (Head o) (inserted_here h.accesses.reads (Head o))
 
-    word_presence : (o : Obj) (w : ℕ) (b : Bool) → set.contains h.accesses.made o ≡ b → (b ≡ false → AgreeAt m n (Head o)) → is_some (value_at s.memory (Word o w)) ≡ is_some (value_at t.memory (Word o w))
+    word_presence : (o : Obj) (w : ℕ) (b : Bool) → set.contains h.accesses.made o ≡ b → (b ≡ false → AgreeAt m n (Head o))
+        → is_some (value_at s.memory (Word o w)) ≡ is_some (value_at t.memory (Word o w))
     word_presence o w true c head = ap is_some (own_word s t h o w c)
     word_presence o w false c head = word_there (map.get s.memory.objects o) (map.get t.memory.objects o) w (head_now s t h o c (head refl))
 
@@ -407,12 +439,14 @@ module _ (m n : Memory) (same_count : length m.locals ≡ length n.locals) where
         let head : false ≡ false → AgreeAt m n (Head o) = λ e. store_head o w x (value_at s.memory (Word o w)) g in
         store_word o w x false (value_at s.memory (Word o w)) (value_at t.memory (Word o w)) c refl refl (word_presence o w false c head) head
 
-    store_alike : (a : Addr) (x : Val) → Good (store_recorded s h.accesses a x None).1 → Same s t h (store_recorded s h.accesses a x None) (store_recorded t h.accesses a x None)
+    store_alike : (a : Addr) (x : Val) → Good (store_recorded s h.accesses a x None).1
+        → Same s t h (store_recorded s h.accesses a x None) (store_recorded t h.accesses a x None)
     store_alike (Word o w) x g = store_word_alike o w x (set.contains h.accesses.made o) refl g
     store_alike (Head o) x g = (refl, near_reads s t h h.accesses refl refl refl)
     store_alike (Local k) x g = store_local k x (value_at s.memory (Local k)) (value_at t.memory (Local k)) refl refl (local_there s t h k)
 
-    store_by_index : (a : Addr) (x : Val) (i : Option ℕ) → Good (store_recorded s h.accesses a x i).1 → Same s t h (store_recorded s h.accesses a x i) (store_recorded t h.accesses a x i)
+    store_by_index : (a : Addr) (x : Val) (i : Option ℕ) → Good (store_recorded s h.accesses a x i).1
+        → Same s t h (store_recorded s h.accesses a x i) (store_recorded t h.accesses a x i)
     store_by_index a x (Some i) g = (refl, near_reads s t h (record h.accesses { accumulators = slice_set h.accesses.accumulators i x }) refl refl refl)
     store_by_index a x None g = store_alike a x g
 
@@ -421,7 +455,8 @@ module _ (m n : Memory) (same_count : length m.locals ≡ length n.locals) where
         subst (λ l. Good (store_by l s a x).1 → Same s t h (store_by l s a x) (store_by t.accesses t a x)) (sym h.is_s)
         (subst (λ l. Good (store_by (Some h.accesses) s a x).1 → Same s t h (store_by (Some h.accesses) s a x) (store_by l t a x)) (sym h.is_t) (store_by_index a x (red_index h.accesses.reds a)))
 
-  more_of_store : (accesses : AccessRecord) (a : Addr) (v : Option Val) (q : Addr) → set.contains accesses.reads q ≡ true → set.contains (record_store accesses a v).reads q ≡ true
+  more_of_store : (accesses : AccessRecord) (a : Addr) (v : Option Val) (q : Addr) → set.contains accesses.reads q ≡ true
+      → set.contains (record_store accesses a v).reads q ≡ true
   more_of_store accesses a (Some v) q e = more_of_head accesses a q e
   more_of_store accesses a None q e = more_of_head accesses a q e
 
@@ -429,11 +464,13 @@ module _ (m n : Memory) (same_count : length m.locals ≡ length n.locals) where
   kept_log d a x (Some v) = refl
   kept_log d a x None = refl
 
-  store_back_own : (s : Content) (accesses : AccessRecord) (a : Addr) (b : Bool) → s.accesses ≡ Some accesses → Good (if b then s else with_accesses s (record_store accesses a (value_at s.memory a))) → Good s
+  store_back_own : (s : Content) (accesses : AccessRecord) (a : Addr) (b : Bool) → s.accesses ≡ Some accesses
+      → Good (if b then s else with_accesses s (record_store accesses a (value_at s.memory a))) → Good s
   store_back_own s accesses a true e g = g
   store_back_own s accesses a false e g = subst GoodLog (sym e) (λ q c. g q (more_of_store accesses a (value_at s.memory a) q c))
 
-  store_back_index : (s : Content) (accesses : AccessRecord) (a : Addr) (x : Val) (i : Option ℕ) → s.accesses ≡ Some accesses → Good (store_recorded s accesses a x i).1 → Good s
+  store_back_index : (s : Content) (accesses : AccessRecord) (a : Addr) (x : Val) (i : Option ℕ) → s.accesses ≡ Some accesses
+      → Good (store_recorded s accesses a x i).1 → Good s
   store_back_index s accesses a x (Some i) e g = subst GoodLog (sym e) g
   store_back_index s accesses a x None e g =
       store_back_own s accesses a (is_own accesses a) e (subst GoodLog (kept_log (if is_own accesses a then s else with_accesses s (record_store accesses a (value_at s.memory a))) a x (value_at s.memory a)) g)
@@ -451,17 +488,20 @@ module _ (m n : Memory) (same_count : length m.locals ≡ length n.locals) where
   get_inserted : (s : Memory) (o : Obj) (ws : List Val) (q : Obj) → obj_eq q o ≡ false → map.get (map.insert s.objects o ws) q ≡ map.get s.objects q
   get_inserted s o ws q f = map.get-insert obj_total s.objects o ws q ∙ ap (λ b. cond b (Some ws) (map.get s.objects q)) f
 
-  inserted_alike : (s t : Memory) (o : Obj) (ws : List Val) (q : Obj) (b : Bool) → (b ≡ false → map.get s.objects q ≡ map.get t.objects q) → cond b (Some ws) (map.get s.objects q) ≡ cond b (Some ws) (map.get t.objects q)
+  inserted_alike : (s t : Memory) (o : Obj) (ws : List Val) (q : Obj) (b : Bool) → (b ≡ false → map.get s.objects q ≡ map.get t.objects q)
+      → cond b (Some ws) (map.get s.objects q) ≡ cond b (Some ws) (map.get t.objects q)
   inserted_alike s t o ws q true e = refl
   inserted_alike s t o ws q false e = e refl
 
-  word_inserted : (s t : Memory) (ws : List Val) (q : Obj) (i : ℕ) (b : Bool) → word_in (map.get s.objects q) i ≡ word_in (map.get t.objects q) i → word_in (cond b (Some ws) (map.get s.objects q)) i ≡ word_in (cond b (Some ws) (map.get t.objects q)) i
+  word_inserted : (s t : Memory) (ws : List Val) (q : Obj) (i : ℕ) (b : Bool) → word_in (map.get s.objects q) i ≡ word_in (map.get t.objects q) i
+      → word_in (cond b (Some ws) (map.get s.objects q)) i ≡ word_in (cond b (Some ws) (map.get t.objects q)) i
   word_inserted s t ws q i true e = refl
   word_inserted s t ws q i false e = e
 
   value_inserted : (s t : Memory) (o : Obj) (ws : List Val) (a : Addr) → value_at s a ≡ value_at t a → value_at (add s o ws) a ≡ value_at (add t o ws) a
   value_inserted s t o ws (Word q i) e =
-      ap (λ x. word_in x i) (map.get-insert obj_total s.objects o ws q) ∙ word_inserted s t ws q i (obj_eq q o) e ∙ sym (ap (λ x. word_in x i) (map.get-insert obj_total t.objects o ws q))
+      ap (λ x. word_in x i) (map.get-insert obj_total s.objects o ws q) ∙ word_inserted s t ws q i (obj_eq q o) e
+      ∙ sym (ap (λ x. word_in x i) (map.get-insert obj_total t.objects o ws q))
   value_inserted s t o ws (Head q) e = refl
   value_inserted s t o ws (Local k) e = e
 
@@ -477,7 +517,8 @@ module _ (m n : Memory) (same_count : length m.locals ≡ length n.locals) where
         (h.kept q (or_right (obj_eq q o) (set.contains accesses.made q) both) c));
     gone = λ q f c.
         let both = sym (set.contains-insert obj_total accesses.made o q) ∙ f in
-        get_inserted now o ws q (or_left (obj_eq q o) (set.contains accesses.made q) both) ∙ h.gone q (or_right (obj_eq q o) (set.contains accesses.made q) both) c;
+        get_inserted now o ws q (or_left (obj_eq q o) (set.contains accesses.made q) both)
+        ∙ h.gone q (or_right (obj_eq q o) (set.contains accesses.made q) both) c;
     locals_length = h.locals_length;
     locals = λ k f. h.locals k (lacks accesses.touched (set.insert accesses.touched (Head o)) (inserted_more accesses.touched (Head o)) (Local k) f);
   }
@@ -543,12 +584,14 @@ module _ (m n : Memory) (same_count : length m.locals ≡ length n.locals) where
 
   value_removed : (s t : Memory) (o : Obj) (a : Addr) → value_at s a ≡ value_at t a → value_at (remove s o) a ≡ value_at (remove t o) a
   value_removed s t o (Word q i) e =
-      ap (λ x. word_in x i) (get_remove s o q) ∙ word_removed (obj_eq q o) (map.get s.objects q) (map.get t.objects q) i e ∙ sym (ap (λ x. word_in x i) (get_remove t o q))
+      ap (λ x. word_in x i) (get_remove s o q) ∙ word_removed (obj_eq q o) (map.get s.objects q) (map.get t.objects q) i e
+      ∙ sym (ap (λ x. word_in x i) (get_remove t o q))
   value_removed s t o (Head q) e = refl
   value_removed s t o (Local k) e = e
 
   -- an own object is freed
-  half_own_freed : (from now : Memory) (accesses : AccessRecord) (o : Obj) → set.contains accesses.made o ≡ true → Half from now accesses → Half from (remove now o) accesses
+  half_own_freed : (from now : Memory) (accesses : AccessRecord) (o : Obj) → set.contains accesses.made o ≡ true → Half from now accesses
+      → Half from (remove now o) accesses
   half_own_freed from now accesses o own h = record {
     kept = λ q f c.
         let other = obj_differs q o (λ e. true≢false (sym own ∙ ap (set.contains accesses.made) (sym e) ∙ f)) in
@@ -558,7 +601,8 @@ module _ (m n : Memory) (same_count : length m.locals ≡ length n.locals) where
     locals = h.locals;
   }
 
-  gone_then : (now : Memory) (o q : Obj) (a b : Bool) → obj_eq q o ≡ b → (a ≡ true → map.get now.objects q ≡ None) → (a || (b || false)) ≡ true → map.get (remove now o).objects q ≡ None
+  gone_then : (now : Memory) (o q : Obj) (a b : Bool) → obj_eq q o ≡ b → (a ≡ true → map.get now.objects q ≡ None) → (a || (b || false)) ≡ true
+      → map.get (remove now o).objects q ≡ None
   gone_then now o q true b t g c = get_remove now o q ∙ none_left (obj_eq q o) (map.get now.objects q) (g refl)
   gone_then now o q false true t g c = get_remove now o q ∙ ap (λ b. cond b None (map.get now.objects q)) t
   gone_then now o q false false t g c = absurd (true≢false (sym c))
@@ -578,7 +622,8 @@ module _ (m n : Memory) (same_count : length m.locals ≡ length n.locals) where
   }
 
   module _ (s t : Content) (h : Near s t) where
-    own_near : (o : Obj) → set.contains h.accesses.made o ≡ true → Near (record s { memory = remove s.memory o; accesses = Some h.accesses }) (record t { memory = remove t.memory o; accesses = Some h.accesses })
+    own_near : (o : Obj) → set.contains h.accesses.made o ≡ true
+        → Near (record s { memory = remove s.memory o; accesses = Some h.accesses }) (record t { memory = remove t.memory o; accesses = Some h.accesses })
     own_near o own = record {
       accesses = h.accesses;
       is_s = refl;
@@ -591,7 +636,8 @@ module _ (m n : Memory) (same_count : length m.locals ≡ length n.locals) where
       half_t = half_own_freed n t.memory h.accesses o own h.half_t;
     }
 
-    other_near : (o : Obj) → Near (record s { memory = remove s.memory o; accesses = Some (record_free h.accesses o true) }) (record t { memory = remove t.memory o; accesses = Some (record_free h.accesses o true) })
+    other_near : (o : Obj)
+        → Near (record s { memory = remove s.memory o; accesses = Some (record_free h.accesses o true) }) (record t { memory = remove t.memory o; accesses = Some (record_free h.accesses o true) })
     other_near o = record {
       accesses = record_free h.accesses o true;
       is_s = refl;
@@ -619,7 +665,8 @@ module _ (m n : Memory) (same_count : length m.locals ≡ length n.locals) where
     freed_alike o false true own = (refl, other_near o)
     freed_alike o false false own = (refl, near_reads s t h (record_free h.accesses o false) refl refl refl)
 
-    presence : (o : Obj) (own : Bool) → set.contains h.accesses.made o ≡ own → (own ≡ false → AgreeAt m n (Head o)) → has_object s.memory o ≡ has_object t.memory o
+    presence : (o : Obj) (own : Bool) → set.contains h.accesses.made o ≡ own → (own ≡ false → AgreeAt m n (Head o))
+        → has_object s.memory o ≡ has_object t.memory o
     presence o true c head = ap is_some (h.made o c)
     presence o false c head = there (map.get s.memory.objects o) (map.get t.memory.objects o) (head_now s t h o c (head refl))
 
@@ -651,7 +698,8 @@ module _ (m n : Memory) (same_count : length m.locals ≡ length n.locals) where
       (subst (λ l. Good (freed_by (Some h.accesses) s o).1 → Same s t h (freed_by (Some h.accesses) s o) (freed_by l t o)) (sym h.is_t)
       (λ g. free_alike s t h o (set.contains h.accesses.made o) refl (subst GoodLog (free_log_kept (record s { accesses = free_recorded (Some h.accesses) o (has_object s.memory o) }) o (has_object s.memory o)) g))) g
 
-  freed_back : (accesses : AccessRecord) (o : Obj) (own there : Bool) → AgreeOn (if own then accesses else record_free accesses o there).reads → AgreeOn accesses.reads
+  freed_back : (accesses : AccessRecord) (o : Obj) (own there : Bool) → AgreeOn (if own then accesses else record_free accesses o there).reads
+      → AgreeOn accesses.reads
   freed_back accesses o true there g = g
   freed_back accesses o false true g = λ q c. g q (inserted_more accesses.reads (Head o) q c)
   freed_back accesses o false false g = λ q c. g q (inserted_more accesses.reads (Head o) q c)

@@ -3,13 +3,11 @@ use Rattle.std.proofs.Common.{◌≡◌, ℕ, zero, suc, List, [], ◌∷◌, le
 use Rattle.std.specs.Prelude.{if◌then◌else◌, is_some, slice_get}
 use Rattle.std.specs.FinMap as fin
 use Rattle.std.specs.FinSet as set
-use Rattle.std.specs.FinSet.{FinSet}
 use Rattle.std.proofs.Math.Bool.{true≢false}
 use Rattle.al_core.specs.declared.values.Val.{Val}
 use Rattle.al_core.specs.declared.values.Addr.{Addr}
 use Rattle.al_core.specs.declared.values.Addr.TheVariants.{Word, Local}
 use Rattle.al_core.specs.declared.values.Obj.{Obj}
-use Rattle.al_core.specs.Orders.{obj_cmp, addr_cmp}
 use Rattle.al_core.specs.Memory.{Memory, word_in, value_at}
 use Rattle.al_core.specs.Access.{AccessRecord}
 use Rattle.al_core.specs.Chunk.{writes_of, made_objects}
@@ -17,7 +15,7 @@ use Rattle.al_core.specs.Applied.{with_writes, with_made, without_freed}
 use Rattle.al_laws.proofs.Orders.{obj_total, obj_apart}
 use Rattle.al_laws.proofs.Words.{same_list}
 use Rattle.al_laws.proofs.Stays.{SameBut, IsPrivate, is_among}
-use Rattle.al_laws.proofs.Overlay.{over, over_same, written_words, written_locals, written_there, made_get, made_locals, get_written, get_made_objects, freed_get, freed_locals}
+use Rattle.al_laws.proofs.Overlay.{over, over_same, written_words, written_locals, written_there, get_with_made, locals_with_made, get_written, get_made_objects, get_without_freed, locals_without_freed}
 
 pub none_of : {A : Type 0} (x : Option A) → is_some x ≡ false → x ≡ None
 none_of None e = refl
@@ -63,7 +61,8 @@ module _ (m : Memory) (e first last : ℕ) (l : AccessRecord) (n : Memory) (p : 
   was_none : (q : Obj) → fin.get m.objects q ≡ None → fin.get words_laid.objects q ≡ None
   was_none q e = none_of (fin.get words_laid.objects q) (written_there (fin.entries (writes_of n l.touched)) m q ∙ ap is_some e)
 
-  laid_object : (q : Obj) (x y : Option (List Val)) → fin.get m.objects q ≡ x → fin.get n.objects q ≡ y → SameBut l.touched q x y → fin.get words_laid.objects q ≡ y
+  laid_object : (q : Obj) (x y : Option (List Val)) → fin.get m.objects q ≡ x → fin.get n.objects q ≡ y → SameBut l.touched q x y
+      → fin.get words_laid.objects q ≡ y
   laid_object q None None ex ey s = was_none q ex
   laid_object q None (Some ws) ex ey s = absurd s
   laid_object q (Some vs) None ex ey s = absurd s
@@ -82,7 +81,7 @@ module _ (m : Memory) (e first last : ℕ) (l : AccessRecord) (n : Memory) (p : 
 
   object_there : (q : Obj) → is_among l.freed q ≡ false → fin.get made_laid.objects q ≡ fin.get n.objects q
   object_there q freed =
-      made_get (fin.entries (made_objects n l.made)) words_laid q (fin.entries_sorted (made_objects n l.made))
+      get_with_made (fin.entries (made_objects n l.made)) words_laid q (fin.entries_sorted (made_objects n l.made))
       ∙ ap (λ x. elim x as (λ _. Option (List Val)) [ None ↦ fin.get words_laid.objects q | Some ws ↦ Some ws ]) (get_made_objects n l.made q)
       ∙ elim (set.contains l.made q) as (λ b. set.contains l.made q ≡ b → elim (if b then fin.get n.objects q else None) as (λ _. Option (List Val)) [ None ↦ fin.get words_laid.objects q | Some ws ↦ Some ws ] ≡ fin.get n.objects q) [
         | true ↦ λ t. made_object q (fin.get n.objects q) (p.fresh q (p.named q t)) refl
@@ -91,7 +90,7 @@ module _ (m : Memory) (e first last : ℕ) (l : AccessRecord) (n : Memory) (p : 
 
   whole_object : (q : Obj) → fin.get (without_freed l.freed made_laid).objects q ≡ fin.get n.objects q
   whole_object q =
-      freed_get l.freed made_laid q
+      get_without_freed l.freed made_laid q
       ∙ elim (is_among l.freed q) as (λ b. is_among l.freed q ≡ b → (if b then None else fin.get made_laid.objects q) ≡ fin.get n.objects q) [
         | true ↦ λ t. sym (p.gone q t).is_gone
         | false ↦ λ t. object_there q t
@@ -101,8 +100,8 @@ module _ (m : Memory) (e first last : ℕ) (l : AccessRecord) (n : Memory) (p : 
   pub whole_memory : without_freed l.freed made_laid ≡ n
   whole_memory =
       let objects_same = fin.same_map obj_total obj_apart (without_freed l.freed made_laid).objects n.objects whole_object in
-      let locals_same = freed_locals l.freed made_laid
-      ∙ made_locals (fin.entries (made_objects n l.made)) words_laid
+      let locals_same = locals_without_freed l.freed made_laid
+      ∙ locals_with_made (fin.entries (made_objects n l.made)) words_laid
       ∙ same_list words_laid.locals n.locals (λ k. local_laid k
       ∙ by_touch (set.contains l.touched (Local k)) (slice_get n.locals k) (slice_get m.locals k) (same_shape n.locals m.locals p.locals_length k) (p.locals k)) in
       λ t. record { objects = objects_same t; locals = locals_same t }

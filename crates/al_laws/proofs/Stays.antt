@@ -40,7 +40,8 @@ get_with_words objects o w v q None e =
       | false ↦ λ t. refl
     ] refl
 
-pub get_put : (m : Memory) (o : Obj) (w : ℕ) (v : Val) (q : Obj) → map.get (put m (Word o w) v).objects q ≡ (if obj_eq q o then option_map (λ l. slice_set l w v) (map.get m.objects q) else map.get m.objects q)
+pub get_put : (m : Memory) (o : Obj) (w : ℕ) (v : Val) (q : Obj)
+    → map.get (put m (Word o w) v).objects q ≡ (if obj_eq q o then option_map (λ l. slice_set l w v) (map.get m.objects q) else map.get m.objects q)
 get_put m o w v q = get_with_words m.objects o w v q (map.get m.objects o) refl
 
 pub get_add : (m : Memory) (o : Obj) (ws : List Val) (q : Obj) → map.get (add m o ws).objects q ≡ cond (obj_eq q o) (Some ws) (map.get m.objects q)
@@ -118,7 +119,8 @@ pub record IsPrivate (m : Memory) (e first last : ℕ) (accesses : AccessRecord)
   pub fresh : (o : Obj) → IsNameFrom e first last o → map.get m.objects o ≡ None
   pub named : (o : Obj) → set.contains accesses.made o ≡ true → IsNameFrom e first last o
   pub headed : (o : Obj) → set.contains accesses.made o ≡ true → set.contains accesses.touched (Head o) ≡ true
-  pub kept : (o : Obj) → set.contains accesses.made o ≡ false → is_among accesses.freed o ≡ false → SameBut accesses.touched o (map.get m.objects o) (map.get n.objects o)
+  pub kept : (o : Obj) → set.contains accesses.made o ≡ false → is_among accesses.freed o ≡ false
+      → SameBut accesses.touched o (map.get m.objects o) (map.get n.objects o)
   pub gone : (o : Obj) → is_among accesses.freed o ≡ true → IsGone accesses o (map.get m.objects o) (map.get n.objects o)
   pub locals_length : length n.locals ≡ length m.locals
   pub locals : (k : ℕ) → set.contains accesses.touched (Local k) ≡ false → slice_get n.locals k ≡ slice_get m.locals k
@@ -170,7 +172,8 @@ read_more accesses l a r = (
   ap {A = AccessRecord} {B = AccessRecord} (λ z. record z { reads = set.insert l.reads a }) r.2,
 )
 
-maybe_read : (accesses l : AccessRecord) (a : Addr) (b : Bool) → ReadsOf accesses l → ReadsOf accesses (if b then l else record l { reads = set.insert l.reads a })
+maybe_read : (accesses l : AccessRecord) (a : Addr) (b : Bool) → ReadsOf accesses l
+    → ReadsOf accesses (if b then l else record l { reads = set.insert l.reads a })
 maybe_read accesses l a true r = r
 maybe_read accesses l a false r = read_more accesses l a r
 
@@ -193,7 +196,8 @@ limited c b words = if b then (Err trap.Alloc, c) else (Ok (name_of c.allocation
 -- ---- the private memory, change by change
 
 module _ (m : Memory) (e first last : ℕ) (l : AccessRecord) (n : Memory) (h : IsPrivate m e first last l n) where
-  gone_more : (more : AccessRecord) (q : Obj) (y : Option (List Val)) → Grows l.reads more.reads → Grows l.touched more.touched → y ≡ None → IsGone l q (map.get m.objects q) (map.get n.objects q)
+  gone_more : (more : AccessRecord) (q : Obj) (y : Option (List Val)) → Grows l.reads more.reads → Grows l.touched more.touched → y ≡ None
+      → IsGone l q (map.get m.objects q) (map.get n.objects q)
       → IsGone more q (map.get m.objects q) y
   gone_more more q y reads touched none g = record {
     freeable = g.freeable;
@@ -226,7 +230,8 @@ module _ (m : Memory) (e first last : ℕ) (l : AccessRecord) (n : Memory) (h : 
     locals = h.locals;
   }
 
-  kept_word : (o : Obj) (w : ℕ) (v : Val) (touched : FinSet addr_cmp) → Grows l.touched touched → (set.contains l.made o ≡ false → set.contains touched (Word o w) ≡ true)
+  kept_word : (o : Obj) (w : ℕ) (v : Val) (touched : FinSet addr_cmp) → Grows l.touched touched
+      → (set.contains l.made o ≡ false → set.contains touched (Word o w) ≡ true)
       → (q : Obj) → set.contains l.made q ≡ false → is_among l.freed q ≡ false → SameBut touched q (map.get m.objects q) (map.get (put n (Word o w) v).objects q)
   kept_word o w v touched grows written q own freed =
       subst (λ x. SameBut touched q (map.get m.objects q) x) (sym (get_put n o w v q))
@@ -426,7 +431,8 @@ module _ (m : Memory) (e first last : ℕ) where
   stored_word c h o w v true None own = h
   stored_word c h o w v false None own = by_reads c h (with_head h.accesses (Word o w)) (head_reads h.accesses (Word o w))
 
-  stored_local : (c : Content) (h : Holds c) (k : ℕ) (v : Val) (old : Option Val) → Holds (store_in (with_accesses c (record_store h.accesses (Local k) old)) (Local k) v old).1
+  stored_local : (c : Content) (h : Holds c) (k : ℕ) (v : Val) (old : Option Val)
+      → Holds (store_in (with_accesses c (record_store h.accesses (Local k) old)) (Local k) v old).1
   stored_local c h k v (Some x) =
       changed c h _ _ (private_local m e first last h.accesses c.memory h.private k v (set.insert h.accesses.touched (Local k)) (inserted_more h.accesses.touched (Local k)) (inserted_here h.accesses.touched (Local k)))
   stored_local c h k v None = by_reads c h h.accesses (no_reads h.accesses)
@@ -466,7 +472,8 @@ module _ (m : Memory) (e first last : ℕ) where
 
   -- ---- what is freed
 
-  freed_there : (c : Content) (h : Holds c) (o : Obj) (own there : Bool) → set.contains h.accesses.made o ≡ own → has_object c.memory o ≡ there → is_freeable o 0 ≡ true
+  freed_there : (c : Content) (h : Holds c) (o : Obj) (own there : Bool) → set.contains h.accesses.made o ≡ own → has_object c.memory o ≡ there
+      → is_freeable o 0 ≡ true
       → Holds (free_there (record c { accesses = Some (if own then h.accesses else record_free h.accesses o there) }) o there).1
   freed_there c h o true true own there place = changed c h h.accesses (remove c.memory o) (private_own_freed m e first last h.accesses c.memory h.private o own)
   freed_there c h o true false own there place = changed c h h.accesses c.memory h.private
