@@ -19,3 +19,4 @@ pub mod Footprint
 pub mod Depends
 pub mod HeadsRead
 pub mod Meeting
+pub mod Turns

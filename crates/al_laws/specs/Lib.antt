@@ -7,3 +7,5 @@ pub mod Bounds
 pub mod Footprints
 pub mod Heads
 pub mod Meeting
+pub mod Turns
+pub mod Ends
