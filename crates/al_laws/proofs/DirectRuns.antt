@@ -19,7 +19,7 @@ use Rattle.al_laws.specs.Recording.{without_log, HasNoReds}
 use Rattle.al_laws.specs.DirectRuns.{RunsAs, ChunkIsDirectRun}
 use Rattle.al_laws.proofs.Agree.{Agree, agree_closed}
 use Rattle.al_laws.proofs.Recording.{Recorded, Good, recorded_kept}
-use Rattle.al_laws.proofs.Keeps.{Keeps, keeps_closed, of_iteration}
+use Rattle.al_laws.proofs.Keeps.{of_iteration, iterations_hold}
 use Rattle.al_laws.proofs.Stays.{same_itself, IsPrivate, Stays, stays}
 use Rattle.al_laws.proofs.Laid.{none_of, whole_memory}
 
@@ -70,21 +70,8 @@ module _ (m : Memory) (x : Execution) (first last : ℕ) where
   ends : (c : Content) → Stays m x.number first last c → Holds c
   ends c s = record { accesses = s.accesses; is = s.is; private = s.private }
 
-  iteration_keeps : (j : ℕ) (c : Content) → first ≤ j → j < last → Holds c → Holds (iteration x j c).content
-  unfolding iteration
-  iteration_keeps j c f l b =
-      ends _ ((of_iteration (λ A. Keeps (Stays m x.number first last) {A = A})
-      (keeps_closed (Stays m x.number first last) in_iteration (stays m x.number first last)) x j).by (iteration_from x j c) (starts j c f l b))
-
-  then_keeps : (r : Finished) (f : Content → Finished) → Holds r.content → ((c : Content) → Holds c → Holds (f c).content) → (e : Ending)
-      → Holds (then_by e r f).content
-  then_keeps r f b h ending.Done = h r.content b
-  then_keeps r f b h (ending.Trap t line) = b
-
   pub iterations_keep : (n j : ℕ) (c : Content) → first ≤ j → n ≤ last - j → Holds c → Holds (iterations x n j c).content
-  iterations_keep zero j c f l b = b
-  iterations_keep (suc n) j c f l b =
-      then_keeps (iteration x j c) (iterations x n (suc j)) (iteration_keeps j c f (omega arith) b) (λ d k. iterations_keep n (suc j) d (omega arith) (omega arith) k) (iteration x j c).ending
+  iterations_keep = iterations_hold Holds (Stays m x.number first last) (stays m x.number first last) ends x first last starts
 
 -- ---- the start
 

@@ -20,3 +20,4 @@ pub mod Depends
 pub mod HeadsRead
 pub mod Meeting
 pub mod Turns
+pub mod Operations
