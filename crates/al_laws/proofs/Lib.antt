@@ -21,3 +21,5 @@ pub mod HeadsRead
 pub mod Meeting
 pub mod Turns
 pub mod Operations
+pub mod Splits
+pub mod Printed

@@ -9,3 +9,4 @@ pub mod Heads
 pub mod Meeting
 pub mod Turns
 pub mod Ends
+pub mod Iterations

@@ -4,6 +4,7 @@
 pub mod bounds;
 pub mod budgets;
 pub mod chunks;
+pub mod iterations;
 pub mod loops;
 pub mod records;
 pub mod reductions;
