@@ -23,3 +23,5 @@ pub mod Turns
 pub mod Operations
 pub mod Splits
 pub mod Printed
+pub mod Unread
+pub mod Applying

@@ -10,3 +10,5 @@ pub mod Meeting
 pub mod Turns
 pub mod Ends
 pub mod Iterations
+pub mod Commits
+pub mod Names

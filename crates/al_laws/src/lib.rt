@@ -4,6 +4,7 @@
 pub mod bounds;
 pub mod budgets;
 pub mod chunks;
+pub mod committing;
 pub mod iterations;
 pub mod loops;
 pub mod records;
