@@ -1,6 +1,6 @@
 -- What an outcome, laid over a memory, changes and what it leaves.
 use Rattle.std.proofs.Common.{◌≡◌, ℕ, suc, ◌+◌, List, [], ◌∷◌, length, Option, Some, None, Bool, true, false, cond, ◌||◌, refl, sym, ap, subst, ◌∙◌, ◌⊎◌, inl, inr}
-use Rattle.std.specs.Prelude.{if◌then◌else◌, is_some, option_map, slice_get, slice_set, ℤ}
+use Rattle.std.specs.Prelude.{if◌then◌else◌, is_some, option_map, slice_get, slice_set, ℤ, Contains}
 use Rattle.std.specs.FinMap as map
 use Rattle.std.specs.FinMap.Entries.{find}
 use Rattle.std.specs.FinSet as set
@@ -142,7 +142,7 @@ module _ (reds : List Red) (m : Memory) (out : Outcome) where
       ∙ ap (λ x. elim x as (λ _. Option (List Val)) [ None ↦ map.get written.objects q | Some ws ↦ Some ws ]) (sym (map.get-entries out.made q))
       ∙ elim (map.get out.made q) as (λ x. elim x as (λ _. Option (List Val)) [ None ↦ map.get written.objects q | Some ws ↦ Some ws ] ≡ made_or x (map.get written.objects q)) [ None ↦ refl | Some ws ↦ refl ]
 
-  not_among : (q : Obj) → ¬ (Rattle.std.specs.Prelude.Contains out.freed q) → is_among out.freed q ≡ false
+  not_among : (q : Obj) → ¬ (Contains out.freed q) → is_among out.freed q ≡ false
   not_among q n =
       elim (is_among out.freed q) as (λ b. is_among out.freed q ≡ b → b ≡ false) [
         | true ↦ λ t. absurd (n (Contains-from_any obj_equal q out.freed t))

@@ -46,6 +46,22 @@ no_chunks (Some (Some choice)) = tt
 no_chunks (Some None) = tt
 no_chunks None = tt
 
+-- ---- trips
+
+abbrev pub ok_or_none : Result ℕ Trap → ℕ
+ok_or_none (Ok n) = n
+ok_or_none (Err t) = 0
+
+few_trips : (n : ℕ) (b : Bool) → nat_lt LOOP_TRIPS n ≡ b → ok_or_none (if b then Err trap.Trips else Ok n) ≤ LOOP_TRIPS
+few_trips n true e = omega arith
+few_trips n false e = ltb-false LOOP_TRIPS n e
+
+pub trips_few : (lo hi : ℤ) → ok_or_none (trips lo hi) ≤ LOOP_TRIPS
+unfolding trips
+trips_few lo hi = few_trips (trip_count lo hi) (nat_lt LOOP_TRIPS (trip_count lo hi)) refl
+
+-- ---- counts
+
 module _ (k : Knobs) (ok : AreInRange k) where
   -- an execution of at most 16,777,216 trips
   by_way_bounded : (x : Execution) (e : ℕ) (n : Counts) (m : Memory) (way : Mode) → x.factor ≡ k.chunk → x.iter_steps ≡ k.iter_steps → x.trips ≤ LOOP_TRIPS
@@ -70,18 +86,6 @@ module _ (k : Knobs) (ok : AreInRange k) where
   by_way_bounded x e n m (InChunks cs) ec es t w b = absurd w
 
   -- ---- a loop outside iterations
-
-  abbrev ok_or_none : Result ℕ Trap → ℕ
-  ok_or_none (Ok n) = n
-  ok_or_none (Err t) = 0
-
-  few_trips : (n : ℕ) (b : Bool) → nat_lt LOOP_TRIPS n ≡ b → ok_or_none (if b then Err trap.Trips else Ok n) ≤ LOOP_TRIPS
-  few_trips n true e = omega arith
-  few_trips n false e = ltb-false LOOP_TRIPS n e
-
-  trips_few : (lo hi : ℤ) → ok_or_none (trips lo hi) ≤ LOOP_TRIPS
-  unfolding trips
-  trips_few lo hi = few_trips (trip_count lo hi) (nat_lt LOOP_TRIPS (trip_count lo hi)) refl
 
   module _ (typed : Typed) (input : List ℤ) (choices : List (Option Choice)) where
     abbrev setting : Setting

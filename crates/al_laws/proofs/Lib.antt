@@ -25,3 +25,5 @@ pub mod Splits
 pub mod Printed
 pub mod Unread
 pub mod Applying
+pub mod Naming
+pub mod Untouched

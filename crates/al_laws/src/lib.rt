@@ -7,6 +7,7 @@ pub mod chunks;
 pub mod committing;
 pub mod iterations;
 pub mod loops;
+pub mod names;
 pub mod records;
 pub mod reductions;
 pub mod rounds;
