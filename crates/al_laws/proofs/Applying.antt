@@ -40,7 +40,8 @@ put_value m (Word o w) v q f = put_other m o w v q f
 put_value m (Head o) v q f = refl
 put_value m (Local k) v q f = local_other m k v q f
 
-length_of_set : (b : Bool) (w : ℕ) (v : Val) (x : Option (List Val)) → option_map length (if b then option_map (λ l. slice_set l w v) x else x) ≡ option_map length x
+length_of_set : (b : Bool) (w : ℕ) (v : Val) (x : Option (List Val))
+    → option_map length (if b then option_map (λ l. slice_set l w v) x else x) ≡ option_map length x
 length_of_set true w v None = refl
 length_of_set true w v (Some l) = ap (λ n. Some n) (length-set l w v)
 length_of_set false w v x = refl
@@ -102,7 +103,8 @@ pub sums_value : (rs : List Red) (ns : List ℤ) (m : Memory) (q : Addr) → red
 sums_value [] ns m q f = refl
 sums_value (r ∷ rs) [] m q f = refl
 sums_value (r ∷ rs) (n ∷ ns) m q f =
-    sums_value rs ns (with_sum r n m (value_at m r.at)) q (not_first r rs q f).1 ∙ sum_value r n m (value_at m r.at) q (differs_too r.at q (not_first r rs q f).0)
+    sums_value rs ns (with_sum r n m (value_at m r.at)) q (not_first r rs q f).1
+    ∙ sum_value r n m (value_at m r.at) q (differs_too r.at q (not_first r rs q f).0)
 
 pub sums_length : (rs : List Red) (ns : List ℤ) (m : Memory) (q : Obj) → length_at (with_sums rs ns m) q ≡ length_at m q
 sums_length [] ns m q = refl
@@ -140,7 +142,10 @@ module _ (reds : List Red) (m : Memory) (out : Outcome) where
   object_made q =
       get_with_made (map.entries out.made) written q (map.entries_sorted out.made)
       ∙ ap (λ x. elim x as (λ _. Option (List Val)) [ None ↦ map.get written.objects q | Some ws ↦ Some ws ]) (sym (map.get-entries out.made q))
-      ∙ elim (map.get out.made q) as (λ x. elim x as (λ _. Option (List Val)) [ None ↦ map.get written.objects q | Some ws ↦ Some ws ] ≡ made_or x (map.get written.objects q)) [ None ↦ refl | Some ws ↦ refl ]
+      ∙ elim (map.get out.made q) as (λ x. elim x as (λ _. Option (List Val)) [
+        | None ↦ map.get written.objects q
+        | Some ws ↦ Some ws
+      ] ≡ made_or x (map.get written.objects q)) [ None ↦ refl | Some ws ↦ refl ]
 
   not_among : (q : Obj) → ¬ (Contains out.freed q) → is_among out.freed q ≡ false
   not_among q n =
@@ -181,11 +186,13 @@ module _ (reds : List Red) (m : Memory) (out : Outcome) where
   count : length (with_sums reds out.accumulators freed).locals ≡ length m.locals
   count = sums_count reds out.accumulators freed ∙ ap length same_locals ∙ written_count (map.entries out.writes) m
 
-  by_made : (q : Obj) (x : Option (List Val)) → map.get out.made q ≡ x → is_some (made_or x (map.get written.objects q)) ≡ true → (is_some (map.get out.made q) ≡ true) ⊎ (has_object m q ≡ true)
+  by_made : (q : Obj) (x : Option (List Val)) → map.get out.made q ≡ x → is_some (made_or x (map.get written.objects q)) ≡ true
+      → (is_some (map.get out.made q) ≡ true) ⊎ (has_object m q ≡ true)
   by_made q None e h = inr (sym (written_there (map.entries out.writes) m q) ∙ h)
   by_made q (Some ws) e h = inl (ap is_some e)
 
-  by_freed : (q : Obj) (b : Bool) → is_some (if b then None else map.get made.objects q) ≡ true → (is_some (map.get out.made q) ≡ true) ⊎ (has_object m q ≡ true)
+  by_freed : (q : Obj) (b : Bool) → is_some (if b then None else map.get made.objects q) ≡ true
+      → (is_some (map.get out.made q) ≡ true) ⊎ (has_object m q ≡ true)
   by_freed q true h = absurd (true≢false (sym h))
   by_freed q false h = by_made q (map.get out.made q) refl (sym (ap is_some (object_made q)) ∙ h)
 
@@ -201,12 +208,14 @@ pub applied_count : (reds : List Red) (m : Memory) (out : Outcome) → length (a
 unfolding applied
 applied_count reds m out = count reds m out
 
-pub applied_there : (reds : List Red) (m : Memory) (out : Outcome) (q : Obj) → has_object (applied reds m out) q ≡ true → (is_some (map.get out.made q) ≡ true) ⊎ (has_object m q ≡ true)
+pub applied_there : (reds : List Red) (m : Memory) (out : Outcome) (q : Obj) → has_object (applied reds m out) q ≡ true
+    → (is_some (map.get out.made q) ≡ true) ⊎ (has_object m q ≡ true)
 unfolding applied
 applied_there reds m out q h = there reds m out q h
 
 -- what every object satisfies, and each that is made
-pub applied_only : (Q : Obj → Type 0) (reds : List Red) (m : Memory) (out : Outcome) → HasOnly Q m → ((o : Obj) → is_some (map.get out.made o) ≡ true → Q o) → HasOnly Q (applied reds m out)
+pub applied_only : (Q : Obj → Type 0) (reds : List Red) (m : Memory) (out : Outcome) → HasOnly Q m → ((o : Obj) → is_some (map.get out.made o) ≡ true → Q o)
+    → HasOnly Q (applied reds m out)
 applied_only Q reds m out before new q h =
     elim (applied_there reds m out q h) as (λ _. Q q) [
       | inl made ↦ new q made

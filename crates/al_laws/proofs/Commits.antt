@@ -36,7 +36,8 @@ and_false false = refl
 pub first_verdict : (choice : Choice) (o : Outcome) → verdict_of choice nothing_judged o ≡ commit_or_trap o.ending
 unfolding verdict_of
 first_verdict choice o =
-    ap (λ b. if b || false then verdict.After else if clashes choice.policy choice.line o set.empty then verdict.Fail else commit_or_trap o.ending) (and_false (is_in_order choice.order))
+    ap (λ b. if b || false then verdict.After else if clashes choice.policy choice.line o set.empty then verdict.Fail else commit_or_trap o.ending)
+    (and_false (is_in_order choice.order))
     ∙ ap (λ b. if b then verdict.Fail else commit_or_trap o.ending) (clashes_nothing choice.policy choice.line o)
 
 committed_first : (e : Ending) → is_committed (commit_or_trap e) ≡ true
@@ -99,7 +100,9 @@ times_split c (suc n) (d ∷ l) = omega (arith, times_split c n l)
 times_judged : (c : ℕ) (js : List Judged) → times c (commits js) + times c (not_committed js) ≡ times c (map (λ j. j.chunk) js)
 times_judged c [] = omega arith
 times_judged c (j ∷ js) =
-    elim (is_committed j.verdict) as (λ b. times c (cons_if b j.chunk (commits js)) + times c (cons_if (not b) j.chunk (not_committed js)) ≡ (if j.chunk == c then 1 else 0) + times c (map (λ j. j.chunk) js)) [
+    elim (is_committed j.verdict) as
+    (λ b. times c (cons_if b j.chunk (commits js)) + times c (cons_if (not b) j.chunk (not_committed js)) ≡ (if j.chunk == c then 1 else 0) + times c
+    (map (λ j. j.chunk) js)) [
       | true ↦ omega (arith, times_judged c js)
       | false ↦ omega (arith, times_judged c js)
     ]
@@ -117,14 +120,23 @@ times_round c x choice cs m =
 
 commits_append : (c : ℕ) (rs : List (List Judged)) (r : List Judged) → times c (commits_of (rs ++ r ∷ [])) ≡ times c (commits_of rs) + times c (commits r)
 commits_append c [] r = omega (arith, times_append c (commits r) [])
-commits_append c (q ∷ rs) r = omega (arith, times_append c (commits q) (commits_of (rs ++ r ∷ [])), times_append c (commits q) (commits_of rs), commits_append c rs r)
+commits_append c (q ∷ rs) r =
+    omega (arith, times_append c (commits q) (commits_of (rs ++ r ∷ [])), times_append c (commits q) (commits_of rs), commits_append c rs r)
 
 -- what is committed and what is pending, before and after a round
 times_next : (c : ℕ) (x : Execution) (choice : Choice) (lanes : ℕ) (pending : List ℕ) (s : Rounds) →
-    times c (commits_of (with_round (next_round x choice lanes pending s) s).rounds) + times c (still_pending lanes pending (next_round x choice lanes pending s)) ≡ times c (commits_of s.rounds) + times c pending
+    times c (commits_of (with_round (next_round x choice lanes pending s) s).rounds) + times c
+    (still_pending lanes pending (next_round x choice lanes pending s)) ≡ times c (commits_of s.rounds) + times c pending
 times_next c x choice lanes pending s =
     let r = next_round x choice lanes pending s in
-    omega (arith, commits_append c s.rounds r.verdicts, times_append c (not_committed r.verdicts) (drop lanes pending), times_round c x choice (take lanes pending) s.memory, times_split c lanes pending)
+    omega (
+      arith,
+      commits_append c s.rounds r.verdicts,
+      times_append c (not_committed r.verdicts) (drop lanes pending),
+      times_round c x choice
+          (take lanes pending) s.memory,
+      times_split c lanes pending,
+    )
 
 times_rounds : (c n : ℕ) (x : Execution) (choice : Choice) (lanes : ℕ) (pending : List ℕ) (s : Rounds)
     → times c (commits_of (rounds_from n x choice lanes pending s).rounds) ≤ times c (commits_of s.rounds) + times c pending
@@ -164,7 +176,8 @@ times_most c (suc n) k =
 
 pub committed_at_most_once : CommittedAtMostOnce
 unfolding lockstep
-committed_at_most_once x choice lanes m c = omega (arith, times_rounds c (chunk_count x) x choice lanes (all_chunks x) (no_rounds m), times_most c (chunk_count x) 0)
+committed_at_most_once x choice lanes m c =
+    omega (arith, times_rounds c (chunk_count x) x choice lanes (all_chunks x) (no_rounds m), times_most c (chunk_count x) 0)
 
 -- ---- a round without a committed trap takes a chunk away
 
@@ -177,7 +190,10 @@ not_done t line e = subst (λ (e : Ending). is_trap e) e tt
 
 pub fewer : (js : List Judged) → length (not_committed js) ≤ length js
 fewer [] = omega arith
-fewer (j ∷ js) = elim (is_committed j.verdict) as (λ b. length (cons_if (not b) j.chunk (not_committed js)) ≤ suc (length js)) [ true ↦ omega (arith, fewer js) | false ↦ omega (arith, fewer js) ]
+fewer (j ∷ js) = elim (is_committed j.verdict) as (λ b. length (cons_if (not b) j.chunk (not_committed js)) ≤ suc (length js)) [
+  | true ↦ omega (arith, fewer js)
+  | false ↦ omega (arith, fewer js)
+]
 
 fewer_after_first : (j : Judged) (js : List Judged) → is_committed j.verdict ≡ true → length (not_committed (j ∷ js)) ≤ length js
 fewer_after_first j js e = subst (λ b. length (cons_if (not b) j.chunk (not_committed js)) ≤ length js) (sym e) (fewer js)
@@ -191,7 +207,14 @@ fewer_pending x choice c cs m =
     let o = outcome x choice.reds m c in
     let later = judged choice nothing_judged o in
     subst (λ js. length (not_committed js) ≤ length cs) (sym (round_verdicts x choice (c ∷ cs) m))
-    (omega (arith, verdict_count x choice m cs later, fewer_after_first (record { chunk = c; verdict = verdict_of choice nothing_judged o }) (more_verdicts x choice m cs later) (first_committed choice o)))
+    (omega (
+      arith,
+      verdict_count x choice m cs later,
+      fewer_after_first (record {
+        chunk = c;
+        verdict = verdict_of choice nothing_judged o;
+      }) (more_verdicts x choice m cs later) (first_committed choice o),
+    ))
 
 pub length_split : (lanes : ℕ) (l : List ℕ) → length (take lanes l) + length (drop lanes l) ≡ length l
 length_split zero l = omega arith
@@ -203,7 +226,13 @@ pub pending_falls : (x : Execution) (choice : Choice) (lanes d : ℕ) (ds : List
     → length (still_pending lanes (d ∷ ds) (next_round x choice lanes (d ∷ ds) s)) ≤ length ds
 pending_falls x choice zero d ds s h = absurd (omega arith)
 pending_falls x choice (suc n) d ds s h =
-    omega (arith, length-append (not_committed (next_round x choice (suc n) (d ∷ ds) s).verdicts) (drop n ds), fewer_pending x choice d (take n ds) s.memory, length_split n ds)
+    omega (
+      arith,
+      length-append (not_committed (next_round x choice (suc n) (d ∷ ds) s).verdicts) (drop n ds),
+      fewer_pending x choice d
+          (take n ds) s.memory,
+      length_split n ds,
+    )
 
 times_done : (c n : ℕ) (x : Execution) (choice : Choice) (lanes : ℕ) (pending : List ℕ) (s : Rounds) → 0 < lanes → length pending ≤ n
     → (rounds_from n x choice lanes pending s).ending ≡ ending.Done

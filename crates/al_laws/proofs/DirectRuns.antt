@@ -34,7 +34,12 @@ record SameRun (r q : Finished) : Type 0 where
 same_iteration : (x : Execution) (j : ℕ) (c : Content) → HasNoReds c.accesses → SameRun (iteration x j c) (iteration x j (without_log c))
 unfolding iteration
 same_iteration x j c h =
-    let r = (of_iteration (λ A. Agree Recorded Good {A = A}) (agree_closed Recorded Good in_iteration in_iteration recorded_kept) x j).by (iteration_from x j c) (iteration_from x j (without_log c)) (record { frame = refl; budget = refl; world = record { same = refl; logged = h } }) tt in
+    let r = (of_iteration (λ A. Agree Recorded Good {A = A}) (agree_closed Recorded Good in_iteration in_iteration recorded_kept) x j).by
+    (iteration_from x j c) (iteration_from x j (without_log c)) (record {
+      frame = refl;
+      budget = refl;
+      world = record { same = refl; logged = h };
+    }) tt in
     record { ending = ap ending_of r.answer; steps = ap (λ b. x.iter_steps - b) r.state.budget; content = r.state.world.same; logged = r.state.world.logged }
 
 then_same : (r q : Finished) (f : Content → Finished) → SameRun r q → ((c : Content) → HasNoReds c.accesses → SameRun (f c) (f (without_log c)))
@@ -50,7 +55,8 @@ both_then r q f s h = subst (λ e. SameRun (then_runs r f) (then_by e q f)) s.en
 
 same_iterations : (x : Execution) (n j : ℕ) (c : Content) → HasNoReds c.accesses → SameRun (iterations x n j c) (iterations x n j (without_log c))
 same_iterations x zero j c h = record { ending = refl; steps = refl; content = refl; logged = h }
-same_iterations x (suc n) j c h = both_then (iteration x j c) (iteration x j (without_log c)) (iterations x n (suc j)) (same_iteration x j c h) (same_iterations x n (suc j))
+same_iterations x (suc n) j c h =
+    both_then (iteration x j c) (iteration x j (without_log c)) (iterations x n (suc j)) (same_iteration x j c h) (same_iterations x n (suc j))
 
 -- ---- between iterations
 
@@ -110,14 +116,16 @@ any_allocations x (suc n) j c a b = record { memory = refl; printed = refl; endi
 pub chunk_keeps : (x : Execution) (reds : List Red) (m : Memory) (c : ℕ) → IsFresh x m c
     → Between m x.number (chunk_start x c) (chunk_end x c) (chunk_runs x c (chunk_from x reds m c)).content
 chunk_keeps x reds m c fresh =
-    iterations_keep m x (chunk_start x c) (chunk_end x c) (chunk_trips x c) (chunk_start x c) (chunk_from x reds m c) (omega arith) (omega arith) (at_start x reds m c fresh)
+    iterations_keep m x (chunk_start x c) (chunk_end x c) (chunk_trips x c) (chunk_start x c) (chunk_from x reds m c) (omega arith) (omega arith)
+    (at_start x reds m c fresh)
 
 pub chunk_is_direct_run : ChunkIsDirectRun
 unfolding outcome applied
 chunk_is_direct_run x m c fresh =
     let r = chunk_runs x c (chunk_from x [] m c) in
     let same = same_iterations x (chunk_trips x c) (chunk_start x c) (chunk_from x [] m c) refl in
-    let named = any_allocations x (chunk_trips x c) (chunk_start x c) (without_log (chunk_from x [] m c)) (chunk_from x [] m c).allocations (direct x m).allocations in
+    let named = any_allocations x (chunk_trips x c) (chunk_start x c) (without_log (chunk_from x [] m c)) (chunk_from x [] m c).allocations
+    (direct x m).allocations in
     let b = chunk_keeps x [] m c fresh in
     subst (λ l. RunsAs [] m (outcome_of r l) (chunk_runs x c (direct x m))) (sym b.is)
     (record {

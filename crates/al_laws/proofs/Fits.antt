@@ -81,7 +81,13 @@ module _ (k : Knobs) (ok : AreInRange k) where
         rounds = omega (arith, b.rounds, lockstep_rounds x choice k.lanes m some);
         attempts = omega (arith, b.attempts, lockstep_attempts x choice k.lanes m some, most);
         aborted = omega (arith, b.aborted, lockstep_aborted x choice k.lanes m some, most);
-        span = omega (arith, b.span, lockstep_span x choice k.lanes m some, mul-le x.trips (x.factor * x.iter_steps) 16777216 65536000000000 t (mul-le x.factor x.iter_steps 65536 1000000000 (omega (arith, ok.chunk.1)) (omega (arith, ok.iter_steps.1))));
+        span = omega (
+          arith,
+          b.span,
+          lockstep_span x choice k.lanes m some,
+          mul-le x.trips (x.factor * x.iter_steps) 16777216 65536000000000 t
+              (mul-le x.factor x.iter_steps 65536 1000000000 (omega (arith, ok.chunk.1)) (omega (arith, ok.iter_steps.1))),
+        );
       }
   by_way_bounded x e n m (InChunks cs) ec es t w b = absurd w
 
@@ -95,7 +101,8 @@ module _ (k : Knobs) (ok : AreInRange k) where
         → Holds (if_trips setting l lo hi locals w r).1
     trips_bounded l lo hi locals w (Err t) h b = b
     trips_bounded l lo hi locals w (Ok n) h b =
-        by_way_bounded (execution setting l w.executions lo n) w.executions w.counts (at_loop w.content locals) (by_choices choices l.info.number w.executions) refl refl h (no_chunks (slice_get choices l.info.number)) b
+        by_way_bounded (execution setting l w.executions lo n) w.executions w.counts (at_loop w.content locals)
+        (by_choices choices l.info.number w.executions) refl refl h (no_chunks (slice_get choices l.info.number)) b
 
     visit_bounded : (lo hi : ℤ) (locals : List Val) (w : Whole) (l : Option Loop) → Holds w → Holds (visit_loop setting lo hi locals w l).1
     visit_bounded lo hi locals w (Some l) b = trips_bounded l lo hi locals w (trips lo hi) (trips_few lo hi) b
@@ -114,7 +121,9 @@ module _ (k : Knobs) (ok : AreInRange k) where
     whole_bounded : Holds (whole_run setting).1.world
     unfolding whole_run
     whole_bounded =
-        (of_call (outside setting) (outside setting) (λ A. Keeps Holds {A = A}) (keeps_closed Holds (outside setting) bounded_world) Outside typed.funcs input ACTIVE_CALLS typed.main [] (line_of (slice_get typed.funcs typed.main))).by (start setting)
+        (of_call (outside setting) (outside setting) (λ A. Keeps Holds {A = A})
+        (keeps_closed Holds (outside setting) bounded_world) Outside typed.funcs input ACTIVE_CALLS typed.main []
+        (line_of (slice_get typed.funcs typed.main))).by (start setting)
         (record { loops = omega arith; rounds = omega arith; attempts = omega arith; aborted = omega arith; span = omega arith })
 
     fit : Fit (report typed input (sizes_of k) choices)

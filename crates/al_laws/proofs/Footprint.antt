@@ -129,7 +129,8 @@ module _ (m n : Memory) (same_count : length m.locals ≡ length n.locals) where
   half_by : (from now : Memory) (accesses l : AccessRecord) → l.made ≡ accesses.made → l.freed ≡ accesses.freed → l.touched ≡ accesses.touched
       → Half from now accesses → Half from now l
   half_by from now accesses l em ef et h = record {
-    kept = λ o f c. subst (λ z. SameBut z o (map.get from.objects o) (map.get now.objects o)) (sym et) (h.kept o (ap (λ z. set.contains z o) (sym em) ∙ f) (ap (λ z. is_among z o) (sym ef) ∙ c));
+    kept = λ o f c. subst (λ z. SameBut z o (map.get from.objects o) (map.get now.objects o)) (sym et)
+        (h.kept o (ap (λ z. set.contains z o) (sym em) ∙ f) (ap (λ z. is_among z o) (sym ef) ∙ c));
     gone = λ o f c. h.gone o (ap (λ z. set.contains z o) (sym em) ∙ f) (ap (λ z. is_among z o) (sym ef) ∙ c);
     locals_length = h.locals_length;
     locals = λ k f. h.locals k (ap (λ z. set.contains z (Local k)) (sym et) ∙ f);
@@ -139,7 +140,8 @@ module _ (m n : Memory) (same_count : length m.locals ≡ length n.locals) where
     head_now : (o : Obj) → set.contains h.accesses.made o ≡ false → AgreeAt m n (Head o) → same_length (map.get s.memory.objects o) (map.get t.memory.objects o)
     head_now o f e =
         elim (is_among h.accesses.freed o) as (λ b. is_among h.accesses.freed o ≡ b → same_length (map.get s.memory.objects o) (map.get t.memory.objects o)) [
-          | true ↦ λ c. subst (λ x. same_length x (map.get t.memory.objects o)) (sym (h.half_s.gone o f c)) (subst (λ y. same_length None y) (sym (h.half_t.gone o f c)) tt)
+          | true ↦ λ c. subst (λ x. same_length x (map.get t.memory.objects o)) (sym (h.half_s.gone o f c))
+              (subst (λ y. same_length None y) (sym (h.half_t.gone o f c)) tt)
           | false ↦ λ c.
               lengths_now h.accesses.touched o (map.get m.objects o) (map.get n.objects o) (map.get s.memory.objects o) (map.get t.memory.objects o)
               (by_lengths (map.get m.objects o) (map.get n.objects o) e) (h.half_s.kept o f c) (h.half_t.kept o f c)
@@ -162,7 +164,8 @@ module _ (m n : Memory) (same_count : length m.locals ≡ length n.locals) where
     word_now : (o : Obj) (w : ℕ) → set.contains h.accesses.made o ≡ false → (set.contains h.accesses.touched (Word o w) ≡ false → AgreeAt m n (Word o w))
         → value_at s.memory (Word o w) ≡ value_at t.memory (Word o w)
     word_now o w f e =
-        elim (set.contains h.accesses.touched (Word o w)) as (λ b. set.contains h.accesses.touched (Word o w) ≡ b → value_at s.memory (Word o w) ≡ value_at t.memory (Word o w)) [
+        elim (set.contains h.accesses.touched (Word o w)) as
+        (λ b. set.contains h.accesses.touched (Word o w) ≡ b → value_at s.memory (Word o w) ≡ value_at t.memory (Word o w)) [
           | true ↦ λ c. h.touched (Word o w) c
           | false ↦ λ c. untouched_now o w f c (e c)
         ] refl
@@ -170,7 +173,8 @@ module _ (m n : Memory) (same_count : length m.locals ≡ length n.locals) where
     local_now : (k : ℕ) → (set.contains h.accesses.touched (Local k) ≡ false → AgreeAt m n (Local k))
         → value_at s.memory (Local k) ≡ value_at t.memory (Local k)
     local_now k e =
-        elim (set.contains h.accesses.touched (Local k)) as (λ b. set.contains h.accesses.touched (Local k) ≡ b → value_at s.memory (Local k) ≡ value_at t.memory (Local k)) [
+        elim (set.contains h.accesses.touched (Local k)) as
+        (λ b. set.contains h.accesses.touched (Local k) ≡ b → value_at s.memory (Local k) ≡ value_at t.memory (Local k)) [
           | true ↦ λ c. h.touched (Local k) c
           | false ↦ λ c. h.half_s.locals k c ∙ e c ∙ sym (h.half_t.locals k c)
         ] refl
@@ -195,7 +199,9 @@ module _ (m n : Memory) (same_count : length m.locals ≡ length n.locals) where
   more_of_load : (accesses : AccessRecord) (a : Addr) (v : Option Val) (q : Addr) → set.contains (with_head accesses a).reads q ≡ true
       → set.contains (record_load accesses a v).reads q ≡ true
   more_of_load accesses a (Some v) q e =
-      elim (set.contains (with_head accesses a).touched a) as (λ b. set.contains (if b then with_head accesses a else record (with_head accesses a) { reads = set.insert (with_head accesses a).reads a }).reads q ≡ true) [
+      elim (set.contains (with_head accesses a).touched a) as
+      (λ b. set.contains
+      (if b then with_head accesses a else record (with_head accesses a) { reads = set.insert (with_head accesses a).reads a }).reads q ≡ true) [
         | true ↦ e
         | false ↦ inserted_more (with_head accesses a).reads a q e
       ]
@@ -222,7 +228,10 @@ module _ (m n : Memory) (same_count : length m.locals ≡ length n.locals) where
         → AgreeOn (record_load h.accesses (Word o w) v).reads → value_at s.memory (Word o w) ≡ value_at t.memory (Word o w)
     word_loaded o w (Some v) e f g = word_now s t h o w f (λ c. g (Word o w) (load_reads_it h.accesses (Word o w) v c))
     word_loaded o w None e f g =
-        e ∙ sym (same_none (value_at t.memory (Word o w)) (sym (ap is_some e) ∙ word_there (map.get s.memory.objects o) (map.get t.memory.objects o) w (head_now s t h o f (g (Head o) (inserted_here h.accesses.reads (Head o))))))
+        e ∙ sym (same_none (value_at t.memory (Word o w))
+        (sym (ap is_some e)
+        ∙ word_there (map.get s.memory.objects o) (map.get t.memory.objects o) w
+        (head_now s t h o f (g (Head o) (inserted_here h.accesses.reads (Head o))))))
 
     local_loaded : (k : ℕ) (v : Option Val) → value_at s.memory (Local k) ≡ v → AgreeOn (record_load h.accesses (Local k) v).reads
         → value_at s.memory (Local k) ≡ value_at t.memory (Local k)
@@ -250,23 +259,32 @@ module _ (m n : Memory) (same_count : length m.locals ≡ length n.locals) where
 
     other_missing : (o : Obj) (w : ℕ) → set.contains h.accesses.made o ≡ false → AgreeAt m n (Head o)
         → missing_or_outside s.memory (Word o w) ≡ missing_or_outside t.memory (Word o w)
-    other_missing o w f e = ap (λ b. if b then trap.Bounds else trap.Missing) (there (map.get s.memory.objects o) (map.get t.memory.objects o) (head_now s t h o f e))
+    other_missing o w f e =
+        ap (λ b. if b then trap.Bounds else trap.Missing) (there (map.get s.memory.objects o) (map.get t.memory.objects o) (head_now s t h o f e))
 
     -- the read is recorded alike
     read_near : (a : Addr) (v : Option Val) → Near (with_accesses s (record_load h.accesses a v)) (with_accesses t (record_load h.accesses a v))
-    read_near a v = let r = load_reads h.accesses a v in near_reads s t h (record_load h.accesses a v) (ap (λ l. l.made) r.2) (ap (λ l. l.freed) r.2) (ap (λ l. l.touched) r.2)
+    read_near a v = let r =
+        load_reads h.accesses a v in near_reads s t h (record_load h.accesses a v) (ap (λ l. l.made) r.2) (ap (λ l. l.freed) r.2) (ap (λ l. l.touched) r.2)
 
     loaded_alike : (a : Addr) (k : Kind) → value_at s.memory a ≡ value_at t.memory a → missing_or_outside s.memory a ≡ missing_or_outside t.memory a
-        → Same (load_in s.memory a k, with_accesses s (record_load h.accesses a (value_at s.memory a))) (load_in t.memory a k, with_accesses t (record_load h.accesses a (value_at t.memory a)))
-    loaded_alike a k e f =
-        (same_load a k e f, subst (λ v. Near (with_accesses s (record_load h.accesses a (value_at s.memory a))) (with_accesses t (record_load h.accesses a v))) e (read_near a (value_at s.memory a)))
+        → Same (load_in s.memory a k, with_accesses s (record_load h.accesses a (value_at s.memory a)))
+        (load_in t.memory a k, with_accesses t (record_load h.accesses a (value_at t.memory a)))
+    loaded_alike a k e f = (
+      same_load a k e f,
+      subst
+          (λ v. Near (with_accesses s (record_load h.accesses a (value_at s.memory a))) (with_accesses t (record_load h.accesses a v))) e
+          (read_near a (value_at s.memory a)),
+    )
 
     load_word : (o : Obj) (w : ℕ) (k : Kind) (b : Bool) → set.contains h.accesses.made o ≡ b
         → Good (if b then s else with_accesses s (record_load h.accesses (Word o w) (value_at s.memory (Word o w))))
-        → Same (load_in s.memory (Word o w) k, if b then s else with_accesses s (record_load h.accesses (Word o w) (value_at s.memory (Word o w)))) (load_in t.memory (Word o w) k, if b then t else with_accesses t (record_load h.accesses (Word o w) (value_at t.memory (Word o w))))
+        → Same (load_in s.memory (Word o w) k, if b then s else with_accesses s (record_load h.accesses (Word o w) (value_at s.memory (Word o w))))
+        (load_in t.memory (Word o w) k, if b then t else with_accesses t (record_load h.accesses (Word o w) (value_at t.memory (Word o w))))
     load_word o w k true c g = (same_load (Word o w) k (own_word o w c) (own_missing o w c), h)
     load_word o w k false c g =
-        loaded_alike (Word o w) k (word_loaded o w (value_at s.memory (Word o w)) refl c g) (other_missing o w c (head_of_load o w (value_at s.memory (Word o w)) g))
+        loaded_alike (Word o w) k (word_loaded o w (value_at s.memory (Word o w)) refl c g)
+        (other_missing o w c (head_of_load o w (value_at s.memory (Word o w)) g))
 
     load_alike : (a : Addr) (k : Kind) → Good (load_recorded s h.accesses a k None).1
         → Same (load_recorded s h.accesses a k None) (load_recorded t h.accesses a k None)
@@ -282,7 +300,8 @@ module _ (m n : Memory) (same_count : length m.locals ≡ length n.locals) where
     load_same : (a : Addr) (k : Kind) → Good (load_by s.accesses s a k).1 → Same (load_by s.accesses s a k) (load_by t.accesses t a k)
     load_same a k =
         subst (λ l. Good (load_by l s a k).1 → Same (load_by l s a k) (load_by t.accesses t a k)) (sym h.is_s)
-        (subst (λ l. Good (load_by (Some h.accesses) s a k).1 → Same (load_by (Some h.accesses) s a k) (load_by l t a k)) (sym h.is_t) (load_by_index a k (red_index h.accesses.reds a)))
+        (subst (λ l. Good (load_by (Some h.accesses) s a k).1 → Same (load_by (Some h.accesses) s a k) (load_by l t a k)) (sym h.is_t)
+        (load_by_index a k (red_index h.accesses.reds a)))
 
   -- what was read before is still read
   load_back_own : (s : Content) (accesses : AccessRecord) (a : Addr) (b : Bool) → s.accesses ≡ Some accesses
@@ -314,7 +333,10 @@ module _ (m n : Memory) (same_count : length m.locals ≡ length n.locals) where
         let f' = ap (λ z. set.contains z q) (sym em) ∙ f in
         let c' = ap (λ z. is_among z q) (sym ef) ∙ c in
         subst (λ x. SameBut l.touched q (map.get from.objects q) x) (sym (get_put now o w v q))
-        (elim (obj_eq q o) as (λ b. obj_eq q o ≡ b → SameBut l.touched q (map.get from.objects q) (if b then option_map (λ l. slice_set l w v) (map.get now.objects q) else map.get now.objects q)) [
+        (elim (obj_eq q o) as
+        (λ b. obj_eq q o ≡ b
+        → SameBut l.touched q (map.get from.objects q)
+        (if b then option_map (λ l. slice_set l w v) (map.get now.objects q) else map.get now.objects q)) [
           | true ↦ λ e.
               let same = obj_equal q o e in
               word_put accesses.touched l.touched q w v (map.get from.objects q) (map.get now.objects q) grows
@@ -323,7 +345,8 @@ module _ (m n : Memory) (same_count : length m.locals ≡ length n.locals) where
         ] refl);
     gone = λ q f c.
         get_put now o w v q
-        ∙ none_set (obj_eq q o) (λ l. slice_set l w v) (map.get now.objects q) (h.gone q (ap (λ z. set.contains z q) (sym em) ∙ f) (ap (λ z. is_among z q) (sym ef) ∙ c));
+        ∙ none_set (obj_eq q o) (λ l. slice_set l w v) (map.get now.objects q)
+        (h.gone q (ap (λ z. set.contains z q) (sym em) ∙ f) (ap (λ z. is_among z q) (sym ef) ∙ c));
     locals_length = h.locals_length;
     locals = λ k f. h.locals k (lacks accesses.touched l.touched grows (Local k) f);
   }
@@ -354,15 +377,23 @@ module _ (m n : Memory) (same_count : length m.locals ≡ length n.locals) where
   put_word_alike : (s t : Memory) (o : Obj) (w : ℕ) (v : Val) → is_some (value_at s (Word o w)) ≡ true → is_some (value_at t (Word o w)) ≡ true
       → value_at (put s (Word o w) v) (Word o w) ≡ value_at (put t (Word o w) v) (Word o w)
   put_word_alike s t o w v p q =
-      ap (λ x. word_in x w) (get_put s o w v o ∙ ap (λ b. if b then option_map (λ l. slice_set l w v) (map.get s.objects o) else map.get s.objects o) (obj_itself o))
+      ap (λ x. word_in x w)
+      (get_put s o w v o ∙ ap (λ b. if b then option_map (λ l. slice_set l w v) (map.get s.objects o) else map.get s.objects o) (obj_itself o))
       ∙ set_there (map.get s.objects o) (map.get t.objects o) w v p q
-      ∙ sym (ap (λ x. word_in x w) (get_put t o w v o ∙ ap (λ b. if b then option_map (λ l. slice_set l w v) (map.get t.objects o) else map.get t.objects o) (obj_itself o)))
+      ∙ sym (ap (λ x. word_in x w)
+      (get_put t o w v o ∙ ap (λ b. if b then option_map (λ l. slice_set l w v) (map.get t.objects o) else map.get t.objects o) (obj_itself o)))
 
   module _ (s t : Content) (h : Near s t) where
     word_put_near : (o : Obj) (w : ℕ) (v : Val) (l : AccessRecord) (ls lt : Option AccessRecord) → ls ≡ Some l → lt ≡ Some l → l.made ≡ h.accesses.made
         → l.freed ≡ h.accesses.freed → Grows h.accesses.touched l.touched → (set.contains h.accesses.made o ≡ false → set.contains l.touched (Word o w) ≡ true)
-        → ((a : Addr) → addr_eq a (Word o w) ≡ false → set.contains l.touched a ≡ true → set.contains h.accesses.touched a ≡ true) → is_some (value_at s.memory (Word o w)) ≡ true → is_some (value_at t.memory (Word o w)) ≡ true
-        → Near (record { memory = put s.memory (Word o w) v; allocations = s.allocations; printed = s.printed; accesses = ls }) (record { memory = put t.memory (Word o w) v; allocations = t.allocations; printed = t.printed; accesses = lt })
+        → ((a : Addr) → addr_eq a (Word o w) ≡ false → set.contains l.touched a ≡ true → set.contains h.accesses.touched a ≡ true)
+        → is_some (value_at s.memory (Word o w)) ≡ true → is_some (value_at t.memory (Word o w)) ≡ true
+        → Near (record {
+          memory = put s.memory (Word o w) v;
+          allocations = s.allocations;
+          printed = s.printed;
+          accesses = ls;
+        }) (record { memory = put t.memory (Word o w) v; allocations = t.allocations; printed = t.printed; accesses = lt })
     word_put_near o w v l ls lt is it em ef grows written before ps pt = record {
       accesses = l;
       is_s = is;
@@ -373,7 +404,8 @@ module _ (m n : Memory) (same_count : length m.locals ≡ length n.locals) where
       touched = λ a c.
           elim (addr_eq a (Word o w)) as (λ b. addr_eq a (Word o w) ≡ b → value_at (put s.memory (Word o w) v) a ≡ value_at (put t.memory (Word o w) v) a) [
             | true ↦ λ e.
-                subst (λ a. value_at (put s.memory (Word o w) v) a ≡ value_at (put t.memory (Word o w) v) a) (sym (addr_equal a (Word o w) e)) (put_word_alike s.memory t.memory o w v ps pt)
+                subst (λ a. value_at (put s.memory (Word o w) v) a ≡ value_at (put t.memory (Word o w) v) a) (sym (addr_equal a (Word o w) e))
+                (put_word_alike s.memory t.memory o w v ps pt)
             | false ↦ λ e. put_other s.memory o w v a e ∙ h.touched a (before a e c) ∙ sym (put_other t.memory o w v a e)
           ] refl;
       half_s = half_word m s.memory h.accesses o w v l em ef grows written h.half_s;
@@ -381,7 +413,12 @@ module _ (m n : Memory) (same_count : length m.locals ≡ length n.locals) where
     }
 
     local_put_near : (k : ℕ) (v : Val) → is_some (slice_get s.memory.locals k) ≡ true → is_some (slice_get t.memory.locals k) ≡ true
-        → Near (record { memory = put s.memory (Local k) v; allocations = s.allocations; printed = s.printed; accesses = Some (with_touched h.accesses (Local k)) }) (record { memory = put t.memory (Local k) v; allocations = t.allocations; printed = t.printed; accesses = Some (with_touched h.accesses (Local k)) })
+        → Near (record {
+          memory = put s.memory (Local k) v;
+          allocations = s.allocations;
+          printed = s.printed;
+          accesses = Some (with_touched h.accesses (Local k));
+        }) (record { memory = put t.memory (Local k) v; allocations = t.allocations; printed = t.printed; accesses = Some (with_touched h.accesses (Local k)) })
     local_put_near k v ps pt = record {
       accesses = with_touched h.accesses (Local k);
       is_s = refl;
@@ -391,28 +428,40 @@ module _ (m n : Memory) (same_count : length m.locals ≡ length n.locals) where
       made = h.made;
       touched = λ a c.
           elim (addr_eq a (Local k)) as (λ b. addr_eq a (Local k) ≡ b → value_at (put s.memory (Local k) v) a ≡ value_at (put t.memory (Local k) v) a) [
-            | true ↦ λ e. subst (λ a. value_at (put s.memory (Local k) v) a ≡ value_at (put t.memory (Local k) v) a) (sym (addr_equal a (Local k) e)) (set_both s.memory.locals t.memory.locals k v ps pt)
+            | true ↦ λ e. subst (λ a. value_at (put s.memory (Local k) v) a ≡ value_at (put t.memory (Local k) v) a) (sym (addr_equal a (Local k) e))
+                (set_both s.memory.locals t.memory.locals k v ps pt)
             | false ↦ λ e. local_other s.memory k v a e ∙ h.touched a (touched_before h.accesses.touched (Local k) a e c) ∙ sym (local_other t.memory k v a e)
           ] refl;
-      half_s = half_local m s.memory h.accesses k v (with_touched h.accesses (Local k)) refl refl (inserted_more h.accesses.touched (Local k)) (inserted_here h.accesses.touched (Local k)) h.half_s;
-      half_t = half_local n t.memory h.accesses k v (with_touched h.accesses (Local k)) refl refl (inserted_more h.accesses.touched (Local k)) (inserted_here h.accesses.touched (Local k)) h.half_t;
+      half_s = half_local m s.memory h.accesses k v (with_touched h.accesses (Local k)) refl refl (inserted_more h.accesses.touched (Local k))
+          (inserted_here h.accesses.touched (Local k)) h.half_s;
+      half_t = half_local n t.memory h.accesses k v (with_touched h.accesses (Local k)) refl refl (inserted_more h.accesses.touched (Local k))
+          (inserted_here h.accesses.touched (Local k)) h.half_t;
     }
 
     store_word : (o : Obj) (w : ℕ) (x : Val) (b : Bool) (vs vt : Option Val) → set.contains h.accesses.made o ≡ b → value_at s.memory (Word o w) ≡ vs
         → value_at t.memory (Word o w) ≡ vt → is_some vs ≡ is_some vt → (b ≡ false → AgreeAt m n (Head o))
-        → Same s t h (store_in (if b then s else with_accesses s (record_store h.accesses (Word o w) vs)) (Word o w) x vs) (store_in (if b then t else with_accesses t (record_store h.accesses (Word o w) vt)) (Word o w) x vt)
-    store_word o w x true (Some y) (Some z) c es et p head =
-        (refl, word_put_near o w x h.accesses s.accesses t.accesses h.is_s h.is_t refl refl (λ a f. f) (λ f. absurd (true≢false (sym c ∙ f))) (λ a e f. f) (ap is_some es) (ap is_some et))
+        → Same s t h (store_in (if b then s else with_accesses s (record_store h.accesses (Word o w) vs)) (Word o w) x vs)
+        (store_in (if b then t else with_accesses t (record_store h.accesses (Word o w) vt)) (Word o w) x vt)
+    store_word o w x true (Some y) (Some z) c es et p head = (
+      refl,
+      word_put_near o w x h.accesses s.accesses t.accesses h.is_s h.is_t refl refl (λ a f. f) (λ f. absurd (true≢false (sym c ∙ f))) (λ a e f. f)
+          (ap is_some es) (ap is_some et),
+    )
     store_word o w x true None None c es et p head = (ap (λ z. Err z) (own_missing s t h o w c), h)
-    store_word o w x false (Some y) (Some z) c es et p head =
-        (refl, word_put_near o w x (record_store h.accesses (Word o w) (Some y)) (Some (record_store h.accesses (Word o w) (Some y))) (Some (record_store h.accesses (Word o w) (Some y))) refl refl refl refl (inserted_more h.accesses.touched (Word o w)) (λ f. inserted_here h.accesses.touched (Word o w)) (touched_before h.accesses.touched (Word o w)) (ap is_some es) (ap is_some et))
+    store_word o w x false (Some y) (Some z) c es et p head = (
+      refl,
+      word_put_near o w x (record_store h.accesses (Word o w) (Some y)) (Some (record_store h.accesses (Word o w) (Some y)))
+          (Some (record_store h.accesses (Word o w) (Some y))) refl refl refl refl (inserted_more h.accesses.touched (Word o w))
+          (λ f. inserted_here h.accesses.touched (Word o w)) (touched_before h.accesses.touched (Word o w)) (ap is_some es) (ap is_some et),
+    )
     store_word o w x false None None c es et p head =
         (ap (λ z. Err z) (other_missing s t h o w c (head refl)), near_reads s t h (with_head h.accesses (Word o w)) refl refl refl)
     store_word o w x b (Some y) None c es et p head = absurd (true≢false p)
     store_word o w x b None (Some z) c es et p head = absurd (true≢false (sym p))
 
     store_local : (k : ℕ) (x : Val) (vs vt : Option Val) → value_at s.memory (Local k) ≡ vs → value_at t.memory (Local k) ≡ vt → is_some vs ≡ is_some vt
-        → Same s t h (store_in (with_accesses s (record_store h.accesses (Local k) vs)) (Local k) x vs) (store_in (with_accesses t (record_store h.accesses (Local k) vt)) (Local k) x vt)
+        → Same s t h (store_in (with_accesses s (record_store h.accesses (Local k) vs)) (Local k) x vs)
+        (store_in (with_accesses t (record_store h.accesses (Local k) vt)) (Local k) x vt)
     store_local k x (Some y) (Some z) es et p = (refl, local_put_near k x (ap is_some es) (ap is_some et))
     store_local k x None None es et p = (refl, near_reads s t h h.accesses refl refl refl)
     store_local k x (Some y) None es et p = absurd (true≢false p)
@@ -430,8 +479,13 @@ module _ (m n : Memory) (same_count : length m.locals ≡ length n.locals) where
     word_presence o w false c head = word_there (map.get s.memory.objects o) (map.get t.memory.objects o) w (head_now s t h o c (head refl))
 
     store_word_alike : (o : Obj) (w : ℕ) (x : Val) (b : Bool) → set.contains h.accesses.made o ≡ b
-        → Good (store_in (if b then s else with_accesses s (record_store h.accesses (Word o w) (value_at s.memory (Word o w)))) (Word o w) x (value_at s.memory (Word o w))).1
-        → Same s t h (store_in (if b then s else with_accesses s (record_store h.accesses (Word o w) (value_at s.memory (Word o w)))) (Word o w) x (value_at s.memory (Word o w))) (store_in (if b then t else with_accesses t (record_store h.accesses (Word o w) (value_at t.memory (Word o w)))) (Word o w) x (value_at t.memory (Word o w)))
+        → Good (store_in (if b then s else with_accesses s (record_store h.accesses (Word o w) (value_at s.memory (Word o w)))) (Word o w) x
+        (value_at s.memory (Word o w))).1
+        → Same s t h
+        (store_in (if b then s else with_accesses s (record_store h.accesses (Word o w) (value_at s.memory (Word o w)))) (Word o w) x
+        (value_at s.memory (Word o w)))
+        (store_in (if b then t else with_accesses t (record_store h.accesses (Word o w) (value_at t.memory (Word o w)))) (Word o w) x
+        (value_at t.memory (Word o w)))
     store_word_alike o w x true c g =
         let head : true ≡ false → AgreeAt m n (Head o) = λ e. absurd (true≢false e) in
         store_word o w x true (value_at s.memory (Word o w)) (value_at t.memory (Word o w)) c refl refl (word_presence o w true c head) head
@@ -453,7 +507,8 @@ module _ (m n : Memory) (same_count : length m.locals ≡ length n.locals) where
     store_same : (a : Addr) (x : Val) → Good (store_by s.accesses s a x).1 → Same s t h (store_by s.accesses s a x) (store_by t.accesses t a x)
     store_same a x =
         subst (λ l. Good (store_by l s a x).1 → Same s t h (store_by l s a x) (store_by t.accesses t a x)) (sym h.is_s)
-        (subst (λ l. Good (store_by (Some h.accesses) s a x).1 → Same s t h (store_by (Some h.accesses) s a x) (store_by l t a x)) (sym h.is_t) (store_by_index a x (red_index h.accesses.reds a)))
+        (subst (λ l. Good (store_by (Some h.accesses) s a x).1 → Same s t h (store_by (Some h.accesses) s a x) (store_by l t a x)) (sym h.is_t)
+        (store_by_index a x (red_index h.accesses.reds a)))
 
   more_of_store : (accesses : AccessRecord) (a : Addr) (v : Option Val) (q : Addr) → set.contains accesses.reads q ≡ true
       → set.contains (record_store accesses a v).reads q ≡ true
@@ -473,7 +528,9 @@ module _ (m n : Memory) (same_count : length m.locals ≡ length n.locals) where
       → Good (store_recorded s accesses a x i).1 → Good s
   store_back_index s accesses a x (Some i) e g = subst GoodLog (sym e) g
   store_back_index s accesses a x None e g =
-      store_back_own s accesses a (is_own accesses a) e (subst GoodLog (kept_log (if is_own accesses a then s else with_accesses s (record_store accesses a (value_at s.memory a))) a x (value_at s.memory a)) g)
+      store_back_own s accesses a (is_own accesses a) e
+      (subst GoodLog
+      (kept_log (if is_own accesses a then s else with_accesses s (record_store accesses a (value_at s.memory a))) a x (value_at s.memory a)) g)
 
   store_back : (s : Content) (a : Addr) (x : Val) (l : Option AccessRecord) → s.accesses ≡ l → Good (store_by l s a x).1 → Good s
   store_back s a x None e g = subst GoodLog (kept_log s a x (value_at s.memory a)) g
@@ -512,8 +569,10 @@ module _ (m n : Memory) (same_count : length m.locals ≡ length n.locals) where
   half_made from now accesses o ws h = record {
     kept = λ q f c.
         let both = sym (set.contains-insert obj_total accesses.made o q) ∙ f in
-        subst (λ x. SameBut (set.insert accesses.touched (Head o)) q (map.get from.objects q) x) (sym (get_inserted now o ws q (or_left (obj_eq q o) (set.contains accesses.made q) both)))
-        (weaker accesses.touched (set.insert accesses.touched (Head o)) q (map.get from.objects q) (map.get now.objects q) (inserted_more accesses.touched (Head o))
+        subst (λ x. SameBut (set.insert accesses.touched (Head o)) q (map.get from.objects q) x)
+        (sym (get_inserted now o ws q (or_left (obj_eq q o) (set.contains accesses.made q) both)))
+        (weaker accesses.touched (set.insert accesses.touched (Head o)) q (map.get from.objects q) (map.get now.objects q)
+        (inserted_more accesses.touched (Head o))
         (h.kept q (or_right (obj_eq q o) (set.contains accesses.made q) both) c));
     gone = λ q f c.
         let both = sym (set.contains-insert obj_total accesses.made o q) ∙ f in
@@ -538,7 +597,8 @@ module _ (m n : Memory) (same_count : length m.locals ≡ length n.locals) where
         printed = h.printed;
         made = λ q c.
             map.get-insert obj_total s.memory.objects o ws q
-            ∙ inserted_alike s.memory t.memory o ws q (obj_eq q o) (λ f. h.made q (or_false_left (obj_eq q o) (set.contains h.accesses.made q) f (sym (set.contains-insert obj_total h.accesses.made o q) ∙ c)))
+            ∙ inserted_alike s.memory t.memory o ws q (obj_eq q o)
+            (λ f. h.made q (or_false_left (obj_eq q o) (set.contains h.accesses.made q) f (sym (set.contains-insert obj_total h.accesses.made o q) ∙ c)))
             ∙ sym (map.get-insert obj_total t.memory.objects o ws q);
         touched = λ a c.
             elim (addr_eq a (Head o)) as (λ b. addr_eq a (Head o) ≡ b → value_at (add s.memory o ws) a ≡ value_at (add t.memory o ws) a) [
@@ -555,8 +615,11 @@ module _ (m n : Memory) (same_count : length m.locals ≡ length n.locals) where
   limited_same : (s t : Content) (h : Near s t) (words : ℕ) (b : Bool) → Same s t h (limited s b words) (limited t b words)
   limited_same s t h words true = (refl, h)
   limited_same s t h words false =
-      let o = name_of s.allocations.allocator s.allocations.next in
-      (ap {A = Allocations} {B = Result Obj Trap} (λ z. Ok (name_of z.allocator z.next)) h.allocations, subst (λ z. Near (with_object s o words) (with_object t z words)) (ap (λ z. name_of z.allocator z.next) h.allocations) (object_near s t h o words))
+      let o = name_of s.allocations.allocator s.allocations.next in (
+        ap {A = Allocations} {B = Result Obj Trap} (λ z. Ok (name_of z.allocator z.next)) h.allocations,
+        subst
+            (λ z. Near (with_object s o words) (with_object t z words)) (ap (λ z. name_of z.allocator z.next) h.allocations) (object_near s t h o words),
+      )
 
   make_back : (s : Content) (o : Obj) (l : Option AccessRecord) → GoodLog (record_make l o) → GoodLog l
   make_back s o None g = tt
@@ -569,7 +632,8 @@ module _ (m n : Memory) (same_count : length m.locals ≡ length n.locals) where
   make_matches : (words : ℕ) → Matches Near Good (make words) (make words)
   unfolding make
   make_matches words = record {
-    by = λ s t h g. subst (λ b. Same s t h (limited s (over_limit words s.allocations) words) (limited t b words)) (ap (over_limit words) h.allocations) (limited_same s t h words (over_limit words s.allocations));
+    by = λ s t h g. subst (λ b. Same s t h (limited s (over_limit words s.allocations) words) (limited t b words)) (ap (over_limit words) h.allocations)
+        (limited_same s t h words (over_limit words s.allocations));
     back = λ s g. limited_back s words (over_limit words s.allocations) g;
   }
 
@@ -595,7 +659,8 @@ module _ (m n : Memory) (same_count : length m.locals ≡ length n.locals) where
   half_own_freed from now accesses o own h = record {
     kept = λ q f c.
         let other = obj_differs q o (λ e. true≢false (sym own ∙ ap (set.contains accesses.made) (sym e) ∙ f)) in
-        subst (λ x. SameBut accesses.touched q (map.get from.objects q) x) (sym (get_remove now o q ∙ ap (λ b. cond b None (map.get now.objects q)) other)) (h.kept q f c);
+        subst (λ x. SameBut accesses.touched q (map.get from.objects q) x) (sym (get_remove now o q ∙ ap (λ b. cond b None (map.get now.objects q)) other))
+        (h.kept q f c);
     gone = λ q f c. get_remove now o q ∙ none_left (obj_eq q o) (map.get now.objects q) (h.gone q f c);
     locals_length = h.locals_length;
     locals = h.locals;
@@ -613,8 +678,10 @@ module _ (m n : Memory) (same_count : length m.locals ≡ length n.locals) where
     kept = λ q f c.
         let both = sym (among_append accesses.freed (o ∷ []) q) ∙ c in
         let other = or_left (obj_eq q o) false (or_right (is_among accesses.freed q) (obj_eq q o || false) both) in
-        subst (λ x. SameBut (set.insert accesses.touched (Head o)) q (map.get from.objects q) x) (sym (get_remove now o q ∙ ap (λ b. cond b None (map.get now.objects q)) other))
-        (weaker accesses.touched (set.insert accesses.touched (Head o)) q (map.get from.objects q) (map.get now.objects q) (inserted_more accesses.touched (Head o))
+        subst (λ x. SameBut (set.insert accesses.touched (Head o)) q (map.get from.objects q) x)
+        (sym (get_remove now o q ∙ ap (λ b. cond b None (map.get now.objects q)) other))
+        (weaker accesses.touched (set.insert accesses.touched (Head o)) q (map.get from.objects q) (map.get now.objects q)
+        (inserted_more accesses.touched (Head o))
         (h.kept q f (or_left (is_among accesses.freed q) (obj_eq q o || false) both)));
     gone = λ q f c. gone_then now o q (is_among accesses.freed q) (obj_eq q o) refl (h.gone q f) (sym (among_append accesses.freed (o ∷ []) q) ∙ c);
     locals_length = h.locals_length;
@@ -637,7 +704,10 @@ module _ (m n : Memory) (same_count : length m.locals ≡ length n.locals) where
     }
 
     other_near : (o : Obj)
-        → Near (record s { memory = remove s.memory o; accesses = Some (record_free h.accesses o true) }) (record t { memory = remove t.memory o; accesses = Some (record_free h.accesses o true) })
+        → Near (record s {
+          memory = remove s.memory o;
+          accesses = Some (record_free h.accesses o true);
+        }) (record t { memory = remove t.memory o; accesses = Some (record_free h.accesses o true) })
     other_near o = record {
       accesses = record_free h.accesses o true;
       is_s = refl;
@@ -659,7 +729,8 @@ module _ (m n : Memory) (same_count : length m.locals ≡ length n.locals) where
     free_log o own there = if own then h.accesses else record_free h.accesses o there
 
     freed_alike : (o : Obj) (own there : Bool) → set.contains h.accesses.made o ≡ own
-        → Same s t h (free_there (record s { accesses = Some (free_log o own there) }) o there) (free_there (record t { accesses = Some (free_log o own there) }) o there)
+        → Same s t h (free_there (record s { accesses = Some (free_log o own there) }) o there)
+        (free_there (record t { accesses = Some (free_log o own there) }) o there)
     freed_alike o true true own = (refl, own_near o own)
     freed_alike o true false own = (refl, near_reads s t h h.accesses refl refl refl)
     freed_alike o false true own = (refl, other_near o)
@@ -679,9 +750,11 @@ module _ (m n : Memory) (same_count : length m.locals ≡ length n.locals) where
     free_agreed o false there g e = free_head o there g
 
     free_alike : (o : Obj) (own : Bool) → set.contains h.accesses.made o ≡ own → AgreeOn (free_log o own (has_object s.memory o)).reads
-        → Same s t h (free_there (record s { accesses = Some (free_log o own (has_object s.memory o)) }) o (has_object s.memory o)) (free_there (record t { accesses = Some (free_log o own (has_object t.memory o)) }) o (has_object t.memory o))
+        → Same s t h (free_there (record s { accesses = Some (free_log o own (has_object s.memory o)) }) o (has_object s.memory o))
+        (free_there (record t { accesses = Some (free_log o own (has_object t.memory o)) }) o (has_object t.memory o))
     free_alike o own c g =
-        subst (λ z. Same s t h (free_there (record s { accesses = Some (free_log o own (has_object s.memory o)) }) o (has_object s.memory o)) (free_there (record t { accesses = Some (free_log o own z) }) o z))
+        subst (λ z. Same s t h (free_there (record s { accesses = Some (free_log o own (has_object s.memory o)) }) o (has_object s.memory o))
+        (free_there (record t { accesses = Some (free_log o own z) }) o z))
         (presence o own c (free_agreed o own (has_object s.memory o) g)) (freed_alike o own (has_object s.memory o) c)
 
   free_log_kept : (c : Content) (o : Obj) (there : Bool) → (free_there c o there).1.accesses ≡ c.accesses
@@ -696,7 +769,8 @@ module _ (m n : Memory) (same_count : length m.locals ≡ length n.locals) where
   free_same s t h o true g =
       subst (λ l. Good (freed_by l s o).1 → Same s t h (freed_by l s o) (freed_by t.accesses t o)) (sym h.is_s)
       (subst (λ l. Good (freed_by (Some h.accesses) s o).1 → Same s t h (freed_by (Some h.accesses) s o) (freed_by l t o)) (sym h.is_t)
-      (λ g. free_alike s t h o (set.contains h.accesses.made o) refl (subst GoodLog (free_log_kept (record s { accesses = free_recorded (Some h.accesses) o (has_object s.memory o) }) o (has_object s.memory o)) g))) g
+      (λ g. free_alike s t h o (set.contains h.accesses.made o) refl
+      (subst GoodLog (free_log_kept (record s { accesses = free_recorded (Some h.accesses) o (has_object s.memory o) }) o (has_object s.memory o)) g))) g
 
   freed_back : (accesses : AccessRecord) (o : Obj) (own there : Bool) → AgreeOn (if own then accesses else record_free accesses o there).reads
       → AgreeOn accesses.reads
@@ -711,7 +785,8 @@ module _ (m n : Memory) (same_count : length m.locals ≡ length n.locals) where
   free_back : (s : Content) (o : Obj) (b : Bool) → Good (free_if s o b).1 → Good s
   free_back s o false g = g
   free_back s o true g =
-      free_log_back s.accesses o (has_object s.memory o) (subst GoodLog (free_log_kept (record s { accesses = free_recorded s.accesses o (has_object s.memory o) }) o (has_object s.memory o)) g)
+      free_log_back s.accesses o (has_object s.memory o)
+      (subst GoodLog (free_log_kept (record s { accesses = free_recorded s.accesses o (has_object s.memory o) }) o (has_object s.memory o)) g)
 
   free_matches : (o : Obj) (at : ℕ) → Matches Near Good (free o at) (free o at)
   unfolding free
@@ -738,4 +813,11 @@ module _ (m n : Memory) (same_count : length m.locals ≡ length n.locals) where
   }
 
   pub near_kept : Kept Near Good in_iteration in_iteration
-  near_kept = record { load = load_matches; store = store_matches; make = make_matches; free = free_matches; print = print_matches; visit = λ loop lo hi locals. record { by = λ s t h g. (refl, h); back = λ s g. g } }
+  near_kept = record {
+    load = load_matches;
+    store = store_matches;
+    make = make_matches;
+    free = free_matches;
+    print = print_matches;
+    visit = λ loop lo hi locals. record { by = λ s t h g. (refl, h); back = λ s g. g };
+  }

@@ -83,7 +83,10 @@ module _ (m : Memory) (e first last : ℕ) (l : AccessRecord) (n : Memory) (p : 
   object_there q freed =
       get_with_made (fin.entries (made_objects n l.made)) words_laid q (fin.entries_sorted (made_objects n l.made))
       ∙ ap (λ x. elim x as (λ _. Option (List Val)) [ None ↦ fin.get words_laid.objects q | Some ws ↦ Some ws ]) (get_made_objects n l.made q)
-      ∙ elim (set.contains l.made q) as (λ b. set.contains l.made q ≡ b → elim (if b then fin.get n.objects q else None) as (λ _. Option (List Val)) [ None ↦ fin.get words_laid.objects q | Some ws ↦ Some ws ] ≡ fin.get n.objects q) [
+      ∙ elim (set.contains l.made q) as (λ b. set.contains l.made q ≡ b → elim (if b then fin.get n.objects q else None) as (λ _. Option (List Val)) [
+        | None ↦ fin.get words_laid.objects q
+        | Some ws ↦ Some ws
+      ] ≡ fin.get n.objects q) [
         | true ↦ λ t. made_object q (fin.get n.objects q) (p.fresh q (p.named q t)) refl
         | false ↦ λ t. laid_object q (fin.get m.objects q) (fin.get n.objects q) refl refl (p.kept q t freed)
       ] refl
@@ -103,5 +106,6 @@ module _ (m : Memory) (e first last : ℕ) (l : AccessRecord) (n : Memory) (p : 
       let locals_same = locals_without_freed l.freed made_laid
       ∙ locals_with_made (fin.entries (made_objects n l.made)) words_laid
       ∙ same_list words_laid.locals n.locals (λ k. local_laid k
-      ∙ by_touch (set.contains l.touched (Local k)) (slice_get n.locals k) (slice_get m.locals k) (same_shape n.locals m.locals p.locals_length k) (p.locals k)) in
+      ∙ by_touch (set.contains l.touched (Local k)) (slice_get n.locals k) (slice_get m.locals k) (same_shape n.locals m.locals p.locals_length k)
+      (p.locals k)) in
       λ t. record { objects = objects_same t; locals = locals_same t }

@@ -44,16 +44,20 @@ or_right_true false = refl
 line_found : (g : ℕ) (x : Addr) (l : List Addr) → list_any (addr_eq x) l ≡ true → list_any (λ y. addr_eq (line_of g x) (line_of g y)) l ≡ true
 line_found g x [] h = absurd (true≢false (sym h))
 line_found g x (a ∷ l) h =
-    elim (addr_eq x a) as (λ b. addr_eq x a ≡ b → (b || list_any (addr_eq x) l) ≡ true → (addr_eq (line_of g x) (line_of g a) || list_any (λ y. addr_eq (line_of g x) (line_of g y)) l) ≡ true) [
+    elim (addr_eq x a) as
+    (λ b. addr_eq x a ≡ b → (b || list_any (addr_eq x) l) ≡ true
+    → (addr_eq (line_of g x) (line_of g a) || list_any (λ y. addr_eq (line_of g x) (line_of g y)) l) ≡ true) [
       | true ↦ λ t h.
-          ap (λ b. b || list_any (λ y. addr_eq (line_of g x) (line_of g y)) l) (ap (λ y. addr_eq (line_of g x) (line_of g y)) (sym (addr_equal x a t)) ∙ addr_itself (line_of g x))
+          ap (λ b. b || list_any (λ y. addr_eq (line_of g x) (line_of g y)) l)
+          (ap (λ y. addr_eq (line_of g x) (line_of g y)) (sym (addr_equal x a t)) ∙ addr_itself (line_of g x))
       | false ↦ λ t h. ap (λ b. addr_eq (line_of g x) (line_of g a) || b) (line_found g x l h) ∙ or_right_true (addr_eq (line_of g x) (line_of g a))
     ] refl h
 
 any_line : (g : ℕ) (b : FinSet addr_cmp) (l : List Addr) → list_any (set.contains b) l ≡ true → list_any (λ x. line_in g x b) l ≡ true
 any_line g b [] h = absurd (true≢false (sym h))
 any_line g b (a ∷ l) h =
-    elim (set.contains b a) as (λ z. set.contains b a ≡ z → (z || list_any (set.contains b) l) ≡ true → (line_in g a b || list_any (λ x. line_in g x b) l) ≡ true) [
+    elim (set.contains b a) as
+    (λ z. set.contains b a ≡ z → (z || list_any (set.contains b) l) ≡ true → (line_in g a b || list_any (λ x. line_in g x b) l) ≡ true) [
       | true ↦ λ t h. ap (λ z. z || list_any (λ x. line_in g x b) l) (line_found g a (set.items b) (sym (set.contains-items b a) ∙ t))
       | false ↦ λ t h. ap (λ z. line_in g a b || z) (any_line g b l h) ∙ or_right_true (line_in g a b)
     ] refl h

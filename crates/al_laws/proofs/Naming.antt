@@ -111,7 +111,8 @@ module _ (seen : Content → Obj → Bool) (view : IsView seen) (P : Obj → Typ
     counted = subst (λ (z : Allocations). z.next ≤ z.words) (sym l.allocations) h.counted;
   }
 
-  by_limit : (c : Content) (words : ℕ) (b : Bool) → nat_lt (word_limit c.allocations.allocator) (c.allocations.words + words + 1) ≡ b → NamesIn c → NamesIn (limited c b words).1
+  by_limit : (c : Content) (words : ℕ) (b : Bool) → nat_lt (word_limit c.allocations.allocator) (c.allocations.words + words + 1) ≡ b → NamesIn c
+      → NamesIn (limited c b words).1
   by_limit c words true e h = h
   by_limit c words false e h =
       let o = name_of c.allocations.allocator c.allocations.next in
@@ -150,10 +151,12 @@ module _ (seen : Content → Obj → Bool) (view : IsView seen) (P : Obj → Typ
     pub iterations_see : (n j : ℕ) (c : Content) → first ≤ j → n ≤ last - j → SeesOnly c → SeesOnly (iterations x n j c).content
     iterations_see = iterations_hold SeesOnly NamesIn names_kept (λ c h. h.sees) x first last starts
 
-    pub chunk_sees : (c : ℕ) → first ≤ chunk_start x c → chunk_end x c ≤ last → (content : Content) → SeesOnly content → SeesOnly (chunk_runs x c content).content
+    pub chunk_sees : (c : ℕ) → first ≤ chunk_start x c → chunk_end x c ≤ last → (content : Content) → SeesOnly content
+        → SeesOnly (chunk_runs x c content).content
     chunk_sees = chunk_holds SeesOnly NamesIn names_kept (λ c h. h.sees) x first last starts
 
-    pub chunks_see : (cs : List ℕ) → ((c : ℕ) → (first ≤ chunk_start x c) × (chunk_end x c ≤ last)) → (content : Content) → SeesOnly content → SeesOnly (chunks_run x cs content).content
+    pub chunks_see : (cs : List ℕ) → ((c : ℕ) → (first ≤ chunk_start x c) × (chunk_end x c ≤ last)) → (content : Content) → SeesOnly content
+        → SeesOnly (chunks_run x cs content).content
     chunks_see = chunks_hold SeesOnly NamesIn names_kept (λ c h. h.sees) x first last starts
 
 -- ---- what a chunk makes
@@ -166,7 +169,8 @@ pub made_are_named : MadeAreNamed
 unfolding outcome
 made_are_named x reds m c o h =
     let r = chunk_runs x c (chunk_from x reds m c) in
-    chunk_sees is_made made_view (IsGivenName x.number (chunk_start x c) (chunk_end x c)) x (chunk_start x c) (chunk_end x c) (λ j k f l s. (refl, f, l, s)) c (omega arith) (omega arith) (chunk_from x reds m c)
+    chunk_sees is_made made_view (IsGivenName x.number (chunk_start x c) (chunk_end x c)) x (chunk_start x c) (chunk_end x c) (λ j k f l s. (refl, f, l, s)) c
+    (omega arith) (omega arith) (chunk_from x reds m c)
     (λ q t. absurd (true≢false (sym t ∙ contains-empty obj_cmp q))) o (made_in r r.content.accesses o h)
 
 -- ---- the names of other chunks
@@ -181,7 +185,8 @@ apart x c d j n sc ec sd ed =
       | inr l ↦ apart_below x d c j (omega (arith, l, n)) ed sc
     ]
 
-names_apart : (x : Execution) (c d : ℕ) → c ≢ d → (o : Obj) → IsGivenName x.number (chunk_start x c) (chunk_end x c) o → IsNameFrom x.number (chunk_start x d) (chunk_end x d) o → ⊥
+names_apart : (x : Execution) (c d : ℕ) → c ≢ d → (o : Obj) → IsGivenName x.number (chunk_start x c) (chunk_end x c) o
+    → IsNameFrom x.number (chunk_start x d) (chunk_end x d) o → ⊥
 names_apart x c d n (Global k) h g = h
 names_apart x c d n (Serial k) h g = h
 names_apart x c d n (Iter e j k) h g = apart x c d j n h.1 h.2 g.1 g.2
@@ -215,7 +220,8 @@ module _ (P : Obj → Type 0) (x : Execution) (own : (j k : ℕ) → j < x.trips
   unfolding serial
   serial_only cs m h = chunks_see is_there there_view P x 0 x.trips (λ j k f l s. own j k l s) cs inside (direct x m) h
 
-  committed_only : (reds : List Red) (m : Memory) (cs : List ℕ) (vs : List Verdict) (n : Memory) → HasOnly P n → HasOnly P (all_applied reds (committed (outcomes x reds m cs) vs) n)
+  committed_only : (reds : List Red) (m : Memory) (cs : List ℕ) (vs : List Verdict) (n : Memory) → HasOnly P n
+      → HasOnly P (all_applied reds (committed (outcomes x reds m cs) vs) n)
   committed_only reds m [] vs n h = h
   committed_only reds m (c ∷ cs) [] n h = h
   committed_only reds m (c ∷ cs) (v ∷ vs) n h =
@@ -229,7 +235,8 @@ module _ (P : Obj → Type 0) (x : Execution) (own : (j k : ℕ) → j < x.trips
   unfolding round
   round_only choice cs m h = committed_only choice.reds m cs (verdicts choice (outcomes x choice.reds m cs)) m h
 
-  rounds_only : (n : ℕ) (choice : Choice) (lanes : ℕ) (pending : List ℕ) (s : Rounds) → HasOnly P s.memory → HasOnly P (rounds_from n x choice lanes pending s).memory
+  rounds_only : (n : ℕ) (choice : Choice) (lanes : ℕ) (pending : List ℕ) (s : Rounds) → HasOnly P s.memory
+      → HasOnly P (rounds_from n x choice lanes pending s).memory
   rounds_only zero choice lanes pending s h = h
   rounds_only (suc n) choice lanes [] s h = h
   rounds_only (suc n) choice lanes (c ∷ cs) s h =
@@ -265,14 +272,16 @@ module _ (g : Setting) where
   abbrev InContent : ℕ → Content → Type 0
   InContent e = NamesIn is_there there_view (Within e)
 
-  outer_names : (e : ℕ) (c : Content) → c.allocations.allocator ≡ Outer → (k : ℕ) → k < word_limit c.allocations.allocator → Within e (name_of c.allocations.allocator k)
+  outer_names : (e : ℕ) (c : Content) → c.allocations.allocator ≡ Outer → (k : ℕ) → k < word_limit c.allocations.allocator
+      → Within e (name_of c.allocations.allocator k)
   outer_names e c is = subst (λ z. (k : ℕ) → k < word_limit z → Within e (name_of z k)) (sym is) (λ k l. l)
 
   content_names : (w : Whole) → HasNames g w → InContent w.executions w.content
   content_names w h = record { sees = h.objects; names = outer_names w.executions w.content h.outer; counted = h.counted }
 
   -- an operation on the content
-  by_content : (w : Whole) (c : Content) → c.allocations.allocator ≡ w.content.allocations.allocator → HasNames g w → InContent w.executions c → HasNames g (record w { content = c })
+  by_content : (w : Whole) (c : Content) → c.allocations.allocator ≡ w.content.allocations.allocator → HasNames g w → InContent w.executions c
+      → HasNames g (record w { content = c })
   by_content w c same h k = record { objects = k.sees; outer = same ∙ h.outer; counted = k.counted }
 
   same_allocator : (c d : Content) → Leaves c d → d.allocations.allocator ≡ c.allocations.allocator
@@ -290,10 +299,12 @@ module _ (g : Setting) where
   unfolding print
   print_allocator bytes c = refl
 
-  own_names : (l : Loop) (w : Whole) (lo : ℤ) (n : ℕ) → n ≤ LOOP_TRIPS → (j k : ℕ) → j < n → k < ITERATION_WORDS → Within (w.executions + 1) (Iter w.executions j k)
+  own_names : (l : Loop) (w : Whole) (lo : ℤ) (n : ℕ) → n ≤ LOOP_TRIPS → (j k : ℕ) → j < n → k < ITERATION_WORDS
+      → Within (w.executions + 1) (Iter w.executions j k)
   own_names l w lo n few j k a b = (omega arith, omega (arith, few, a), b)
 
-  trips_keep : (l : Loop) (lo hi : ℤ) (locals : List Val) (w : Whole) (r : Result ℕ Trap) → ok_or_none r ≤ LOOP_TRIPS → HasNames g w → HasNames g (if_trips g l lo hi locals w r).1
+  trips_keep : (l : Loop) (lo hi : ℤ) (locals : List Val) (w : Whole) (r : Result ℕ Trap) → ok_or_none r ≤ LOOP_TRIPS → HasNames g w
+      → HasNames g (if_trips g l lo hi locals w r).1
   trips_keep l lo hi locals w (Err t) few h = h
   trips_keep l lo hi locals w (Ok n) few h =
       let x = execution g l w.executions lo n in
@@ -322,7 +333,8 @@ module _ (g : Setting) where
           (by_leaves is_there there_view (Within w.executions) w.content _ (store_leaves a x w.content) (content_names w h));
     };
     make = λ words. record {
-      by = λ w h. by_content w _ (make_allocator words w.content) h ((make_keeps is_there there_view (Within w.executions) words).by w.content (content_names w h));
+      by = λ w h. by_content w _ (make_allocator words w.content) h
+          ((make_keeps is_there there_view (Within w.executions) words).by w.content (content_names w h));
     };
     free = λ o at. record {
       by = λ w h.
@@ -330,14 +342,16 @@ module _ (g : Setting) where
           (by_leaves is_there there_view (Within w.executions) w.content _ (free_leaves o at w.content) (content_names w h));
     };
     print = λ bytes. record {
-      by = λ w h. by_content w _ (print_allocator bytes w.content) h ((print_keeps is_there there_view (Within w.executions) bytes).by w.content (content_names w h));
+      by = λ w h. by_content w _ (print_allocator bytes w.content) h
+          ((print_keeps is_there there_view (Within w.executions) bytes).by w.content (content_names w h));
     };
     visit = λ loop lo hi locals. record { by = λ w h. visit_keeps lo hi locals w (loop_at g.typed loop) h };
   }
 
   -- ---- the start
 
-  global_or : (n k : ℕ) (o : Obj) (gs : List TGlobal) (ws : List Val) (b : Bool) → obj_eq o (Global k) ≡ b → k < n → (is_some (fin.get (globals_from (k + 1) gs) o) ≡ true → IsWithin n 0 o)
+  global_or : (n k : ℕ) (o : Obj) (gs : List TGlobal) (ws : List Val) (b : Bool) → obj_eq o (Global k) ≡ b → k < n
+      → (is_some (fin.get (globals_from (k + 1) gs) o) ≡ true → IsWithin n 0 o)
       → is_some (cond b (Some ws) (fin.get (globals_from (k + 1) gs) o)) ≡ true → IsWithin n 0 o
   global_or n k o gs ws true e l more h = subst (IsWithin n 0) (sym (obj_equal o (Global k) e)) l
   global_or n k o gs ws false e l more h = more h
@@ -354,14 +368,17 @@ module _ (g : Setting) where
   pub run_named : HasNames g (whole_run g).1.world
   unfolding whole_run
   run_named =
-      (of_call (outside g) (outside g) (λ A. Keeps (HasNames g) {A = A}) (keeps_closed (HasNames g) (outside g) names_world) Outside g.typed.funcs g.input ACTIVE_CALLS g.typed.main []
+      (of_call (outside g) (outside g) (λ A. Keeps (HasNames g) {A = A})
+      (keeps_closed (HasNames g) (outside g) names_world) Outside g.typed.funcs g.input ACTIVE_CALLS g.typed.main []
       (line_of (slice_get g.typed.funcs g.typed.main))).by (start g) starts_named
 
 pub statements_keep_names : StatementsKeepNames
 statements_keep_names g here funcs input calls stmt s h =
-    (of_program (outside g) (outside g) (λ A. Keeps (HasNames g) {A = A}) (keeps_closed (HasNames g) (outside g) (names_world g)) here funcs input calls stmt).by s h
+    (of_program (outside g) (outside g) (λ A. Keeps (HasNames g) {A = A})
+    (keeps_closed (HasNames g) (outside g) (names_world g)) here funcs input calls stmt).by s h
 
 pub names_fit : NamesFit
 names_fit typed input knobs modes ok q t =
     let g : Setting = record { typed = typed; input = input; sizes = sizes_of knobs; modes = modes } in
-    more_begun (length typed.globals) (whole_run g).1.world.executions (2 ^ 32) q (omega (arith, executions_bound g, ok.serial_steps.1)) ((run_named g).objects q t)
+    more_begun (length typed.globals) (whole_run g).1.world.executions (2 ^ 32) q (omega (arith, executions_bound g, ok.serial_steps.1))
+    ((run_named g).objects q t)

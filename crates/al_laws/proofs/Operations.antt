@@ -57,14 +57,17 @@ leaves_itself c = record { objects = λ o h. h; allocations = refl; printed = re
 leaves_log : (c : Content) (accesses l : AccessRecord) → c.accesses ≡ Some accesses → l.made ≡ accesses.made → Leaves c (with_accesses c l)
 leaves_log c accesses l is e = record { objects = λ o h. h; allocations = refl; printed = refl; made = e ∙ ap made_by (sym is) }
 
-leaves_own : (c : Content) (accesses : AccessRecord) (b : Bool) (l : AccessRecord) → c.accesses ≡ Some accesses → l.made ≡ accesses.made → Leaves c (if b then c else with_accesses c l)
+leaves_own : (c : Content) (accesses : AccessRecord) (b : Bool) (l : AccessRecord) → c.accesses ≡ Some accesses → l.made ≡ accesses.made
+    → Leaves c (if b then c else with_accesses c l)
 leaves_own c accesses true l is e = leaves_itself c
 leaves_own c accesses false l is e = leaves_log c accesses l is e
 
-load_index : (c : Content) (accesses : AccessRecord) (a : Addr) (k : Kind) (i : Option ℕ) → c.accesses ≡ Some accesses → Leaves c (load_recorded c accesses a k i).1
+load_index : (c : Content) (accesses : AccessRecord) (a : Addr) (k : Kind) (i : Option ℕ) → c.accesses ≡ Some accesses
+    → Leaves c (load_recorded c accesses a k i).1
 load_index c accesses a k (Some i) is = leaves_itself c
 load_index c accesses a k None is =
-    leaves_own c accesses (is_own accesses a) (record_load accesses a (value_at c.memory a)) is (ap (λ l. l.made) (load_reads accesses a (value_at c.memory a)).2)
+    leaves_own c accesses (is_own accesses a) (record_load accesses a (value_at c.memory a)) is
+    (ap (λ l. l.made) (load_reads accesses a (value_at c.memory a)).2)
 
 load_by_leaves : (l : Option AccessRecord) (c : Content) (a : Addr) (k : Kind) → c.accesses ≡ l → Leaves c (load_by l c a k).1
 load_by_leaves None c a k is = leaves_itself c
@@ -87,10 +90,12 @@ store_made accesses (Head o) None = refl
 store_made accesses (Local k) (Some v) = refl
 store_made accesses (Local k) None = refl
 
-store_index : (c : Content) (accesses : AccessRecord) (a : Addr) (x : Val) (i : Option ℕ) → c.accesses ≡ Some accesses → Leaves c (store_recorded c accesses a x i).1
+store_index : (c : Content) (accesses : AccessRecord) (a : Addr) (x : Val) (i : Option ℕ) → c.accesses ≡ Some accesses
+    → Leaves c (store_recorded c accesses a x i).1
 store_index c accesses a x (Some i) is = leaves_log c accesses _ is refl
 store_index c accesses a x None is =
-    store_in_leaves c _ a x (value_at c.memory a) (leaves_own c accesses (is_own accesses a) (record_store accesses a (value_at c.memory a)) is (store_made accesses a (value_at c.memory a)))
+    store_in_leaves c _ a x (value_at c.memory a)
+    (leaves_own c accesses (is_own accesses a) (record_store accesses a (value_at c.memory a)) is (store_made accesses a (value_at c.memory a)))
 
 store_by_leaves : (l : Option AccessRecord) (c : Content) (a : Addr) (x : Val) → c.accesses ≡ l → Leaves c (store_by l c a x).1
 store_by_leaves None c a x is = store_in_leaves c c a x (value_at c.memory a) (leaves_itself c)
@@ -109,12 +114,14 @@ free_log_made : (l : Option AccessRecord) (o : Obj) (there : Bool) → made_by (
 free_log_made None o there = refl
 free_log_made (Some accesses) o there = free_made accesses o (set.contains accesses.made o) there
 
-free_there_leaves : (c : Content) (o : Obj) (l : Option AccessRecord) (there : Bool) → made_by l ≡ made_by c.accesses → Leaves c (free_there (record c { accesses = l }) o there).1
+free_there_leaves : (c : Content) (o : Obj) (l : Option AccessRecord) (there : Bool) → made_by l ≡ made_by c.accesses
+    → Leaves c (free_there (record c { accesses = l }) o there).1
 free_there_leaves c o l true e = record { objects = λ q h. there_still c.memory o q h; allocations = refl; printed = refl; made = e }
 free_there_leaves c o l false e = record { objects = λ q h. h; allocations = refl; printed = refl; made = e }
 
 free_if_leaves : (c : Content) (o : Obj) (b : Bool) → Leaves c (free_if c o b).1
-free_if_leaves c o true = free_there_leaves c o (free_recorded c.accesses o (has_object c.memory o)) (has_object c.memory o) (free_log_made c.accesses o (has_object c.memory o))
+free_if_leaves c o true =
+    free_there_leaves c o (free_recorded c.accesses o (has_object c.memory o)) (has_object c.memory o) (free_log_made c.accesses o (has_object c.memory o))
 free_if_leaves c o false = leaves_itself c
 
 pub free_leaves : (o : Obj) (at : ℕ) (c : Content) → Leaves c (free o at c).1

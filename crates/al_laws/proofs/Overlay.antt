@@ -73,14 +73,17 @@ word_set_other None i k v n = refl
 
 pub put_here : (m : Memory) (q : Obj) (i : ℕ) (v : Val) → word_in (fin.get (put m (Word q i) v).objects q) i ≡ over (Some v) (word_in (fin.get m.objects q) i)
 put_here m q i v =
-    ap (λ x. word_in x i) (get_put m q i v q ∙ ap (λ b. if b then option_map (λ l. slice_set l i v) (fin.get m.objects q) else fin.get m.objects q) (obj_itself q))
+    ap (λ x. word_in x i)
+    (get_put m q i v q ∙ ap (λ b. if b then option_map (λ l. slice_set l i v) (fin.get m.objects q) else fin.get m.objects q) (obj_itself q))
     ∙ word_set (fin.get m.objects q) i v
 
 pub put_elsewhere : (m : Memory) (o : Obj) (w : ℕ) (v : Val) (q : Obj) (i : ℕ) → Word q i ≢ Word o w
     → word_in (fin.get (put m (Word o w) v).objects q) i ≡ word_in (fin.get m.objects q) i
 put_elsewhere m o w v q i n =
     ap (λ x. word_in x i) (get_put m o w v q)
-    ∙ elim (obj_eq q o) as (λ b. obj_eq q o ≡ b → word_in (if b then option_map (λ l. slice_set l w v) (fin.get m.objects q) else fin.get m.objects q) i ≡ word_in (fin.get m.objects q) i) [
+    ∙ elim (obj_eq q o) as
+    (λ b. obj_eq q o ≡ b
+    → word_in (if b then option_map (λ l. slice_set l w v) (fin.get m.objects q) else fin.get m.objects q) i ≡ word_in (fin.get m.objects q) i) [
       | true ↦ λ t. word_set_other (fin.get m.objects q) i w v (λ e. n (λ z. Word (obj_equal q o t z) (e z)))
       | false ↦ λ t. refl
     ] refl
@@ -94,9 +97,11 @@ written_words [] m q i s = refl
 written_words ((Word o w, v) ∷ es) m q i s =
     written_words es (put m (Word o w) v) q i (both_second (below_all addr_cmp (Word o w) es) (is_sorted addr_cmp es) s)
     ∙ elim (addr_eq (Word q i) (Word o w)) as (λ b. addr_eq (Word q i) (Word o w) ≡ b
-    → over (find addr_cmp (Word q i) es) (word_in (fin.get (put m (Word o w) v).objects q) i) ≡ over (cond b (Some v) (find addr_cmp (Word q i) es)) (word_in (fin.get m.objects q) i)) [
+    → over (find addr_cmp (Word q i) es) (word_in (fin.get (put m (Word o w) v).objects q) i) ≡ over (cond b (Some v) (find addr_cmp (Word q i) es))
+    (word_in (fin.get m.objects q) i)) [
       | true ↦ λ t.
-          let none = not_found addr_cmp addr_total (Word q i) (Word o w) es ((Equal-is (addr_cmp (Word q i) (Word o w))).0 t) (both_first (below_all addr_cmp (Word o w) es) (is_sorted addr_cmp es) s) in
+          let none = not_found addr_cmp addr_total (Word q i) (Word o w) es ((Equal-is (addr_cmp (Word q i) (Word o w))).0 t)
+          (both_first (below_all addr_cmp (Word o w) es) (is_sorted addr_cmp es) s) in
           ap (λ x. over x (word_in (fin.get (put m (Word o w) v).objects q) i)) none
           ∙ ap (λ a. word_in (fin.get (put m a v).objects q) i) (sym (addr_equal (Word q i) (Word o w) t)) ∙ put_here m q i v
       | false ↦ λ t. ap (over (find addr_cmp (Word q i) es)) (put_elsewhere m o w v q i (differs (Word q i) (Word o w) t))
@@ -114,7 +119,8 @@ written_locals ((Local j, v) ∷ es) m k s =
     ∙ elim (addr_eq (Local k) (Local j)) as (λ b. addr_eq (Local k) (Local j) ≡ b
     → over (find addr_cmp (Local k) es) (slice_get (slice_set m.locals j v) k) ≡ over (cond b (Some v) (find addr_cmp (Local k) es)) (slice_get m.locals k)) [
       | true ↦ λ t.
-          let none = not_found addr_cmp addr_total (Local k) (Local j) es ((Equal-is (addr_cmp (Local k) (Local j))).0 t) (both_first (below_all addr_cmp (Local j) es) (is_sorted addr_cmp es) s) in
+          let none = not_found addr_cmp addr_total (Local k) (Local j) es ((Equal-is (addr_cmp (Local k) (Local j))).0 t)
+          (both_first (below_all addr_cmp (Local j) es) (is_sorted addr_cmp es) s) in
           ap (λ x. over x (slice_get (slice_set m.locals j v) k)) none ∙ ap (λ a. slice_get (put m a v).locals k) (sym (addr_equal (Local k) (Local j) t))
           ∙ set_over m.locals k v
       | false ↦ λ t. ap (over (find addr_cmp (Local k) es)) (get_set_other m.locals k j v (λ e. differs (Local k) (Local j) t (ap (λ k. Local k) e)))
@@ -125,7 +131,8 @@ pub written_there : (es : List (Addr × Val)) (m : Memory) (q : Obj) → is_some
 written_there [] m q = refl
 written_there ((Word o w, v) ∷ es) m q =
     written_there es (put m (Word o w) v) q ∙ ap is_some (get_put m o w v q)
-    ∙ elim (obj_eq q o) as (λ b. is_some (if b then option_map (λ l. slice_set l w v) (fin.get m.objects q) else fin.get m.objects q) ≡ is_some (fin.get m.objects q)) [
+    ∙ elim (obj_eq q o) as
+    (λ b. is_some (if b then option_map (λ l. slice_set l w v) (fin.get m.objects q) else fin.get m.objects q) ≡ is_some (fin.get m.objects q)) [
       | true ↦ elim (fin.get m.objects q) as (λ x. is_some (option_map (λ l. slice_set l w v) x) ≡ is_some x) [ None ↦ refl | Some l ↦ refl ]
       | false ↦ refl
     ]
@@ -140,12 +147,18 @@ get_with_made [] m q s = refl
 get_with_made (e ∷ es) m q s =
     get_with_made es (add m e.0 e.1) q (both_second (below_all obj_cmp e.0 es) (is_sorted obj_cmp es) s)
     ∙ elim (obj_eq q e.0) as (λ b. obj_eq q e.0 ≡ b
-    → elim (find obj_cmp q es) as (λ _. Option (List Val)) [ None ↦ fin.get (add m e.0 e.1).objects q | Some ws ↦ Some ws ] ≡ elim (cond b (Some e.1) (find obj_cmp q es)) as (λ _. Option (List Val)) [ None ↦ fin.get m.objects q | Some ws ↦ Some ws ]) [
+    → elim (find obj_cmp q es) as (λ _. Option (List Val)) [
+      | None ↦ fin.get (add m e.0 e.1).objects q
+      | Some ws ↦ Some ws
+    ] ≡ elim (cond b (Some e.1) (find obj_cmp q es)) as (λ _. Option (List Val)) [ None ↦ fin.get m.objects q | Some ws ↦ Some ws ]) [
       | true ↦ λ t.
           let none = not_found obj_cmp obj_total q e.0 es ((Equal-is (obj_cmp q e.0)).0 t) (both_first (below_all obj_cmp e.0 es) (is_sorted obj_cmp es) s) in
           ap (λ x. elim x as (λ _. Option (List Val)) [ None ↦ fin.get (add m e.0 e.1).objects q | Some ws ↦ Some ws ]) none
           ∙ fin.get-insert obj_total m.objects e.0 e.1 q ∙ ap (λ b. cond b (Some e.1) (fin.get m.objects q)) t
-      | false ↦ λ t. ap (λ x. elim (find obj_cmp q es) as (λ _. Option (List Val)) [ None ↦ x | Some ws ↦ Some ws ]) (fin.get-insert obj_total m.objects e.0 e.1 q ∙ ap (λ b. cond b (Some e.1) (fin.get m.objects q)) t)
+      | false ↦ λ t. ap (λ x. elim (find obj_cmp q es) as (λ _. Option (List Val)) [
+        | None ↦ x
+        | Some ws ↦ Some ws
+      ]) (fin.get-insert obj_total m.objects e.0 e.1 q ∙ ap (λ b. cond b (Some e.1) (fin.get m.objects q)) t)
     ] refl
 
 pub locals_with_made : (es : List (Obj × List Val)) (m : Memory) → (with_made es m).locals ≡ m.locals
@@ -158,34 +171,59 @@ find_written : (m : Memory) (items : List Addr) (a : Addr)
     → find addr_cmp a (filter_map (λ b. with_present b (value_at m b)) items) ≡ (if list_any (eq_by_cmp addr_cmp a) items then value_at m a else None)
 find_written m [] a = refl
 find_written m (b ∷ items) a =
-    elim (value_at m b) as (λ x. value_at m b ≡ x → find addr_cmp a (cons_option (with_present b x) (filter_map (λ b. with_present b (value_at m b)) items)) ≡ (if addr_eq a b || list_any (eq_by_cmp addr_cmp a) items then value_at m a else None)) [
+    elim (value_at m b) as
+    (λ x. value_at m b ≡ x
+    → find addr_cmp a (cons_option (with_present b x) (filter_map (λ b. with_present b (value_at m b)) items)) ≡
+    (if addr_eq a b || list_any (eq_by_cmp addr_cmp a) items then value_at m a else None)) [
       | None ↦ λ e. find_written m items a
-          ∙ elim (addr_eq a b) as (λ t. addr_eq a b ≡ t → (if list_any (eq_by_cmp addr_cmp a) items then value_at m a else None) ≡ (if t || list_any (eq_by_cmp addr_cmp a) items then value_at m a else None)) [
+          ∙ elim (addr_eq a b) as
+          (λ t. addr_eq a b ≡ t
+          → (if list_any (eq_by_cmp addr_cmp a) items then value_at m a else None) ≡
+          (if t || list_any (eq_by_cmp addr_cmp a) items then value_at m a else None)) [
             | true ↦ λ t. let none = ap (value_at m) (addr_equal a b t)
-                ∙ e in elim (list_any (eq_by_cmp addr_cmp a) items) as (λ z. (if z then value_at m a else None) ≡ value_at m a) [ true ↦ refl | false ↦ sym none ]
+                ∙ e in elim (list_any (eq_by_cmp addr_cmp a) items) as (λ z. (if z then value_at m a else None) ≡ value_at m a) [
+                  | true ↦ refl
+                  | false ↦ sym none
+                ]
             | false ↦ λ t. refl
           ] refl
-      | Some v ↦ λ e. elim (addr_eq a b) as (λ t. addr_eq a b ≡ t → cond t (Some v) (find addr_cmp a (filter_map (λ b. with_present b (value_at m b)) items)) ≡ (if t || list_any (eq_by_cmp addr_cmp a) items then value_at m a else None)) [
-        | true ↦ λ t. sym (ap (value_at m) (addr_equal a b t) ∙ e)
-        | false ↦ λ t. find_written m items a
-      ] refl
+      | Some v ↦ λ e. elim (addr_eq a b) as
+          (λ t. addr_eq a b ≡ t
+          → cond t (Some v) (find addr_cmp a (filter_map (λ b. with_present b (value_at m b)) items)) ≡
+          (if t || list_any (eq_by_cmp addr_cmp a) items then value_at m a else None)) [
+            | true ↦ λ t. sym (ap (value_at m) (addr_equal a b t) ∙ e)
+            | false ↦ λ t. find_written m items a
+          ] refl
     ] refl
 
 find_made : (m : Memory) (items : List Obj) (q : Obj)
-    → find obj_cmp q (filter_map (λ o. with_present o (fin.get m.objects o)) items) ≡ (if list_any (eq_by_cmp obj_cmp q) items then fin.get m.objects q else None)
+    → find obj_cmp q (filter_map (λ o. with_present o (fin.get m.objects o)) items) ≡
+    (if list_any (eq_by_cmp obj_cmp q) items then fin.get m.objects q else None)
 find_made m [] q = refl
 find_made m (o ∷ items) q =
-    elim (fin.get m.objects o) as (λ x. fin.get m.objects o ≡ x → find obj_cmp q (cons_option (with_present o x) (filter_map (λ o. with_present o (fin.get m.objects o)) items)) ≡ (if obj_eq q o || list_any (eq_by_cmp obj_cmp q) items then fin.get m.objects q else None)) [
+    elim (fin.get m.objects o) as
+    (λ x. fin.get m.objects o ≡ x
+    → find obj_cmp q (cons_option (with_present o x) (filter_map (λ o. with_present o (fin.get m.objects o)) items)) ≡
+    (if obj_eq q o || list_any (eq_by_cmp obj_cmp q) items then fin.get m.objects q else None)) [
       | None ↦ λ e. find_made m items q
-          ∙ elim (obj_eq q o) as (λ t. obj_eq q o ≡ t → (if list_any (eq_by_cmp obj_cmp q) items then fin.get m.objects q else None) ≡ (if t || list_any (eq_by_cmp obj_cmp q) items then fin.get m.objects q else None)) [
+          ∙ elim (obj_eq q o) as
+          (λ t. obj_eq q o ≡ t
+          → (if list_any (eq_by_cmp obj_cmp q) items then fin.get m.objects q else None) ≡
+          (if t || list_any (eq_by_cmp obj_cmp q) items then fin.get m.objects q else None)) [
             | true ↦ λ t. let none = ap (fin.get m.objects) (obj_equal q o t)
-                ∙ e in elim (list_any (eq_by_cmp obj_cmp q) items) as (λ z. (if z then fin.get m.objects q else None) ≡ fin.get m.objects q) [ true ↦ refl | false ↦ sym none ]
+                ∙ e in elim (list_any (eq_by_cmp obj_cmp q) items) as (λ z. (if z then fin.get m.objects q else None) ≡ fin.get m.objects q) [
+                  | true ↦ refl
+                  | false ↦ sym none
+                ]
             | false ↦ λ t. refl
           ] refl
-      | Some ws ↦ λ e. elim (obj_eq q o) as (λ t. obj_eq q o ≡ t → cond t (Some ws) (find obj_cmp q (filter_map (λ o. with_present o (fin.get m.objects o)) items)) ≡ (if t || list_any (eq_by_cmp obj_cmp q) items then fin.get m.objects q else None)) [
-        | true ↦ λ t. sym (ap (fin.get m.objects) (obj_equal q o t) ∙ e)
-        | false ↦ λ t. find_made m items q
-      ] refl
+      | Some ws ↦ λ e. elim (obj_eq q o) as
+          (λ t. obj_eq q o ≡ t
+          → cond t (Some ws) (find obj_cmp q (filter_map (λ o. with_present o (fin.get m.objects o)) items)) ≡
+          (if t || list_any (eq_by_cmp obj_cmp q) items then fin.get m.objects q else None)) [
+            | true ↦ λ t. sym (ap (fin.get m.objects) (obj_equal q o t) ∙ e)
+            | false ↦ λ t. find_made m items q
+          ] refl
     ] refl
 
 pub get_written : (m : Memory) (touched : FinSet addr_cmp) (a : Addr)
@@ -215,7 +253,8 @@ get_without_freed [] m q = refl
 get_without_freed (o ∷ os) m q =
     get_without_freed os (remove m o) q
     ∙ ap (λ x. if is_among os q then None else x) (get_remove m o q)
-    ∙ elim (obj_eq q o) as (λ b. (if is_among os q then None else cond b None (fin.get m.objects q)) ≡ (if b || is_among os q then None else fin.get m.objects q)) [
+    ∙ elim (obj_eq q o) as
+    (λ b. (if is_among os q then None else cond b None (fin.get m.objects q)) ≡ (if b || is_among os q then None else fin.get m.objects q)) [
       | true ↦ gone_either (is_among os q) None refl
       | false ↦ refl
     ]

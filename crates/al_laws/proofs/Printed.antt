@@ -60,12 +60,14 @@ module _ (before : List ℕ) where
 
 pub iterations_only_append : IterationsOnlyAppend
 iterations_only_append x n j c =
-    iterations_hold (Holds c.printed) (Holds c.printed) (printed_kept c.printed) (λ d h. h) x j (j + n) (λ i d f l h. h) n j c (omega arith) (omega arith) (continues_itself c.printed)
+    iterations_hold (Holds c.printed) (Holds c.printed) (printed_kept c.printed) (λ d h. h) x j (j + n) (λ i d f l h. h) n j c (omega arith) (omega arith)
+    (continues_itself c.printed)
 
 continues_on : (a b c : List ℕ) → Continues a b → Continues b c → Continues a c
 continues_on a b c h k = (h.0 ++ k.0, k.1 ∙ ap (λ z. z ++ k.0) h.1 ∙ append_assoc a h.0 k.0)
 
-then_appends : (r : Finished) (f : Content → Finished) → ((c : Content) → Continues c.printed (f c).content.printed) → (e : Ending) → Continues r.content.printed (then_by e r f).content.printed
+then_appends : (r : Finished) (f : Content → Finished) → ((c : Content) → Continues c.printed (f c).content.printed) → (e : Ending)
+    → Continues r.content.printed (then_by e r f).content.printed
 then_appends r f h ending.Done = h r.content
 then_appends r f h (ending.Trap t line) = continues_itself r.content.printed
 
@@ -73,7 +75,8 @@ pub chunks_only_append : ChunksOnlyAppend
 chunks_only_append x [] c = continues_itself c.printed
 chunks_only_append x (k ∷ ks) c =
     let r = chunk_runs x k c in
-    continues_on c.printed r.content.printed _ (iterations_only_append x (chunk_trips x k) (chunk_start x k) c) (then_appends r (chunks_run x ks) (chunks_only_append x ks) r.ending)
+    continues_on c.printed r.content.printed _ (iterations_only_append x (chunk_trips x k) (chunk_start x k) c)
+    (then_appends r (chunks_run x ks) (chunks_only_append x ks) r.ending)
 
 -- ---- outside iterations
 
@@ -104,4 +107,5 @@ module _ (before : List ℕ) (g : Setting) where
 pub runs_only_append : RunsOnlyAppend
 runs_only_append g here funcs input calls stmt s =
     let before = s.world.content.printed in
-    (of_program (outside g) (outside g) (λ A. Keeps (HoldsOutside before g) {A = A}) (keeps_closed (HoldsOutside before g) (outside g) (outside_kept before g)) here funcs input calls stmt).by s (continues_itself before)
+    (of_program (outside g) (outside g) (λ A. Keeps (HoldsOutside before g) {A = A})
+    (keeps_closed (HoldsOutside before g) (outside g) (outside_kept before g)) here funcs input calls stmt).by s (continues_itself before)

@@ -32,7 +32,7 @@ iterations_split x (suc m) n j c =
     let count : suc m + n ≡ suc (m + n) = omega arith in
     let start : suc j + m ≡ j + suc m = omega arith in
     let more : iterations x (m + n) (suc j) ≡ (λ d. then_runs (iterations x m (suc j) d) (iterations x n (j + suc m))) =
-      λ i d. (iterations_split x m n (suc j) d ∙ ap (λ z. then_runs (iterations x m (suc j) d) (iterations x n z)) start) i in
+    λ i d. (iterations_split x m n (suc j) d ∙ ap (λ z. then_runs (iterations x m (suc j) d) (iterations x n z)) start) i in
     ap (λ z. iterations x z j c) count
     ∙ ap (then_runs r) more
     ∙ sym (then_runs_twice r (iterations x m (suc j)) (iterations x n (j + suc m)) r.ending refl)

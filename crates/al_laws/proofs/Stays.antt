@@ -30,7 +30,9 @@ get_with_words : (objects : map.FinMap obj_cmp (List Val)) (o : Obj) (w : ℕ) (
     → map.get (with_words objects o w v ws) q ≡ (if obj_eq q o then option_map (λ l. slice_set l w v) (map.get objects q) else map.get objects q)
 get_with_words objects o w v q (Some ws) e =
     map.get-insert obj_total objects o (slice_set ws w v) q
-    ∙ elim (obj_eq q o) as (λ b. obj_eq q o ≡ b → cond b (Some (slice_set ws w v)) (map.get objects q) ≡ (if b then option_map (λ l. slice_set l w v) (map.get objects q) else map.get objects q)) [
+    ∙ elim (obj_eq q o) as
+    (λ b. obj_eq q o ≡ b
+    → cond b (Some (slice_set ws w v)) (map.get objects q) ≡ (if b then option_map (λ l. slice_set l w v) (map.get objects q) else map.get objects q)) [
       | true ↦ λ t. sym (ap (option_map (λ l. slice_set l w v)) (ap (map.get objects) (obj_equal q o t) ∙ e))
       | false ↦ λ t. refl
     ] refl
@@ -142,8 +144,11 @@ pub word_put : (t u : FinSet addr_cmp) (o : Obj) (i : ℕ) (v : Val) (x y : Opti
 word_put t u o i v None None g c s = tt
 word_put t u o i v None (Some ws) g c s = s
 word_put t u o i v (Some vs) None g c s = s
-word_put t u o i v (Some vs) (Some ws) g c s =
-    (length-set ws i v ∙ s.0, λ k n. get_set_other ws k i v (λ e. true≢false (sym c ∙ ap (λ k. set.contains u (Word o k)) (sym e) ∙ n)) ∙ s.1 k (lacks t u g (Word o k) n))
+word_put t u o i v (Some vs) (Some ws) g c s = (
+  length-set ws i v ∙ s.0,
+  λ k n. get_set_other ws k i v (λ e. true≢false (sym c ∙ ap (λ k. set.contains u (Word o k)) (sym e) ∙ n))
+      ∙ s.1 k (lacks t u g (Word o k) n),
+)
 
 -- what is there now was there
 pub there_before : (t : FinSet addr_cmp) (o : Obj) (x y : Option (List Val)) → SameBut t o x y → is_some y ≡ true → is_some x ≡ true
@@ -191,7 +196,9 @@ load_reads accesses a None = head_reads accesses a
 
 -- what an allocation does, where it passes the limit or does not
 abbrev pub limited : Content → Bool → ℕ → Result Obj Trap × Content
-limited c b words = if b then (Err trap.Alloc, c) else (Ok (name_of c.allocations.allocator c.allocations.next), with_object c (name_of c.allocations.allocator c.allocations.next) words)
+limited c b words =
+    if b then (Err trap.Alloc, c) else
+    (Ok (name_of c.allocations.allocator c.allocations.next), with_object c (name_of c.allocations.allocator c.allocations.next) words)
 
 -- ---- the private memory, change by change
 
@@ -232,10 +239,13 @@ module _ (m : Memory) (e first last : ℕ) (l : AccessRecord) (n : Memory) (h : 
 
   kept_word : (o : Obj) (w : ℕ) (v : Val) (touched : FinSet addr_cmp) → Grows l.touched touched
       → (set.contains l.made o ≡ false → set.contains touched (Word o w) ≡ true)
-      → (q : Obj) → set.contains l.made q ≡ false → is_among l.freed q ≡ false → SameBut touched q (map.get m.objects q) (map.get (put n (Word o w) v).objects q)
+      → (q : Obj) → set.contains l.made q ≡ false → is_among l.freed q ≡ false
+      → SameBut touched q (map.get m.objects q) (map.get (put n (Word o w) v).objects q)
   kept_word o w v touched grows written q own freed =
       subst (λ x. SameBut touched q (map.get m.objects q) x) (sym (get_put n o w v q))
-      (elim (obj_eq q o) as (λ b. obj_eq q o ≡ b → SameBut touched q (map.get m.objects q) (if b then option_map (λ l. slice_set l w v) (map.get n.objects q) else map.get n.objects q)) [
+      (elim (obj_eq q o) as
+      (λ b. obj_eq q o ≡ b
+      → SameBut touched q (map.get m.objects q) (if b then option_map (λ l. slice_set l w v) (map.get n.objects q) else map.get n.objects q)) [
         | true ↦ λ t.
             let same = obj_equal q o t in
             word_put l.touched touched q w v (map.get m.objects q) (map.get n.objects q) grows
@@ -291,10 +301,11 @@ module _ (m : Memory) (e first last : ℕ) (l : AccessRecord) (n : Memory) (h : 
       | inl s ↦ subst (IsNameFrom e first last) (sym s) name
       | inr k ↦ h.named q k
     ];
-    headed = λ q t. elim (is_made o q (obj_eq q o) refl (sym (set.contains-insert obj_total l.made o q) ∙ t)) as (λ _. set.contains (set.insert l.touched (Head o)) (Head q) ≡ true) [
-      | inl s ↦ ap (λ z. set.contains (set.insert l.touched (Head o)) (Head z)) s ∙ inserted_here l.touched (Head o)
-      | inr k ↦ inserted_more l.touched (Head o) (Head q) (h.headed q k)
-    ];
+    headed = λ q t. elim (is_made o q (obj_eq q o) refl (sym (set.contains-insert obj_total l.made o q) ∙ t)) as
+        (λ _. set.contains (set.insert l.touched (Head o)) (Head q) ≡ true) [
+          | inl s ↦ ap (λ z. set.contains (set.insert l.touched (Head o)) (Head z)) s ∙ inserted_here l.touched (Head o)
+          | inr k ↦ inserted_more l.touched (Head o) (Head q) (h.headed q k)
+        ];
     kept = λ q own freed.
         let both = sym (set.contains-insert obj_total l.made o q) ∙ own in
         subst (λ x. SameBut (set.insert l.touched (Head o)) q (map.get m.objects q) x)
@@ -397,7 +408,8 @@ module _ (m : Memory) (e first last : ℕ) where
   changed c h l n p = record { accesses = l; is = refl; private = p; names = h.names }
 
   by_reads : (c : Content) (h : Holds c) (l : AccessRecord) → ReadsOf h.accesses l → Holds (with_accesses c l)
-  by_reads c h l r = subst (λ l. Holds (with_accesses c l)) (sym r.2) (changed c h _ c.memory (private_reads m e first last h.accesses c.memory h.private r.0 r.1))
+  by_reads c h l r =
+      subst (λ l. Holds (with_accesses c l)) (sym r.2) (changed c h _ c.memory (private_reads m e first last h.accesses c.memory h.private r.0 r.1))
 
   own_or_read : (c : Content) (h : Holds c) (b : Bool) (l : AccessRecord) → ReadsOf h.accesses l → Holds (if b then c else with_accesses c l)
   own_or_read c h true l r = h
@@ -405,7 +417,8 @@ module _ (m : Memory) (e first last : ℕ) where
 
   load_index : (c : Content) (h : Holds c) (a : Addr) (k : Kind) (i : Option ℕ) → Holds (load_recorded c h.accesses a k i).1
   load_index c h a k (Some i) = h
-  load_index c h a k None = own_or_read c h (is_own h.accesses a) (record_load h.accesses a (value_at c.memory a)) (load_reads h.accesses a (value_at c.memory a))
+  load_index c h a k None =
+      own_or_read c h (is_own h.accesses a) (record_load h.accesses a (value_at c.memory a)) (load_reads h.accesses a (value_at c.memory a))
 
   load_stays : (a : Addr) (k : Kind) → KeepsOp Holds (load a k)
   unfolding load
@@ -422,11 +435,13 @@ module _ (m : Memory) (e first last : ℕ) where
     accesses = h.accesses;
     is = h.is;
     private =
-        private_word m e first last h.accesses c.memory h.private o w v h.accesses.reads h.accesses.touched (λ a t. t) (λ a t. t) (λ n. absurd (true≢false (sym own ∙ n)));
+        private_word m e first last h.accesses c.memory h.private o w v h.accesses.reads h.accesses.touched (λ a t. t) (λ a t. t)
+        (λ n. absurd (true≢false (sym own ∙ n)));
     names = h.names;
   }
   stored_word c h o w v false (Some x) own =
-      changed c h _ _ (private_word m e first last h.accesses c.memory h.private o w v (set.insert h.accesses.reads (Head o)) (set.insert h.accesses.touched (Word o w))
+      changed c h _ _
+      (private_word m e first last h.accesses c.memory h.private o w v (set.insert h.accesses.reads (Head o)) (set.insert h.accesses.touched (Word o w))
       (inserted_more h.accesses.reads (Head o)) (inserted_more h.accesses.touched (Word o w)) (λ n. inserted_here h.accesses.touched (Word o w)))
   stored_word c h o w v true None own = h
   stored_word c h o w v false None own = by_reads c h (with_head h.accesses (Word o w)) (head_reads h.accesses (Word o w))
@@ -434,7 +449,9 @@ module _ (m : Memory) (e first last : ℕ) where
   stored_local : (c : Content) (h : Holds c) (k : ℕ) (v : Val) (old : Option Val)
       → Holds (store_in (with_accesses c (record_store h.accesses (Local k) old)) (Local k) v old).1
   stored_local c h k v (Some x) =
-      changed c h _ _ (private_local m e first last h.accesses c.memory h.private k v (set.insert h.accesses.touched (Local k)) (inserted_more h.accesses.touched (Local k)) (inserted_here h.accesses.touched (Local k)))
+      changed c h _ _
+      (private_local m e first last h.accesses c.memory h.private k v (set.insert h.accesses.touched (Local k))
+      (inserted_more h.accesses.touched (Local k)) (inserted_here h.accesses.touched (Local k)))
   stored_local c h k v None = by_reads c h h.accesses (no_reads h.accesses)
 
   stored : (c : Content) (h : Holds c) (a : Addr) (v : Val) → Holds (store_recorded c h.accesses a v None).1
@@ -475,9 +492,11 @@ module _ (m : Memory) (e first last : ℕ) where
   freed_there : (c : Content) (h : Holds c) (o : Obj) (own there : Bool) → set.contains h.accesses.made o ≡ own → has_object c.memory o ≡ there
       → is_freeable o 0 ≡ true
       → Holds (free_there (record c { accesses = Some (if own then h.accesses else record_free h.accesses o there) }) o there).1
-  freed_there c h o true true own there place = changed c h h.accesses (remove c.memory o) (private_own_freed m e first last h.accesses c.memory h.private o own)
+  freed_there c h o true true own there place =
+      changed c h h.accesses (remove c.memory o) (private_own_freed m e first last h.accesses c.memory h.private o own)
   freed_there c h o true false own there place = changed c h h.accesses c.memory h.private
-  freed_there c h o false true own there place = changed c h _ (remove c.memory o) (private_freed m e first last h.accesses c.memory h.private o own there place)
+  freed_there c h o false true own there place =
+      changed c h _ (remove c.memory o) (private_freed m e first last h.accesses c.memory h.private o own there place)
   freed_there c h o false false own there place =
       by_reads c h (record_free h.accesses o false) (read_more h.accesses h.accesses (Head o) (no_reads h.accesses))
 

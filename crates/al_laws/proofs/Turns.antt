@@ -14,7 +14,8 @@ module _ {S : Type 0} where
   pub record Alike {A : Type 0} (b : ℕ) (p q : Act S A) : Type 0 where
     pub by : (s : State S) → s.budget ≤ b → p s ≡ q s
 
-  alike_after : {A B : Type 0} (b : ℕ) (r : Answer A) (f g : A → Act S B) → ((a : A) → Alike b (f a) (g a)) → (s : State S) → s.budget ≤ b → after r s f ≡ after r s g
+  alike_after : {A B : Type 0} (b : ℕ) (r : Answer A) (f g : A → Act S B) → ((a : A) → Alike b (f a) (g a)) → (s : State S) → s.budget ≤ b
+      → after r s f ≡ after r s g
   alike_after b (Ok a) f g h s l = (h a).by s l
   alike_after b (Err e) f g h s l = refl
 
@@ -26,7 +27,8 @@ module _ {S : Type 0} where
   alike_itself b p = record { by = λ s l. refl }
 
   -- a step is spent before
-  spent : (line b n : ℕ) (p q : Act S Flow) (s : State S) → n ≤ suc b → Alike b p q → after (spend_from line n s).0 (spend_from line n s).1 (λ _. p) ≡ after (spend_from line n s).0 (spend_from line n s).1 (λ _. q)
+  spent : (line b n : ℕ) (p q : Act S Flow) (s : State S) → n ≤ suc b → Alike b p q
+      → after (spend_from line n s).0 (spend_from line n s).1 (λ _. p) ≡ after (spend_from line n s).0 (spend_from line n s).1 (λ _. q)
   spent line b zero p q s l h = refl
   spent line b (suc n) p q s l h = h.by (record s { budget = n }) (omega (arith, l))
 
@@ -34,7 +36,8 @@ module _ {S : Type 0} where
   unfolding bind spend
   alike_spend line b p q h = record { by = λ s l. spent line b s.budget p q s l h }
 
-  not_spent : (line n : ℕ) (p q : Act S Flow) (s : State S) → n ≤ 0 → after (spend_from line n s).0 (spend_from line n s).1 (λ _. p) ≡ after (spend_from line n s).0 (spend_from line n s).1 (λ _. q)
+  not_spent : (line n : ℕ) (p q : Act S Flow) (s : State S) → n ≤ 0
+      → after (spend_from line n s).0 (spend_from line n s).1 (λ _. p) ≡ after (spend_from line n s).0 (spend_from line n s).1 (λ _. q)
   not_spent line zero p q s l = refl
   not_spent line (suc n) p q s l = absurd (omega (arith, l))
 
@@ -76,7 +79,8 @@ module _ {S : Type 0} (line : ℕ) (test : Act S Val) (body third : Act S Flow) 
   turns_alike b zero k rest other l m = absurd (omega (arith, l))
   turns_alike b (suc n) zero rest other l m = absurd (omega (arith, m))
   turns_alike zero (suc n) (suc k) rest other l m = alike_without line _ _
-  turns_alike (suc b) (suc n) (suc k) rest other l m = turn_again b (before n rest) (before k other) (turns_alike b n k rest other (omega (arith, l)) (omega (arith, m)))
+  turns_alike (suc b) (suc n) (suc k) rest other l m =
+      turn_again b (before n rest) (before k other) (turns_alike b n k rest other (omega (arith, l)) (omega (arith, m)))
 
   abbrev stop : Act S Flow
   stop = lift line (Err trap.Steps)
@@ -94,7 +98,9 @@ module _ {S : Type 0} (line : ℕ) (test : Act S Val) (body third : Act S Flow) 
 
   goes_on_from : (s : State S) (n : ℕ) → n ≡ s.budget → turn (before n stop) s ≡ turn (turns line test body third) s
   goes_on_from s zero e = (alike_without line _ _).by s (omega (arith, e))
-  goes_on_from s (suc b) e = (turn_again b (before (suc b) stop) (turns line test body third) (record { by = λ q l. never_reached (suc b) stop q (omega (arith, l)) })).by s (omega (arith, e))
+  goes_on_from s (suc b) e =
+      (turn_again b (before (suc b) stop) (turns line test body third) (record { by = λ q l. never_reached (suc b) stop q (omega (arith, l)) })).by s
+      (omega (arith, e))
 
   pub loop_goes_on : turns line test body third ≡ turn (turns line test body third)
   loop_goes_on = λ i s. (turns_are s ∙ goes_on_from s s.budget refl) i

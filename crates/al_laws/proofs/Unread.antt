@@ -62,18 +62,27 @@ module _ (reds : List Red) where
   load_clear : (l : AccessRecord) (a : Addr) (v : Option Val) → is_red a ≡ false → ClearOf l → ClearOf (record_load l a v)
   load_clear l a (Some v) f h =
       let g = head_clear l a h in
-      either_clear (set.contains (with_head l a).touched a) (with_head l a) (record (with_head l a) { reads = set.insert (with_head l a).reads a }) g (record { reds_are = g.reds_are; reads = inserted (with_head l a).reads a (λ v. f) g.reads; touched = g.touched })
+      either_clear (set.contains (with_head l a).touched a) (with_head l a) (record (with_head l a) { reads = set.insert (with_head l a).reads a }) g (record {
+        reds_are = g.reds_are;
+        reads = inserted (with_head l a).reads a (λ v. f) g.reads;
+        touched = g.touched;
+      })
   load_clear l a None f h = head_clear l a h
 
   store_clear : (l : AccessRecord) (a : Addr) (v : Option Val) → is_red a ≡ false → ClearOf l → ClearOf (record_store l a v)
-  store_clear l a (Some v) f h = let g = head_clear l a h in record { reds_are = g.reds_are; reads = g.reads; touched = inserted (with_head l a).touched a (λ v. f) g.touched }
+  store_clear l a (Some v) f h = let g = head_clear l a h in record {
+    reds_are = g.reds_are;
+    reads = g.reads;
+    touched = inserted (with_head l a).touched a (λ v. f) g.touched;
+  }
   store_clear l a None f h = head_clear l a h
 
   own_or : (c : Content) (b : Bool) (l : AccessRecord) → Holds c → ClearOf l → Holds (if b then c else with_accesses c l)
   own_or c true l h g = h
   own_or c false l h g = g
 
-  load_index : (c : Content) (l : AccessRecord) (a : Addr) (k : Kind) (i : Option ℕ) → red_index reds a ≡ i → Holds c → ClearOf l → Holds (load_recorded c l a k i).1
+  load_index : (c : Content) (l : AccessRecord) (a : Addr) (k : Kind) (i : Option ℕ) → red_index reds a ≡ i → Holds c → ClearOf l
+      → Holds (load_recorded c l a k i).1
   load_index c l a k (Some i) e h g = h
   load_index c l a k None e h g = own_or c (is_own l a) (record_load l a (value_at c.memory a)) h (load_clear l a (value_at c.memory a) (ap is_some e) g)
 
@@ -85,10 +94,12 @@ module _ (reds : List Red) where
   store_in_holds c a x (Some v) h = h
   store_in_holds c a x None h = h
 
-  store_index : (c : Content) (l : AccessRecord) (a : Addr) (x : Val) (i : Option ℕ) → red_index reds a ≡ i → Holds c → ClearOf l → Holds (store_recorded c l a x i).1
+  store_index : (c : Content) (l : AccessRecord) (a : Addr) (x : Val) (i : Option ℕ) → red_index reds a ≡ i → Holds c → ClearOf l
+      → Holds (store_recorded c l a x i).1
   store_index c l a x (Some i) e h g = record { reds_are = g.reds_are; reads = g.reads; touched = g.touched }
   store_index c l a x None e h g =
-      store_in_holds (if is_own l a then c else with_accesses c (record_store l a (value_at c.memory a))) a x (value_at c.memory a) (own_or c (is_own l a) (record_store l a (value_at c.memory a)) h (store_clear l a (value_at c.memory a) (ap is_some e) g))
+      store_in_holds (if is_own l a then c else with_accesses c (record_store l a (value_at c.memory a))) a x (value_at c.memory a)
+      (own_or c (is_own l a) (record_store l a (value_at c.memory a)) h (store_clear l a (value_at c.memory a) (ap is_some e) g))
 
   store_holds : (c : Content) (a : Addr) (x : Val) (l : Option AccessRecord) → Holds c → ClearOr l → Holds (store_by l c a x).1
   store_holds c a x None h g = store_in_holds c a x (value_at c.memory a) h
@@ -132,7 +143,8 @@ module _ (reds : List Red) where
 
   free_holds : (c : Content) (o : Obj) (b : Bool) → Holds c → Holds (free_if c o b).1
   free_holds c o true h =
-      free_there_holds (record c { accesses = free_recorded c.accesses o (has_object c.memory o) }) o (has_object c.memory o) (free_log_clear o (has_object c.memory o) c.accesses h)
+      free_there_holds (record c { accesses = free_recorded c.accesses o (has_object c.memory o) }) o (has_object c.memory o)
+      (free_log_clear o (has_object c.memory o) c.accesses h)
   free_holds c o false h = h
 
   free_keeps : (o : Obj) (at : ℕ) → KeepsOp Holds (free o at)
@@ -144,7 +156,14 @@ module _ (reds : List Red) where
   print_keeps bytes = record { by = λ c h. h }
 
   clear_world : KeepsWorld Holds in_iteration
-  clear_world = record { load = load_keeps; store = store_keeps; make = make_keeps; free = free_keeps; print = print_keeps; visit = λ loop lo hi locals. record { by = λ c h. h } }
+  clear_world = record {
+    load = load_keeps;
+    store = store_keeps;
+    make = make_keeps;
+    free = free_keeps;
+    print = print_keeps;
+    visit = λ loop lo hi locals. record { by = λ c h. h };
+  }
 
   none_in_empty : Clear set.empty
   none_in_empty a e v = absurd (true≢false (sym e ∙ contains-empty addr_cmp a))
@@ -171,8 +190,7 @@ pub reductions_are_unrecorded : ReductionsAreUnrecorded
 unfolding outcome
 reductions_are_unrecorded x reds m c a v e =
     let r = chunk_runs x c (chunk_from x reds m c) in
-    let h = chunk_clear reds x m c in
-    (
+    let h = chunk_clear reds x m c in (
       not_in reds (outcome_of r r.content.accesses).reads a v e (reads_clear reds r r.content.accesses h),
       not_in reds (outcome_of r r.content.accesses).touched a v e (touched_clear reds r r.content.accesses h),
     )

@@ -27,7 +27,8 @@ unwritten_in r (Some accesses) a f =
 unwritten_in r None a f = map.get-empty addr_cmp a
 
 -- what is not touched is not written
-pub untouched_unwritten : (x : Execution) (reds : List Red) (m : Memory) (c : ℕ) (a : Addr) → set.contains (outcome x reds m c).touched a ≡ false → map.get (outcome x reds m c).writes a ≡ None
+pub untouched_unwritten : (x : Execution) (reds : List Red) (m : Memory) (c : ℕ) (a : Addr) → set.contains (outcome x reds m c).touched a ≡ false
+    → map.get (outcome x reds m c).writes a ≡ None
 unfolding outcome
 untouched_unwritten x reds m c a f =
     let r = chunk_runs x c (chunk_from x reds m c) in
