@@ -9,7 +9,8 @@ use Rattle.al_source.specs.declared.source_tree.Item.TheVariants as item
 use Rattle.al_rules.specs.declared.faults.TypeKind.TheVariants.{Twice, Shape, Mismatch}
 use Rattle.al_rules.specs.declared.faults.TypeFault.{TypeFault}
 use Rattle.al_rules.specs.Names.{Name, any_named}
-use Rattle.al_rules.specs.Checks.{Checked, and_then, ensure, ◌>>◌}
+use Rattle.al_source.specs.Steps.{and_then}
+use Rattle.al_rules.specs.Checks.{Checked, ensure, ◌>>◌}
 use Rattle.al_rules.specs.Types.{Form, type_checked, is_held, is_scalar, is_result}
 use Rattle.al_rules.specs.Scopes.{Known, is_struct, built_in}
 use Rattle.al_rules.specs.Walks.{at_line}

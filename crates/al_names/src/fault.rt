@@ -2,7 +2,9 @@ ghost use Rattle.std.specs.Prelude.{◌≡◌, IfOk};
 ghost use Rattle.al_rules.specs.Checks as spec;
 ghost use Rattle.al_rules.specs.Checks.{Checked};
 ghost use Rattle.al_rules.specs.Walks.{at_line};
-ghost use Rattle.al_names.specs.Steps.{Checks, Gives};
+ghost use Rattle.al_source.specs.Answers.{Gives};
+ghost use Rattle.al_rules.specs.Faults.{typed as type_of};
+ghost use Rattle.al_names.specs.Steps.{kind_of};
 
 use al_rules::{TypeFault, TypeKind};
 use std::alloc::AllocError;
@@ -26,7 +28,7 @@ impl From<AllocError> for Fault {
 }
 
 pub fn ensure(holds: bool, kind: TypeKind) -> Result<(), Fault>
-    ensures { Checks (spec.ensure holds kind) result }
+    ensures { Gives kind_of (spec.ensure holds kind) result }
 {
     if holds {
         Ok(())
@@ -36,7 +38,7 @@ pub fn ensure(holds: bool, kind: TypeKind) -> Result<(), Fault>
 }
 
 pub fn some_or<T: Drop>(found: Option<T>, kind: TypeKind) -> Result<T, Fault>
-    ensures { Checks (spec.some_or found kind) result }
+    ensures { Gives kind_of (spec.some_or found kind) result }
 {
     match found {
         Some(a) => Ok(a),
@@ -46,7 +48,7 @@ pub fn some_or<T: Drop>(found: Option<T>, kind: TypeKind) -> Result<T, Fault>
 
 /// The same with the line of the statement or item.
 pub fn at_line<T>(line: u32, r: Result<T, Fault>) -> Result<T, TypeFault>
-    ensures { (told : Checked T) → Checks told r → Gives (at_line line told) result }
+    ensures { (told : Checked T) → Gives kind_of told r → Gives type_of (at_line line told) result }
 {
     match r {
         Ok(a) => Ok(a),

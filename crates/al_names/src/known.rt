@@ -10,7 +10,8 @@ ghost use Rattle.al_names.specs.Definitions.{is_taken_in, with_definition};
 ghost use Rattle.al_names.specs.NameLists.{named_in};
 ghost use Rattle.al_names.specs.Roles.{allowed_for};
 ghost use Rattle.al_names.specs.Meanings.{field_seen, variable_of, callee_of, map_ok};
-ghost use Rattle.al_names.specs.Steps.{Checks};
+ghost use Rattle.al_source.specs.Answers.{Gives};
+ghost use Rattle.al_names.specs.Steps.{kind_of};
 
 use crate::fault::Fault;
 use crate::names::Names;
@@ -138,14 +139,14 @@ impl<'a> Known<'a> {
 
     /// A type in a function's body, where every struct is known.
     pub fn check_type(&self, role: Role, ty: &CType) -> Result<(), Fault>
-        ensures { Checks (type_checked (spec.is_struct self.now.structs) (spec.is_struct self.now.structs) (allowed_for role) ty.now) result }
+        ensures { Gives kind_of (type_checked (spec.is_struct self.now.structs) (spec.is_struct self.now.structs) (allowed_for role) ty.now) result }
     {
         self.check_item_type(self.structs.names(), role, ty)
     }
 
     /// A type of an item, where behind a pointer the struct may stand anywhere.
     pub fn check_item_type(&self, anywhere: &Names<'_>, role: Role, ty: &CType) -> Result<(), Fault>
-        ensures { Checks (type_checked (spec.is_struct self.now.structs) (named_in anywhere.now) (allowed_for role) ty.now) result }
+        ensures { Gives kind_of (type_checked (spec.is_struct self.now.structs) (named_in anywhere.now) (allowed_for role) ty.now) result }
     {
         check_type(self.structs.names(), anywhere, role, ty)
     }
@@ -280,9 +281,18 @@ impl<'a> Known<'a> {
         }
     }
 
+    /// Whether a call of this name, as a statement, frees an object: it is named `free`, and nothing else has the name.
+    pub fn frees(&self, scope: &Scope<'a>, name: &[u8]) -> bool
+        ensures { result ≡ spec.frees self.now (spec.in_scope scope.now) name.now }
+    {
+        name == b"free".as_slice()
+            && self.variable_named(scope, name).is_none()
+            && self.function_named(name).is_none()
+    }
+
     /// A function. A variable may not be called.
     pub fn callee_named(&self, scope: &Scope<'a>, name: &[u8]) -> Result<Callee<'a>, Fault>
-        ensures { Checks (spec.callee_named self.now (spec.in_scope scope.now) name.now) (map_ok callee_of result) }
+        ensures { Gives kind_of (spec.callee_named self.now (spec.in_scope scope.now) name.now) (map_ok callee_of result) }
     {
         if self.variable_named(scope, name).is_some() {
             return Err(Fault::Kind(TypeKind::Mismatch));

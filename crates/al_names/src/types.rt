@@ -4,7 +4,8 @@ ghost use Rattle.al_rules.specs.Statements as statements;
 ghost use Rattle.al_names.specs.Forms.{kept_form};
 ghost use Rattle.al_names.specs.NameLists.{named_in};
 ghost use Rattle.al_names.specs.Roles.{allowed_for};
-ghost use Rattle.al_names.specs.Steps.{Checks};
+ghost use Rattle.al_source.specs.Answers.{Gives};
+ghost use Rattle.al_names.specs.Steps.{kind_of};
 
 use crate::fault::{Fault, ensure};
 use crate::names::Names;
@@ -107,7 +108,7 @@ pub fn check_type(
     role: Role,
     ty: &CType,
 ) -> Result<(), Fault>
-    ensures { Checks (spec.type_checked (named_in earlier.now) (named_in anywhere.now) (allowed_for role) ty.now) result }
+    ensures { Gives kind_of (spec.type_checked (named_in earlier.now) (named_in anywhere.now) (allowed_for role) ty.now) result }
 {
     ensure(are_known(earlier, anywhere, ty).0, TypeKind::Unknown)?;
     ensure(role.allows(form_of(ty)), TypeKind::Shape)

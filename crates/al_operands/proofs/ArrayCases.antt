@@ -7,7 +7,8 @@ use Rattle.al_core.specs.declared.typed_tree.TPlace.{TPlace}
 use Rattle.al_core.specs.declared.typed_tree.TPlace.TheVariants as p
 use Rattle.al_rules.specs.declared.faults.TypeKind.TheVariants.{Mismatch}
 use Rattle.al_rules.specs.declared.operands.Operand.{Operand}
-use Rattle.al_rules.specs.Checks.{Checked, and_then, some_or}
+use Rattle.al_source.specs.Steps.{and_then}
+use Rattle.al_rules.specs.Checks.{Checked, some_or}
 use Rattle.al_rules.specs.Scopes.{Known}
 use Rattle.al_rules.specs.Operands.{array_in, target, indexed, indexed_by, element_place}
 use Rattle.al_operands.specs.Arrays.{base_by, base_of}

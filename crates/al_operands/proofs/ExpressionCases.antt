@@ -12,7 +12,8 @@ use Rattle.al_rules.specs.Names.{Name}
 use Rattle.al_rules.specs.Scopes.{Binding, Known, size, variable_named, callee_named}
 use Rattle.al_rules.specs.Operands.{integer, of_variable, called}
 use Rattle.al_rules.specs.Expressions.{sized, call, operand, operands}
-use Rattle.al_rules.specs.Checks.{Checked, and_then, some_or}
+use Rattle.al_source.specs.Steps.{and_then}
+use Rattle.al_rules.specs.Checks.{Checked, some_or}
 use Rattle.al_rules.proofs.ExpressionNodes.{operand-Var, operand-Call, operand-Calloc}
 
 module _ (known : Known) (scope : List Binding) (x : Expr) where

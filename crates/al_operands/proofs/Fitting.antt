@@ -5,7 +5,8 @@ use Rattle.al_source.specs.declared.source_tree.Field.{Field}
 use Rattle.al_core.specs.declared.typed_tree.TExpr.{TExpr}
 use Rattle.al_rules.specs.declared.faults.TypeKind.{TypeKind}
 use Rattle.al_rules.specs.declared.operands.Operand.{Operand}
-use Rattle.al_rules.specs.Checks.{Checked, and_then}
+use Rattle.al_source.specs.Steps.{and_then}
+use Rattle.al_rules.specs.Checks.{Checked}
 use Rattle.al_rules.specs.Operands.{fitting, fitting_all}
 use Rattle.al_operands.proofs.Gathered.{behind, behind_one, behind_all, next_of}
 

@@ -2,7 +2,8 @@
 use Rattle.std.proofs.Common.{◌≡◌, ℕ, ◌+◌, ◌<◌, ◌≤◌, List, [], ◌∷◌, ◌++◌, length, drop, get_or, Result, Ok, Err, refl, sym, ap, ◌∙◌, append_assoc, append-nil}
 use Rattle.std.proofs.lemmas.List.{drop_more, drop_all}
 use Rattle.al_rules.specs.declared.faults.TypeKind.{TypeKind}
-use Rattle.al_rules.specs.Checks.{Checked, and_then, each}
+use Rattle.al_source.specs.Steps.{and_then}
+use Rattle.al_rules.specs.Checks.{Checked, each}
 
 abbrev pub behind : {A F : Type 0} → List A → Result (List A) F → Result (List A) F
 behind done r = and_then r (λ more. Ok (done ++ more))

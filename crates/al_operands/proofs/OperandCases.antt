@@ -11,7 +11,8 @@ use Rattle.al_rules.specs.declared.operands.Operand.{Operand}
 use Rattle.al_rules.specs.declared.operands.Operand.TheVariants.{Literal, Null, Value, Variable, Place}
 use Rattle.std.proofs.lemmas.Option.{none-some, same_Some}
 use Rattle.al_operands.specs.Literals.{literal_of}
-use Rattle.al_rules.specs.Checks.{Checked, and_then, or_else}
+use Rattle.al_source.specs.Steps.{and_then}
+use Rattle.al_rules.specs.Checks.{Checked, or_else}
 use Rattle.al_rules.specs.Types.{is_int_case, is_int, element}
 use Rattle.al_rules.specs.Operands.{typed_case, read_case, used, as_integer, as_pointer, integer, pointer, of_integers, number}
 use Rattle.al_rules.specs.declared.operands.Value.TheVariants.{Pointer, Useless}

@@ -4,7 +4,8 @@ ghost use Rattle.al_rules.specs.Operands as spec;
 ghost use Rattle.al_rules.specs.Scopes as callee;
 ghost use Rattle.al_operands.specs.Arguments as arguments;
 ghost use Rattle.al_names.specs.Meanings.{callee_of};
-ghost use Rattle.al_names.specs.Steps.{Checks};
+ghost use Rattle.al_source.specs.Answers.{Gives};
+ghost use Rattle.al_names.specs.Steps.{kind_of};
 
 use crate::operands::{fitting, integer};
 use crate::queue::Queue;
@@ -26,7 +27,7 @@ fn fitting_all(
     params: &[Field],
     mut args: Queue<Boxed<Operand>>,
 ) -> Result<Items<TExpr>, Fault>
-    ensures { Checks (spec.fitting_all params.now args) result }
+    ensures { Gives kind_of (spec.fitting_all params.now args) result }
 {
     let mut done = Items::new(alloc);
     for param in params {
@@ -45,7 +46,7 @@ fn call_function(
     f: &Func,
     args: Queue<Boxed<Operand>>,
 ) -> Result<(Boxed<CType>, Boxed<TExpr>), Fault>
-    ensures { Checks (spec.called (callee.Function k f.now) args) result }
+    ensures { Gives kind_of (spec.called (callee.Function k f.now) args) result }
 {
     ensure(args.len() == f.params.len(), TypeKind::Count)?;
     let args = fitting_all(alloc, f.params.as_slice(), args)?;
@@ -54,7 +55,7 @@ fn call_function(
 }
 
 fn none(mut args: Queue<Boxed<Operand>>) -> Result<(), Fault>
-    ensures { Checks (arguments.none_of args) result }
+    ensures { Gives kind_of (arguments.none_of args) result }
 {
     match args.take() {
         None => Ok(()),
@@ -63,7 +64,7 @@ fn none(mut args: Queue<Boxed<Operand>>) -> Result<(), Fault>
 }
 
 fn only(mut args: Queue<Boxed<Operand>>) -> Result<Boxed<Operand>, Fault>
-    ensures { Checks (arguments.only_of args) result }
+    ensures { Gives kind_of (arguments.only_of args) result }
 {
     let Some(x) = args.take() else {
         return Err(COUNT);
@@ -75,7 +76,7 @@ fn only(mut args: Queue<Boxed<Operand>>) -> Result<Boxed<Operand>, Fault>
 }
 
 fn pair(mut args: Queue<Boxed<Operand>>) -> Result<(Boxed<Operand>, Boxed<Operand>), Fault>
-    ensures { Checks (arguments.pair_of args) result }
+    ensures { Gives kind_of (arguments.pair_of args) result }
 {
     let Some(x) = args.take() else {
         return Err(COUNT);
@@ -101,7 +102,7 @@ fn call_input(
     alloc: Global,
     args: Queue<Boxed<Operand>>,
 ) -> Result<(Boxed<CType>, Boxed<TExpr>), Fault>
-    ensures { Checks (spec.called callee.Input args) result }
+    ensures { Gives kind_of (spec.called callee.Input args) result }
 {
     let x = only(args)?;
     let a = integer(alloc, x)?;
@@ -113,7 +114,7 @@ fn call_inputs(
     alloc: Global,
     args: Queue<Boxed<Operand>>,
 ) -> Result<(Boxed<CType>, Boxed<TExpr>), Fault>
-    ensures { Checks (spec.called callee.Inputs args) result }
+    ensures { Gives kind_of (spec.called callee.Inputs args) result }
 {
     none(args)?;
     Ok(integer_call(alloc, TExpr::Inputs)?)
@@ -125,7 +126,7 @@ fn call_choose(
     op: RedOp,
     args: Queue<Boxed<Operand>>,
 ) -> Result<(Boxed<CType>, Boxed<TExpr>), Fault>
-    ensures { Checks (spec.called (callee.Choose op) args) result }
+    ensures { Gives kind_of (spec.called (callee.Choose op) args) result }
 {
     let (x, y) = pair(args)?;
     let a = integer(alloc, x)?;
@@ -139,7 +140,7 @@ pub fn called(
     f: Callee<'_>,
     args: Queue<Boxed<Operand>>,
 ) -> Result<(Boxed<CType>, Boxed<TExpr>), Fault>
-    ensures { Checks (spec.called (callee_of f.entry) args) result }
+    ensures { Gives kind_of (spec.called (callee_of f.entry) args) result }
 {
     match f {
         Callee::Function(k, f) => call_function(alloc, k, f, args),

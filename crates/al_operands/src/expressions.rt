@@ -3,11 +3,13 @@ ghost use Rattle.al_source.specs.declared.source_tree.CType.TheVariants as ctype
 ghost use Rattle.al_core.specs.declared.typed_tree.TExpr.TheVariants as e;
 ghost use Rattle.al_rules.specs.declared.operands.Operand.TheVariants as variant;
 ghost use Rattle.al_rules.specs.declared.faults.TypeKind.TheVariants.{Unknown};
-ghost use Rattle.al_rules.specs.Checks.{and_then, some_or};
+ghost use Rattle.al_source.specs.Steps.{and_then};
+ghost use Rattle.al_rules.specs.Checks.{some_or};
 ghost use Rattle.al_rules.specs.Expressions as spec;
 ghost use Rattle.al_rules.specs.Operands as operand_spec;
 ghost use Rattle.al_rules.specs.Scopes as scopes;
-ghost use Rattle.al_names.specs.Steps.{Checks};
+ghost use Rattle.al_source.specs.Answers.{Gives};
+ghost use Rattle.al_names.specs.Steps.{kind_of};
 
 use crate::calls::called;
 use crate::operands::{and, binary, integer, or, unary};
@@ -29,7 +31,7 @@ fn variable<'a>(
     scope: &Scope<'a>,
     name: &[u8],
 ) -> Result<Boxed<Operand>, Fault>
-    ensures { Checks
+    ensures { Gives kind_of
         (and_then
         (some_or (scopes.variable_named known.now (scopes.in_scope scope.now) name.now) Unknown)
         (λ v. Ok (operand_spec.of_variable v)))
@@ -43,7 +45,7 @@ fn variable<'a>(
 
 /// A type that `sizeof` or `calloc` takes. In a function every struct of the file is known.
 fn sized(known: &Known<'_>, ty: &CType) -> Result<(), Fault>
-    ensures { Checks (spec.sized known.now [] ty.now) result }
+    ensures { Gives kind_of (spec.sized known.now [] ty.now) result }
 {
     known.check_type(Role::Measured, ty)
 }
@@ -55,7 +57,7 @@ fn value(alloc: Global, ty: CType, x: TExpr) -> Result<Boxed<Operand>, AllocErro
 }
 
 fn size_of(alloc: Global, known: &Known<'_>, ty: &CType) -> Result<Boxed<Operand>, Fault>
-    ensures { Checks
+    ensures { Gives kind_of
         (and_then (spec.sized known.now [] ty.now)
         (λ _. Ok (variant.Value ctype.Int (e.Number (pos (8 * scopes.size known.now ty.now))))))
         result }
@@ -72,7 +74,7 @@ fn calloc(
     x: Boxed<Operand>,
     ty: &CType,
 ) -> Result<Boxed<Operand>, Fault>
-    ensures { Checks
+    ensures { Gives kind_of
         (and_then (operand_spec.integer x)
         (λ n. and_then (spec.sized known.now [] ty.now)
         (λ _. Ok (variant.Value (ctype.Ptr ty.now) (e.Calloc n (scopes.size known.now ty.now))))))
@@ -92,7 +94,7 @@ fn call<'a>(
     name: &[u8],
     args: Queue<Boxed<Operand>>,
 ) -> Result<(Boxed<CType>, Boxed<TExpr>), Fault>
-    ensures { Checks
+    ensures { Gives kind_of
         (and_then (scopes.callee_named known.now (scopes.in_scope scope.now) name.now)
         (λ f. operand_spec.called f args))
         result }
@@ -108,7 +110,7 @@ fn call_value<'a>(
     name: &[u8],
     args: Queue<Boxed<Operand>>,
 ) -> Result<Boxed<Operand>, Fault>
-    ensures { Checks
+    ensures { Gives kind_of
         (and_then
         (and_then (scopes.callee_named known.now (scopes.in_scope scope.now) name.now)
         (λ f. operand_spec.called f args))
@@ -127,7 +129,7 @@ pub fn call_named<'a>(
     name: &[u8],
     args: &[Expr],
 ) -> Result<(Boxed<CType>, Boxed<TExpr>), Fault>
-    ensures { Checks
+    ensures { Gives kind_of
         (spec.call known.now (scopes.in_scope scope.now) name.now
         (spec.operands known.now (scopes.in_scope scope.now) args.now))
         result }
@@ -145,7 +147,7 @@ pub fn operand<'a>(
     scope: &Scope<'a>,
     x: &Expr,
 ) -> Result<Boxed<Operand>, Fault>
-    ensures { Checks (spec.operand known.now (scopes.in_scope scope.now) x.now) result }
+    ensures { Gives kind_of (spec.operand known.now (scopes.in_scope scope.now) x.now) result }
 {
     match x {
         Expr::Number(n) => Ok(Boxed::new(alloc, Operand::Literal(*n))?),
@@ -212,7 +214,7 @@ pub fn operands<'a>(
     scope: &Scope<'a>,
     xs: &[Expr],
 ) -> Result<Queue<Boxed<Operand>>, Fault>
-    ensures { Checks (spec.operands known.now (scopes.in_scope scope.now) xs.now) result }
+    ensures { Gives kind_of (spec.operands known.now (scopes.in_scope scope.now) xs.now) result }
 {
     let mut done = Queue::new(alloc);
     for x in xs {

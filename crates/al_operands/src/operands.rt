@@ -6,7 +6,8 @@ ghost use Rattle.al_core.specs.declared.typed_tree.TExpr.TheVariants as e;
 ghost use Rattle.al_rules.specs.declared.operands.Operand.TheVariants as operand;
 ghost use Rattle.al_rules.specs.Checks.{or_else};
 ghost use Rattle.al_rules.specs.Operands as spec;
-ghost use Rattle.al_names.specs.Steps.{Checks};
+ghost use Rattle.al_source.specs.Answers.{Gives};
+ghost use Rattle.al_names.specs.Steps.{kind_of};
 ghost use Rattle.al_operands.specs.Literals.{literal_of};
 
 use al_core::{BinOp, Kind, TExpr, TPlace, UnOp};
@@ -80,7 +81,7 @@ fn used(alloc: Global, x: Operand) -> Result<Value, AllocError>
 // ---- what is wanted
 
 fn as_integer(v: Value) -> Result<TExpr, Fault>
-    ensures { Checks (spec.as_integer v) result }
+    ensures { Gives kind_of (spec.as_integer v) result }
 {
     match v {
         Value::Int(x) => Ok(x),
@@ -89,7 +90,7 @@ fn as_integer(v: Value) -> Result<TExpr, Fault>
 }
 
 fn as_scalar(v: Value) -> Result<TExpr, Fault>
-    ensures { Checks (spec.as_scalar v) result }
+    ensures { Gives kind_of (spec.as_scalar v) result }
 {
     match v {
         Value::Int(x) => Ok(x),
@@ -119,7 +120,7 @@ fn boxed_pair(
 }
 
 fn as_pointer(alloc: Global, v: Value) -> Result<(Option<Boxed<CType>>, Boxed<TExpr>), Fault>
-    ensures { Checks (spec.as_pointer v) result }
+    ensures { Gives kind_of (spec.as_pointer v) result }
 {
     match v {
         Value::Pointer(to, x) => {
@@ -131,7 +132,7 @@ fn as_pointer(alloc: Global, v: Value) -> Result<(Option<Boxed<CType>>, Boxed<TE
 }
 
 fn as_target(alloc: Global, v: Value) -> Result<(Boxed<CType>, Boxed<TExpr>), Fault>
-    ensures { Checks (spec.as_target v) result }
+    ensures { Gives kind_of (spec.as_target v) result }
 {
     match v {
         Value::Pointer(to, x) => match to {
@@ -145,7 +146,7 @@ fn as_target(alloc: Global, v: Value) -> Result<(Boxed<CType>, Boxed<TExpr>), Fa
 /// The term of an operand where an integer is wanted. Else `Mismatch`.
 #[tactic(auto, unfolding(al_rules::specs::Operands::integer))]
 pub fn integer(alloc: Global, x: Boxed<Operand>) -> Result<Boxed<TExpr>, Fault>
-    ensures { Checks (spec.integer x) result }
+    ensures { Gives kind_of (spec.integer x) result }
 {
     let x = as_integer(used(alloc, x.into_inner())?)?;
     Ok(Boxed::new(alloc, x)?)
@@ -154,7 +155,7 @@ pub fn integer(alloc: Global, x: Boxed<Operand>) -> Result<Boxed<TExpr>, Fault>
 /// The term of an operand where an integer or a pointer is wanted. Else `Mismatch`.
 #[tactic(auto, unfolding(al_rules::specs::Operands::scalar))]
 pub fn scalar(alloc: Global, x: Boxed<Operand>) -> Result<Boxed<TExpr>, Fault>
-    ensures { Checks (spec.scalar x) result }
+    ensures { Gives kind_of (spec.scalar x) result }
 {
     let x = as_scalar(used(alloc, x.into_inner())?)?;
     Ok(Boxed::new(alloc, x)?)
@@ -163,7 +164,7 @@ pub fn scalar(alloc: Global, x: Boxed<Operand>) -> Result<Boxed<TExpr>, Fault>
 /// What the pointer of an operand leads to, and its term. `Mismatch` where it is no pointer, or `NULL`.
 #[tactic(auto, unfolding(al_rules::specs::Operands::target))]
 pub fn target(alloc: Global, x: Boxed<Operand>) -> Result<(Boxed<CType>, Boxed<TExpr>), Fault>
-    ensures { Checks (spec.target x) result }
+    ensures { Gives kind_of (spec.target x) result }
 {
     as_target(alloc, used(alloc, x.into_inner())?)
 }
@@ -178,7 +179,7 @@ pub fn is_zero(n: i64) -> bool
 /// The literal 0 is a null pointer.
 #[tactic(auto, unfolding(al_rules::specs::Operands::pointer))]
 fn null_pointer(alloc: Global, n: i64) -> Result<(Option<Boxed<CType>>, Boxed<TExpr>), Fault>
-    ensures { Checks (spec.pointer (operand.Literal n)) result }
+    ensures { Gives kind_of (spec.pointer (operand.Literal n)) result }
 {
     if is_zero(n) {
         Ok((None, Boxed::new(alloc, TExpr::Number(0))?))
@@ -201,7 +202,7 @@ fn literal(x: &Operand) -> Option<i64>
 /// A pointer, which the literal 0 is too.
 #[tactic(auto, using(crate::proofs::OperandCases::pointers))]
 fn pointer(alloc: Global, x: Boxed<Operand>) -> Result<(Option<Boxed<CType>>, Boxed<TExpr>), Fault>
-    ensures { Checks (spec.pointer x) result }
+    ensures { Gives kind_of (spec.pointer x) result }
 {
     match literal(x.get()) {
         Some(n) => null_pointer(alloc, n),
@@ -230,7 +231,7 @@ fn are_one_type(a: &Option<Boxed<CType>>, b: &Option<Boxed<CType>>) -> bool
 /// The term of an operand where a value of this type is wanted (C99 6.5.16.1p1). Else `Mismatch`.
 #[tactic(auto, unfolding(al_rules::specs::Operands::fitting))]
 pub fn fitting(alloc: Global, ty: &CType, x: Boxed<Operand>) -> Result<Boxed<TExpr>, Fault>
-    ensures { Checks (spec.fitting ty.now x) result }
+    ensures { Gives kind_of (spec.fitting ty.now x) result }
 {
     match ty {
         CType::Int => integer(alloc, x),
@@ -254,7 +255,7 @@ fn number(alloc: Global, x: TExpr) -> Result<Boxed<Operand>, AllocError>
 /// `-` and `~` of an integer, and `!` of an integer or a pointer (C99 6.5.3.3p1). Else `Mismatch`.
 #[tactic(auto, unfolding(al_rules::specs::Operands::unary))]
 pub fn unary(alloc: Global, op: UnOp, x: Boxed<Operand>) -> Result<Boxed<Operand>, Fault>
-    ensures { Checks (spec.unary op x) result }
+    ensures { Gives kind_of (spec.unary op x) result }
 {
     let a = match op {
         UnOp::Neg => integer(alloc, x)?,
@@ -270,7 +271,7 @@ fn of_integers(
     x: Boxed<Operand>,
     y: Boxed<Operand>,
 ) -> Result<Boxed<Operand>, Fault>
-    ensures { Checks (spec.of_integers op x y) result }
+    ensures { Gives kind_of (spec.of_integers op x y) result }
 {
     let a = integer(alloc, x)?;
     let b = integer(alloc, y)?;
@@ -283,7 +284,7 @@ fn of_pointers(
     x: Boxed<Operand>,
     y: Boxed<Operand>,
 ) -> Result<Boxed<Operand>, Fault>
-    ensures { Checks (spec.of_pointers equal x y) result }
+    ensures { Gives kind_of (spec.of_pointers equal x y) result }
 {
     let (to, a) = pointer(alloc, x)?;
     let (other, b) = pointer(alloc, y)?;
@@ -313,7 +314,7 @@ fn compared(
     x: Boxed<Operand>,
     y: Boxed<Operand>,
 ) -> Result<Boxed<Operand>, Fault>
-    ensures { Checks (or_else (spec.of_integers op x y) (spec.of_pointers equal x y)) result }
+    ensures { Gives kind_of (or_else (spec.of_integers op x y) (spec.of_pointers equal x y)) result }
 {
     if is_integer(x.get()) && is_integer(y.get()) {
         of_integers(alloc, op, x, y)
@@ -330,7 +331,7 @@ pub fn binary(
     x: Boxed<Operand>,
     y: Boxed<Operand>,
 ) -> Result<Boxed<Operand>, Fault>
-    ensures { Checks (spec.binary op x y) result }
+    ensures { Gives kind_of (spec.binary op x y) result }
 {
     match op {
         BinOp::Eq => compared(alloc, BinOp::Eq, true, x, y),
@@ -354,7 +355,7 @@ pub fn binary(
 
 /// `&&` of two integers or pointers (C99 6.5.13p2). Else `Mismatch`.
 pub fn and(alloc: Global, x: Boxed<Operand>, y: Boxed<Operand>) -> Result<Boxed<Operand>, Fault>
-    ensures { Checks (spec.of_scalars e.And x y) result }
+    ensures { Gives kind_of (spec.of_scalars e.And x y) result }
 {
     let a = scalar(alloc, x)?;
     let b = scalar(alloc, y)?;
@@ -363,7 +364,7 @@ pub fn and(alloc: Global, x: Boxed<Operand>, y: Boxed<Operand>) -> Result<Boxed<
 
 /// `||` of two integers or pointers (C99 6.5.14p2). Else `Mismatch`.
 pub fn or(alloc: Global, x: Boxed<Operand>, y: Boxed<Operand>) -> Result<Boxed<Operand>, Fault>
-    ensures { Checks (spec.of_scalars e.Or x y) result }
+    ensures { Gives kind_of (spec.of_scalars e.Or x y) result }
 {
     let a = scalar(alloc, x)?;
     let b = scalar(alloc, y)?;

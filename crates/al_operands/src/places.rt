@@ -5,12 +5,14 @@ ghost use Rattle.al_core.specs.declared.typed_tree.TPlace.TheVariants as tplace;
 ghost use Rattle.al_rules.specs.declared.faults.TypeKind.TheVariants.{Mismatch};
 ghost use Rattle.al_rules.specs.declared.operands.Operand.TheVariants as operand;
 ghost use Rattle.al_rules.specs.Checks as check;
-ghost use Rattle.al_rules.specs.Checks.{and_then, some_or};
+ghost use Rattle.al_source.specs.Steps.{and_then};
+ghost use Rattle.al_rules.specs.Checks.{some_or};
 ghost use Rattle.al_rules.specs.Types as types;
 ghost use Rattle.al_rules.specs.Operands as spec;
 ghost use Rattle.al_operands.specs.Arrays.{base_of};
 ghost use Rattle.al_names.specs.Meanings.{variable_of};
-ghost use Rattle.al_names.specs.Steps.{Checks};
+ghost use Rattle.al_source.specs.Answers.{Gives};
+ghost use Rattle.al_names.specs.Steps.{kind_of};
 
 use crate::operands::{integer, target};
 use al_core::{TExpr, TPlace};
@@ -51,7 +53,7 @@ fn element_place(
     from: Boxed<TPlace>,
     i: Boxed<Operand>,
 ) -> Result<Boxed<Operand>, Fault>
-    ensures { Checks (spec.element_place known.now of from i) result }
+    ensures { Gives kind_of (spec.element_place known.now of from i) result }
 {
     let n = integer(alloc, i)?;
     let words = known.size(of.get())?;
@@ -83,7 +85,7 @@ pub fn boxed_place(
 
 #[tactic(auto, unfolding(al_rules::specs::Types::element))]
 fn elements(ty: CType, q: Boxed<TPlace>) -> Result<(Boxed<CType>, Boxed<TPlace>), Fault>
-    ensures { Checks (some_or (option_map (λ of. (of, q)) (types.element ty)) Mismatch) result }
+    ensures { Gives kind_of (some_or (option_map (λ of. (of, q)) (types.element ty)) Mismatch) result }
 {
     match ty {
         CType::Array(of, _) => Ok((of, q)),
@@ -93,7 +95,7 @@ fn elements(ty: CType, q: Boxed<TPlace>) -> Result<(Boxed<CType>, Boxed<TPlace>)
 
 /// The elements' type and the place of an array.
 fn array_in(alloc: Global, x: Operand) -> Result<(Boxed<CType>, Boxed<TPlace>), Fault>
-    ensures { Checks (some_or (spec.array_in x) Mismatch) result }
+    ensures { Gives kind_of (some_or (spec.array_in x) Mismatch) result }
 {
     match x {
         Operand::Place(ty, q) => {
@@ -108,7 +110,7 @@ fn array_in(alloc: Global, x: Operand) -> Result<(Boxed<CType>, Boxed<TPlace>), 
 
 /// What a pointer leads to.
 fn behind(alloc: Global, x: Boxed<Operand>) -> Result<(Boxed<CType>, Boxed<TPlace>), Fault>
-    ensures { Checks (and_then (spec.target x) (λ a. Ok (a.0, tplace.At a.1))) result }
+    ensures { Gives kind_of (and_then (spec.target x) (λ a. Ok (a.0, tplace.At a.1))) result }
 {
     let (to, x) = target(alloc, x)?;
     Ok((to, Boxed::new(alloc, TPlace::At(x.into_inner()))?))
@@ -117,7 +119,7 @@ fn behind(alloc: Global, x: Boxed<Operand>) -> Result<(Boxed<CType>, Boxed<TPlac
 /// The first element of an array, or of what a pointer leads to.
 #[tactic(auto, using(crate::proofs::ArrayCases::bases))]
 fn base(alloc: Global, x: Boxed<Operand>) -> Result<(Boxed<CType>, Boxed<TPlace>), Fault>
-    ensures { Checks (base_of x) result }
+    ensures { Gives kind_of (base_of x) result }
 {
     if is_array(x.get()) {
         array_in(alloc, x.into_inner())
@@ -134,7 +136,7 @@ pub fn indexed(
     x: Boxed<Operand>,
     i: Boxed<Operand>,
 ) -> Result<Boxed<Operand>, Fault>
-    ensures { Checks (spec.indexed known.now x i) result }
+    ensures { Gives kind_of (spec.indexed known.now x i) result }
 {
     let (of, from) = base(alloc, x)?;
     element_place(alloc, known, of, from, i)
@@ -147,7 +149,7 @@ fn field_place(
     of: Boxed<TPlace>,
     field: &[u8],
 ) -> Result<Boxed<Operand>, Fault>
-    ensures { Checks (spec.field_place known.now ty.now of field.now) result }
+    ensures { Gives kind_of (spec.field_place known.now ty.now of field.now) result }
 {
     let Some(name) = struct_name(ty) else {
         return Err(MISMATCH);
@@ -167,7 +169,7 @@ pub fn member(
     x: Boxed<Operand>,
     field: &[u8],
 ) -> Result<Boxed<Operand>, Fault>
-    ensures { Checks (spec.member known.now x field.now) result }
+    ensures { Gives kind_of (spec.member known.now x field.now) result }
 {
     match x.into_inner() {
         Operand::Place(ty, q) => {
@@ -188,7 +190,7 @@ pub fn member_behind(
     x: Boxed<Operand>,
     field: &[u8],
 ) -> Result<Boxed<Operand>, Fault>
-    ensures { Checks (spec.member_behind known.now x field.now) result }
+    ensures { Gives kind_of (spec.member_behind known.now x field.now) result }
 {
     let (to, of) = behind(alloc, x)?;
     field_place(alloc, known, to.get(), of, field)
@@ -197,14 +199,14 @@ pub fn member_behind(
 /// The place that a pointer leads to (C99 6.5.3.2p4). Else `Mismatch`.
 #[tactic(auto, unfolding(al_rules::specs::Operands::followed))]
 pub fn followed(alloc: Global, x: Boxed<Operand>) -> Result<Boxed<Operand>, Fault>
-    ensures { Checks (spec.followed x) result }
+    ensures { Gives kind_of (spec.followed x) result }
 {
     let (to, x) = target(alloc, x)?;
     Ok(place(alloc, to, TPlace::At(x.into_inner()))?)
 }
 
 fn address_in(alloc: Global, ty: Boxed<CType>, q: Boxed<TPlace>) -> Result<Boxed<Operand>, Fault>
-    ensures { Checks
+    ensures { Gives kind_of
         (and_then (check.ensure (is_none (types.element ty)) Mismatch)
         (λ _. Ok (operand.Value (ctype.Ptr ty) (e.Addr q))))
         result }
@@ -216,7 +218,7 @@ fn address_in(alloc: Global, ty: Boxed<CType>, q: Boxed<TPlace>) -> Result<Boxed
 /// The address of a place (C99 6.5.3.2p3). `LocalAddress` of a local, `NotPlace` of a value, and `Mismatch` of an array.
 #[tactic(auto, unfolding(al_rules::specs::Operands::address))]
 pub fn address(alloc: Global, x: Boxed<Operand>) -> Result<Boxed<Operand>, Fault>
-    ensures { Checks (spec.address x) result }
+    ensures { Gives kind_of (spec.address x) result }
 {
     match x.into_inner() {
         Operand::Place(ty, q) => {

@@ -5,7 +5,7 @@ use Rattle.al_ast.specs.Nodes.{capped, program_nodes}
 use Rattle.al_core.specs.declared.typed_tree.Typed.{Typed}
 use Rattle.al_rules.specs.declared.layout.Layout.{Layout}
 use Rattle.al_rules.specs.declared.faults.TypeFault.{TypeFault}
-use Rattle.al_rules.specs.Checks.{and_then}
+use Rattle.al_source.specs.Steps.{and_then}
 use Rattle.al_rules.specs.Scopes.{Known, known_of}
 use Rattle.al_rules.specs.Programs.{items_checked, main_of, funcs_typed, globals_typed, typed_with}
 

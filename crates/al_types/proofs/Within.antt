@@ -9,7 +9,7 @@ use Rattle.al_core.specs.declared.typed_tree.TKind.{TKind}
 use Rattle.al_core.specs.declared.typed_tree.TKind.TheVariants as k
 use Rattle.al_core.specs.declared.typed_tree.TStmt.{TStmt}
 use Rattle.al_rules.specs.declared.faults.TypeFault.{TypeFault}
-use Rattle.al_rules.specs.Checks.{and_then}
+use Rattle.al_source.specs.Steps.{and_then}
 use Rattle.al_rules.specs.Scopes.{Known, Scope, in_scope, nested}
 use Rattle.al_rules.specs.Walks.{Progress, Walk, bind, pure, get_scope, set_scope, within, ◌>>=◌}
 use Rattle.al_rules.specs.Statements.{is_first, is_third, part, any_part, any_condition, looped_body, statements}

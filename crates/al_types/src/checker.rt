@@ -4,14 +4,17 @@ ghost use Rattle.al_source.specs.declared.source_tree.StmtKind.TheVariants as st
 ghost use Rattle.al_core.specs.declared.typed_tree.TKind.TheVariants as k;
 ghost use Rattle.al_rules.specs.declared.faults.TypeKind.TheVariants.{Outside, Unknown};
 ghost use Rattle.al_rules.specs.Checks as check;
-ghost use Rattle.al_rules.specs.Checks.{and_then, each, some_or};
+ghost use Rattle.al_source.specs.Steps.{and_then};
+ghost use Rattle.al_rules.specs.Checks.{each, some_or};
 ghost use Rattle.al_rules.specs.Operands as operand_spec;
 ghost use Rattle.al_rules.specs.Scopes as scopes;
 ghost use Rattle.al_rules.specs.Scopes.{in_scope, variable_named};
 ghost use Rattle.al_rules.specs.Statements as spec;
 ghost use Rattle.al_rules.specs.Walks as walks;
 ghost use Rattle.al_names.specs.Meanings.{variable_of};
-ghost use Rattle.al_names.specs.Steps.{Checks, Gives};
+ghost use Rattle.al_source.specs.Answers.{Gives};
+ghost use Rattle.al_rules.specs.Faults.{typed as type_of};
+ghost use Rattle.al_names.specs.Steps.{kind_of};
 ghost use Rattle.al_types.specs.Steps.{Walks};
 
 use crate::progress::Progress;
@@ -50,7 +53,7 @@ fn is_place(x: &Operand) -> bool
 
 /// An assignment to what an operand is.
 fn assigned(alloc: Global, to: Boxed<Operand>, value: Boxed<Operand>) -> Result<TKind, Fault>
-    ensures { Checks (spec.assigned to value) result }
+    ensures { Gives kind_of (spec.assigned to value) result }
 {
     match to.into_inner() {
         Operand::Variable(n, ty) => Ok(TKind::SetLocal(
@@ -75,7 +78,7 @@ fn updated(
     to: Boxed<Operand>,
     value: Boxed<Operand>,
 ) -> Result<TKind, Fault>
-    ensures { Checks (spec.updated op to value) result }
+    ensures { Gives kind_of (spec.updated op to value) result }
 {
     match to.into_inner() {
         Operand::Variable(n, ty) => {
@@ -97,7 +100,7 @@ fn updated(
 
 /// A reduction variable is an integer.
 fn variable_at(v: Variable<'_>) -> Result<Addr, Fault>
-    ensures { Checks (spec.variable_at (variable_of v.entry)) result }
+    ensures { Gives kind_of (spec.variable_at (variable_of v.entry)) result }
 {
     match v {
         Variable::Local(n, ty) => {
@@ -112,7 +115,7 @@ fn variable_at(v: Variable<'_>) -> Result<Addr, Fault>
 }
 
 fn reduced<'a>(known: &Known<'a>, scope: &Scope<'a>, name: &[u8]) -> Result<Addr, Fault>
-    ensures { Checks (and_then (some_or (variable_named known.now (in_scope scope.now) name.now) Unknown) spec.variable_at) result }
+    ensures { Gives kind_of (and_then (some_or (variable_named known.now (in_scope scope.now) name.now) Unknown) spec.variable_at) result }
 {
     match known.variable_named(scope, name) {
         Some(v) => variable_at(v),
@@ -151,7 +154,7 @@ fn copy_format(alloc: Global, format: &[Piece]) -> Result<Format, AllocError>
 
 #[tactic(auto, using(al_operands::proofs::Gathered::gathered))]
 fn integers(alloc: Global, mut xs: Queue<Boxed<Operand>>) -> Result<Items<TExpr>, Fault>
-    ensures { Checks (each operand_spec.integer xs) result }
+    ensures { Gives kind_of (each operand_spec.integer xs) result }
 {
     let mut done = Items::new(alloc);
     while let Some(x) = xs.take() {
@@ -162,7 +165,7 @@ fn integers(alloc: Global, mut xs: Queue<Boxed<Operand>>) -> Result<Items<TExpr>
 
 /// A `break` or `continue` stands in a loop.
 fn in_loop(line: u32, looped: bool) -> Result<(), TypeFault>
-    ensures { Gives (walks.at_line line (check.ensure looped Outside)) result }
+    ensures { Gives type_of (walks.at_line line (check.ensure looped Outside)) result }
 {
     at_line(line, ensure(looped, TypeKind::Outside))
 }

@@ -1,14 +1,17 @@
 ghost use Rattle.std.specs.Prelude.{◌≡◌, ◌||◌, not, List, [], ◌∷◌, ◌++◌, Ok, IfOk, OnOk};
 ghost use Rattle.al_source.specs.declared.source_tree.Item as tree;
 ghost use Rattle.al_rules.specs.declared.faults.TypeKind.TheVariants.{Twice};
-ghost use Rattle.al_rules.specs.Checks.{and_then, ensure};
+ghost use Rattle.al_source.specs.Steps.{and_then};
+ghost use Rattle.al_rules.specs.Checks.{ensure};
 ghost use Rattle.al_rules.specs.Names.{Name, any_named};
 ghost use Rattle.al_rules.specs.Programs as spec;
 ghost use Rattle.al_rules.specs.Scopes.{is_struct, structs_in, known_of};
 ghost use Rattle.al_names.specs.Definitions as by;
 ghost use Rattle.al_names.specs.NameLists.{named_in};
 ghost use Rattle.al_names.specs.Roles.{allowed_for};
-ghost use Rattle.al_names.specs.Steps.{Checks, Gives};
+ghost use Rattle.al_source.specs.Answers.{Gives};
+ghost use Rattle.al_rules.specs.Faults.{typed as type_of};
+ghost use Rattle.al_names.specs.Steps.{kind_of};
 
 use al_layout::Layout;
 use al_names::fault::{Fault, at_line, ensure};
@@ -22,7 +25,7 @@ use std::alloc::{AllocError, Global};
 
 /// A name that is not there yet.
 fn add_new<'f>(names: &mut Names<'f>, name: &'f [u8]) -> Result<(), Fault>
-    ensures checked { Checks (ensure (not (any_named (λ n. n) name.entry.now names.old)) Twice) result }
+    ensures checked { Gives kind_of (ensure (not (any_named (λ n. n) name.entry.now names.old)) Twice) result }
     ensures named { OnOk result (names.new ≡ names.old ++ name.entry.now ∷ []) }
 {
     let is_new = names.add(name)?;
@@ -37,7 +40,7 @@ fn check_field<'f>(
     names: &mut Names<'f>,
     field: &'f Field,
 ) -> Result<(), Fault>
-    ensures checked { Checks (by.field_by (is_struct known.now.structs) (named_in anywhere.now) (allowed_for role) names.old field.entry.now) result }
+    ensures checked { Gives kind_of (by.field_by (is_struct known.now.structs) (named_in anywhere.now) (allowed_for role) names.old field.entry.now) result }
     ensures named { OnOk result (names.new ≡ names.old ++ field.entry.now.name ∷ []) }
 {
     add_new(names, field.name.as_slice())?;
@@ -51,7 +54,7 @@ fn check_fields(
     role: Role,
     mut fields: &[Field],
 ) -> Result<(), Fault>
-    ensures { Checks (by.fields_by (is_struct known.now.structs) (named_in anywhere.now) (allowed_for role) [] fields.entry.now) result }
+    ensures { Gives kind_of (by.fields_by (is_struct known.now.structs) (named_in anywhere.now) (allowed_for role) [] fields.entry.now) result }
 {
     let mut names = Names::new(alloc);
     while let [field, rest @ ..] = fields {
@@ -67,7 +70,7 @@ fn check_struct(
     anywhere: &Names<'_>,
     s: &StructDef,
 ) -> Result<(), Fault>
-    ensures { Checks (by.struct_by known.now (named_in anywhere.now) s.now) result }
+    ensures { Gives kind_of (by.struct_by known.now (named_in anywhere.now) s.now) result }
 {
     ensure(!known.is_struct(s.name.as_slice()), TypeKind::Twice)?;
     ensure(!s.fields.is_empty(), TypeKind::Shape)?;
@@ -86,7 +89,7 @@ fn may_start(start: Start, ty: &CType) -> bool
 }
 
 fn check_global(known: &Known<'_>, anywhere: &Names<'_>, g: &GlobalDef) -> Result<(), Fault>
-    ensures { Checks (by.global_by known.now (named_in anywhere.now) g.now) result }
+    ensures { Gives kind_of (by.global_by known.now (named_in anywhere.now) g.now) result }
 {
     ensure(!known.is_taken(g.name.as_slice()), TypeKind::Twice)?;
     known.check_item_type(anywhere, Role::Held, &g.ty)?;
@@ -94,7 +97,7 @@ fn check_global(known: &Known<'_>, anywhere: &Names<'_>, g: &GlobalDef) -> Resul
 }
 
 fn check_func(alloc: Global, known: &Known<'_>, anywhere: &Names<'_>, f: &Func) -> Result<(), Fault>
-    ensures { Checks (by.func_by known.now (named_in anywhere.now) f.now) result }
+    ensures { Gives kind_of (by.func_by known.now (named_in anywhere.now) f.now) result }
 {
     ensure(!known.is_taken(f.name.as_slice()), TypeKind::Twice)?;
     known.check_item_type(anywhere, Role::Given, &f.result)?;
@@ -107,7 +110,7 @@ fn with_item<'a>(
     anywhere: &Names<'_>,
     item: &'a Item,
 ) -> Result<Known<'a>, TypeFault>
-    ensures { Gives (and_then (by.item_by known.entry (named_in anywhere.now) item.entry.now) (λ _. Ok (by.with_definition known.entry item.entry.now))) result }
+    ensures { Gives type_of (and_then (by.item_by known.entry (named_in anywhere.now) item.entry.now) (λ _. Ok (by.with_definition known.entry item.entry.now))) result }
 {
     match item {
         Item::Struct(s) => {
@@ -157,7 +160,7 @@ fn with_items<'a>(
     anywhere: &Names<'_>,
     mut items: &'a [Item],
 ) -> Result<Known<'a>, TypeFault>
-    ensures { Gives (by.items_by known.entry (named_in anywhere.now) items.entry.now) result }
+    ensures { Gives type_of (by.items_by known.entry (named_in anywhere.now) items.entry.now) result }
 {
     while let [item, rest @ ..] = items {
         known = with_item(alloc, known, anywhere, item)?;
@@ -172,7 +175,7 @@ pub fn definitions<'a>(
     program: &'a Program,
     layout: &'a Layout,
 ) -> Result<Known<'a>, TypeFault>
-    ensures { Gives (and_then (spec.items_checked program.entry.now.items [] program.entry.now.items) (λ _. Ok (known_of layout.entry.now program.entry.now.items))) result }
+    ensures { Gives type_of (and_then (spec.items_checked program.entry.now.items [] program.entry.now.items) (λ _. Ok (known_of layout.entry.now program.entry.now.items))) result }
 {
     let items = program.items.as_slice();
     let anywhere = struct_names(alloc, items)?;

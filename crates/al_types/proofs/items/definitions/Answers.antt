@@ -4,7 +4,8 @@ use Rattle.al_rules.specs.declared.faults.TypeFault.{TypeFault}
 use Rattle.al_rules.specs.Scopes.{Known, is_struct, structs_in}
 use Rattle.al_names.specs.Definitions.{items_by}
 use Rattle.al_names.specs.NameLists.{named_in}
-use Rattle.al_names.specs.Steps.{Gives}
+use Rattle.al_source.specs.Answers.{Gives}
+use Rattle.al_rules.specs.Faults.{typed as type_of}
 use Rattle.al_types.proofs.ItemLemmas.{definitions_as}
 use Rattle.al_types.proofs.items.definitions.Goals as goal
 

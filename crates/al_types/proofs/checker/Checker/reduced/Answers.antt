@@ -1,5 +1,6 @@
 use Rattle.al_rules.specs.declared.faults.TypeKind.TheVariants.{Unknown}
-use Rattle.al_rules.specs.Checks.{and_then, some_or}
+use Rattle.al_source.specs.Steps.{and_then}
+use Rattle.al_rules.specs.Checks.{some_or}
 use Rattle.al_rules.specs.Scopes.{in_scope, variable_named}
 use Rattle.al_rules.specs.Statements.{variable_at}
 use Rattle.al_types.proofs.Walked.{walked_scope}

@@ -4,7 +4,8 @@ use Rattle.al_rules.specs.Checks.{ensure}
 use Rattle.al_rules.specs.Statements.{updated, is_place, may_update}
 use Rattle.al_rules.specs.Walks.{bind}
 use Rattle.al_rules.proofs.StatementNodes.{walks-Update}
-use Rattle.al_names.specs.Steps.{Checks}
+use Rattle.al_source.specs.Answers.{Gives}
+use Rattle.al_names.specs.Steps.{kind_of}
 use Rattle.al_types.proofs.Walked.{walked, walked_last}
 use Rattle.al_types.proofs.checker.Checker.update.Goals as goal
 
@@ -13,8 +14,8 @@ unfolding bind
 returns c =
     let op = c.args.op in
     let of = c.in_ok-of.of in
-    let is_shaped_there = subst (λ (b : Bool). Checks (ensure b Shape) c.ensure.result) c.may_update.ensures c.ensure.ensures in
-    let is_place_there = subst (λ (b : Bool). Checks (ensure b NotPlace) c.ensure-2.result) (c.is_place.ensures ∙ ap is_place c.get.ensures) c.ensure-2.ensures in
+    let is_shaped_there = subst (λ (b : Bool). Gives kind_of (ensure b Shape) c.ensure.result) c.may_update.ensures c.ensure.ensures in
+    let is_place_there = subst (λ (b : Bool). Gives kind_of (ensure b NotPlace) c.ensure-2.result) (c.is_place.ensures ∙ ap is_place c.get.ensures) c.ensure-2.ensures in
     let shaped = walked c.args.line (λ _. ensure (may_update op) Shape) c.args.p.now (Ok c.in_ok-at_line.field-0) (c.in_ok-at_line.ensures (ensure (may_update op) Shape) is_shaped_there) in
     let placed = walked c.args.line (λ _. ensure (is_place of) NotPlace) c.args.p.now (Ok c.in_ok-at_line-2.field-0) (c.in_ok-at_line-2.ensures (ensure (is_place of) NotPlace) is_place_there) in
     λ looped.
