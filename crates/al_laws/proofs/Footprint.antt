@@ -20,7 +20,8 @@ use Rattle.al_laws.proofs.Orders.{obj_total, addr_total, obj_equal, obj_itself, 
 use Rattle.al_laws.proofs.Words.{get_set_other}
 use Rattle.al_laws.proofs.Laid.{same_shape}
 use Rattle.al_laws.proofs.Overlay.{put_elsewhere}
-use Rattle.al_laws.proofs.Stays.{SameBut, Grows, lacks, load_reads, get_put, get_remove, weaker, word_put, inserted_here, inserted_more, limited, or_left, or_right, is_among, among_append, none_set, none_left, obj_differs}
+use Rattle.al_laws.specs.PrivateMemories.{SameBut, is_among}
+use Rattle.al_laws.proofs.Stays.{Grows, lacks, load_reads, get_put, get_remove, weaker, word_put, inserted_here, inserted_more, limited, or_left, or_right, among_append, none_set, none_left, obj_differs}
 use Rattle.al_laws.proofs.Agree.{Matches, Kept}
 
 set_both : (x y : List Val) (w : ℕ) (v : Val) → is_some (slice_get x w) ≡ true → is_some (slice_get y w) ≡ true
