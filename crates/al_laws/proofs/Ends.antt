@@ -1,7 +1,7 @@
 -- Ends that are compared: what is the same before is the same after what comes next.
 use Rattle.std.proofs.Common.{◌≡◌, Ok, Err, refl, subst}
 use Rattle.al_core.specs.Action.{State, Answer, Act, after, bind, ◌>>=◌}
-use Rattle.al_laws.specs.Ends.{WhereOk, EndsAlike}
+use Rattle.al_laws.specs.Ends.{WhereOk, EndsAlike, AlikeEndsGoOn}
 
 module _ {S : Type 0} where
   frame_itself : {A : Type 0} (a : Answer A) (s : State S) → WhereOk a (s.frame ≡ s.frame)
@@ -24,3 +24,6 @@ module _ {S : Type 0} where
   unfolding bind
   ends_bind p q f g s t e h =
       subst (λ a. EndsAlike (after (p s).0 (p s).1 f) (after a (q t).1 g)) e.answer (ends_then (p s).0 (p s).1 (q t).1 f g e.budget e.world e.frame h)
+
+pub alike_ends_go_on : {S : Type 0} → AlikeEndsGoOn S
+alike_ends_go_on p q f g s t e h = ends_bind p q f g s t e h

@@ -618,8 +618,7 @@ module _ (m n : Memory) (same_count : length m.locals ≡ length n.locals) where
   limited_same s t h words false =
       let o = name_of s.allocations.allocator s.allocations.next in (
         ap {A = Allocations} {B = Result Obj Trap} (λ z. Ok (name_of z.allocator z.next)) h.allocations,
-        subst
-            (λ z. Near (with_object s o words) (with_object t z words)) (ap (λ z. name_of z.allocator z.next) h.allocations) (object_near s t h o words),
+        subst (λ z. Near (with_object s o words) (with_object t z words)) (ap (λ z. name_of z.allocator z.next) h.allocations) (object_near s t h o words),
       )
 
   make_back : (s : Content) (o : Obj) (l : Option AccessRecord) → GoodLog (record_make l o) → GoodLog l

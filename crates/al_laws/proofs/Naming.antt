@@ -170,6 +170,12 @@ made_are_named x reds m c o h =
     (omega arith) (omega arith) (chunk_from x reds m c)
     (λ q t. absurd (true≢false (sym t ∙ contains-empty obj_cmp q))) o (made_in r r.content.accesses o h)
 
+-- a given name is one of the names
+pub given_is_from : (e first last : ℕ) (o : Obj) → IsGivenName e first last o → IsNameFrom e first last o
+given_is_from e first last (Global k) h = h
+given_is_from e first last (Serial k) h = h
+given_is_from e first last (Iter f j k) h = (h.0, h.1, h.2)
+
 -- ---- the names of other chunks
 
 apart_below : (x : Execution) (c d j : ℕ) → c < d → j < chunk_end x c → chunk_start x d ≤ j → ⊥
