@@ -1,9 +1,7 @@
 -- What an outcome, laid over a memory, changes and what it leaves.
-use Rattle.std.proofs.Common.{◌≡◌, ℕ, suc, ◌+◌, List, [], ◌∷◌, length, Option, Some, None, Bool, true, false, cond, ◌||◌, refl, sym, ap, subst, ◌∙◌, ◌⊎◌, inl, inr}
+use Rattle.std.proofs.Common.{◌≡◌, ℕ, suc, List, [], ◌∷◌, length, Option, Some, None, Bool, true, false, refl, sym, ap, ◌∙◌, ◌⊎◌, inl, inr}
 use Rattle.std.specs.Prelude.{if◌then◌else◌, is_some, option_map, slice_get, slice_set, ℤ, Contains}
 use Rattle.std.specs.FinMap as map
-use Rattle.std.specs.FinMap.Entries.{find}
-use Rattle.std.specs.FinSet as set
 use Rattle.std.proofs.Math.Bool.{true≢false}
 use Rattle.std.proofs.lemmas.List.{length-set}
 use Rattle.std.proofs.lemmas.Map.Views.{Contains-from_any}
@@ -13,15 +11,16 @@ use Rattle.al_core.specs.declared.values.Val.TheVariants.{Int, Ptr}
 use Rattle.al_core.specs.declared.values.Addr.{Addr}
 use Rattle.al_core.specs.declared.values.Addr.TheVariants.{Word, Head, Local}
 use Rattle.al_core.specs.declared.values.Obj.{Obj}
-use Rattle.al_core.specs.Orders.{obj_cmp, addr_cmp, obj_eq, addr_eq}
+use Rattle.al_core.specs.Orders.{obj_eq, addr_eq}
 use Rattle.al_core.specs.Memory.{Memory, AgreeAt, has_object, length_at, value_at, word_in, put}
 use Rattle.al_core.specs.Access.{red_index}
 use Rattle.al_core.specs.Chunk.{Outcome}
 use Rattle.al_core.specs.Applied.{with_writes, with_made, without_freed, with_sum, with_sums, applied}
-use Rattle.al_laws.specs.Commits.{IsOther, IsUnwritten, IsOff, AppliedAgrees}
+use Rattle.al_laws.specs.Commits.{IsOther, IsOff, AppliedAgrees}
 use Rattle.al_laws.specs.Names.{HasOnly}
 use Rattle.al_laws.proofs.Orders.{addr_equal, addr_itself, obj_equal}
-use Rattle.al_laws.proofs.Stays.{get_put, is_among}
+use Rattle.al_laws.specs.PrivateMemories.{is_among}
+use Rattle.al_laws.proofs.Stays.{get_put}
 use Rattle.al_laws.proofs.Overlay.{over, written_words, written_locals, written_there, get_with_made, locals_with_made, get_without_freed, locals_without_freed}
 use Rattle.al_laws.proofs.Operations.{put_there}
 use Rattle.al_laws.proofs.Footprint.{put_other, local_other}

@@ -133,8 +133,7 @@ times_next c x choice lanes pending s =
       arith,
       commits_append c s.rounds r.verdicts,
       times_append c (not_committed r.verdicts) (drop lanes pending),
-      times_round c x choice
-          (take lanes pending) s.memory,
+      times_round c x choice (take lanes pending) s.memory,
       times_split c lanes pending,
     )
 
@@ -229,8 +228,7 @@ pending_falls x choice (suc n) d ds s h =
     omega (
       arith,
       length-append (not_committed (next_round x choice (suc n) (d ∷ ds) s).verdicts) (drop n ds),
-      fewer_pending x choice d
-          (take n ds) s.memory,
+      fewer_pending x choice d (take n ds) s.memory,
       length_split n ds,
     )
 

@@ -1,5 +1,5 @@
 -- A chunk without reductions is the direct run of its iterations.
-use Rattle.std.proofs.Common.{◌≡◌, ℕ, zero, suc, ◌+◌, ◌-◌, ◌<◌, ◌≤◌, List, [], Some, refl, sym, ap, subst, ◌∙◌, arith}
+use Rattle.std.proofs.Common.{map, ◌≡◌, ℕ, zero, suc, ◌+◌, ◌-◌, ◌<◌, ◌≤◌, List, [], refl, sym, ap, subst, ◌∙◌, arith}
 use Rattle.std.specs.FinMap as fin
 use Rattle.std.specs.FinSet as set
 use Rattle.std.specs.FinSet.{contains-empty}
@@ -9,18 +9,19 @@ use Rattle.al_core.specs.declared.reports.Ending.TheVariants as ending
 use Rattle.al_core.specs.Orders.{obj_cmp}
 use Rattle.al_core.specs.Memory.{Memory}
 use Rattle.al_core.specs.declared.choices.Red.{Red}
-use Rattle.al_core.specs.Access.{Allocations, AccessRecord, Content, in_iteration}
+use Rattle.al_core.specs.Access.{Allocations, Content, in_iteration}
 use Rattle.al_core.specs.Iteration.{Execution, Finished, ending_of, iteration, iteration_from, then_by, then_runs, iterations}
-use Rattle.al_core.specs.Chunk.{chunk_start, chunk_end, chunk_trips, chunk_runs, chunk_from, fresh_accesses, outcome_of, outcome}
+use Rattle.al_core.specs.Chunk.{chunk_start, chunk_end, chunk_trips, chunk_runs, chunk_from, fresh_accesses, sum_of, outcome_of, outcome}
 use Rattle.al_core.specs.Readiness.{IsFresh}
-use Rattle.al_core.specs.Applied.{applied}
+use Rattle.al_core.specs.Applied.{with_sums, applied}
 use Rattle.al_core.specs.Serial.{direct}
 use Rattle.al_laws.specs.Recording.{without_log, HasNoReds}
 use Rattle.al_laws.specs.DirectRuns.{RunsAs, ChunkIsDirectRun}
+use Rattle.al_laws.specs.PrivateMemories.{HasPrivateMemory, ChunkKeeps, AppliedIsPrivate}
 use Rattle.al_laws.proofs.Agree.{Agree, agree_closed}
 use Rattle.al_laws.proofs.Recording.{Recorded, Good, recorded_kept}
 use Rattle.al_laws.proofs.Keeps.{of_iteration, iterations_hold}
-use Rattle.al_laws.proofs.Stays.{same_itself, IsPrivate, Stays, stays}
+use Rattle.al_laws.proofs.Stays.{same_itself, Stays, stays}
 use Rattle.al_laws.proofs.Laid.{none_of, whole_memory}
 
 -- ---- with a record and without it
@@ -60,15 +61,9 @@ same_iterations x (suc n) j c h =
 
 -- ---- between iterations
 
--- there is a record, and the memory is private by it
-pub record Between (m : Memory) (e first last : ℕ) (c : Content) : Type 0 where
-  pub accesses : AccessRecord
-  pub is : c.accesses ≡ Some accesses
-  pub private : IsPrivate m e first last accesses c.memory
-
 module _ (m : Memory) (x : Execution) (first last : ℕ) where
   abbrev Holds : Content → Type 0
-  Holds = Between m x.number first last
+  Holds = HasPrivateMemory m x.number first last
 
   starts : (j : ℕ) (c : Content) → first ≤ j → j < last → Holds c → Stays m x.number first last (iteration_from x j c).world
   starts j c f l b = record { accesses = b.accesses; is = b.is; private = b.private; names = λ k. (refl, f, l) }
@@ -81,7 +76,8 @@ module _ (m : Memory) (x : Execution) (first last : ℕ) where
 
 -- ---- the start
 
-at_start : (x : Execution) (reds : List Red) (m : Memory) (c : ℕ) → IsFresh x m c → Between m x.number (chunk_start x c) (chunk_end x c) (chunk_from x reds m c)
+at_start : (x : Execution) (reds : List Red) (m : Memory) (c : ℕ) → IsFresh x m c
+    → HasPrivateMemory m x.number (chunk_start x c) (chunk_end x c) (chunk_from x reds m c)
 at_start x reds m c fresh = record {
   accesses = fresh_accesses reds;
   is = refl;
@@ -113,11 +109,18 @@ any_allocations x (suc n) j c a b = record { memory = refl; printed = refl; endi
 -- ---- the law
 
 -- what a chunk leaves of the memory that it ran on, with any reductions
-pub chunk_keeps : (x : Execution) (reds : List Red) (m : Memory) (c : ℕ) → IsFresh x m c
-    → Between m x.number (chunk_start x c) (chunk_end x c) (chunk_runs x c (chunk_from x reds m c)).content
+pub chunk_keeps : ChunkKeeps
 chunk_keeps x reds m c fresh =
     iterations_keep m x (chunk_start x c) (chunk_end x c) (chunk_trips x c) (chunk_start x c) (chunk_from x reds m c) (omega arith) (omega arith)
     (at_start x reds m c fresh)
+
+pub applied_is_private : AppliedIsPrivate
+unfolding outcome applied
+applied_is_private x reds m c fresh =
+    let r = chunk_runs x c (chunk_from x reds m c) in
+    let b = chunk_keeps x reds m c fresh in
+    subst (λ l. applied reds m (outcome_of r l) ≡ with_sums reds (outcome_of r l).accumulators r.content.memory) (sym b.is)
+    (ap (with_sums reds (map sum_of b.accesses.accumulators)) (whole_memory m x.number (chunk_start x c) (chunk_end x c) b.accesses r.content.memory b.private))
 
 pub chunk_is_direct_run : ChunkIsDirectRun
 unfolding outcome applied

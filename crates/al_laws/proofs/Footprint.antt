@@ -20,7 +20,8 @@ use Rattle.al_laws.proofs.Orders.{obj_total, addr_total, obj_equal, obj_itself, 
 use Rattle.al_laws.proofs.Words.{get_set_other}
 use Rattle.al_laws.proofs.Laid.{same_shape}
 use Rattle.al_laws.proofs.Overlay.{put_elsewhere}
-use Rattle.al_laws.proofs.Stays.{SameBut, Grows, lacks, load_reads, get_put, get_remove, weaker, word_put, inserted_here, inserted_more, limited, or_left, or_right, is_among, among_append, none_set, none_left, obj_differs}
+use Rattle.al_laws.specs.PrivateMemories.{SameBut, is_among}
+use Rattle.al_laws.proofs.Stays.{Grows, lacks, load_reads, get_put, get_remove, weaker, word_put, inserted_here, inserted_more, limited, or_left, or_right, among_append, none_set, none_left, obj_differs}
 use Rattle.al_laws.proofs.Agree.{Matches, Kept}
 
 set_both : (x y : List Val) (w : ℕ) (v : Val) → is_some (slice_get x w) ≡ true → is_some (slice_get y w) ≡ true
@@ -617,8 +618,7 @@ module _ (m n : Memory) (same_count : length m.locals ≡ length n.locals) where
   limited_same s t h words false =
       let o = name_of s.allocations.allocator s.allocations.next in (
         ap {A = Allocations} {B = Result Obj Trap} (λ z. Ok (name_of z.allocator z.next)) h.allocations,
-        subst
-            (λ z. Near (with_object s o words) (with_object t z words)) (ap (λ z. name_of z.allocator z.next) h.allocations) (object_near s t h o words),
+        subst (λ z. Near (with_object s o words) (with_object t z words)) (ap (λ z. name_of z.allocator z.next) h.allocations) (object_near s t h o words),
       )
 
   make_back : (s : Content) (o : Obj) (l : Option AccessRecord) → GoodLog (record_make l o) → GoodLog l

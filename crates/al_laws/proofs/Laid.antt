@@ -14,7 +14,7 @@ use Rattle.al_core.specs.Chunk.{writes_of, made_objects}
 use Rattle.al_core.specs.Applied.{with_writes, with_made, without_freed}
 use Rattle.al_laws.proofs.Orders.{obj_total, obj_apart}
 use Rattle.al_laws.proofs.Words.{same_list}
-use Rattle.al_laws.proofs.Stays.{SameBut, IsPrivate, is_among}
+use Rattle.al_laws.specs.PrivateMemories.{SameBut, IsPrivate, is_among}
 use Rattle.al_laws.proofs.Overlay.{over, over_same, written_words, written_locals, written_there, get_with_made, locals_with_made, get_written, get_made_objects, get_without_freed, locals_without_freed}
 
 pub none_of : {A : Type 0} (x : Option A) → is_some x ≡ false → x ≡ None

@@ -27,3 +27,4 @@ pub mod Unread
 pub mod Applying
 pub mod Naming
 pub mod Untouched
+pub mod Ends

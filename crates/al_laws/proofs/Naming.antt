@@ -1,35 +1,32 @@
 -- The objects that are made have names within the limits: instances of the abstraction theorem.
-use Rattle.std.proofs.Common.{◌^◌, ◌≡◌, ◌≢◌, ℕ, zero, suc, ◌+◌, ◌-◌, ◌*◌, ◌<◌, ◌≤◌, List, [], ◌∷◌, ◌++◌, length, map, take, Option, Some, None, Result, Ok, Err, Bool, true, false, cond, ◌||◌, refl, sym, ap, subst, ◌∙◌, ◌⊎◌, inl, inr, arith}
+use Rattle.std.proofs.Common.{◌^◌, ◌≡◌, ◌≢◌, ℕ, zero, suc, ◌+◌, ◌-◌, ◌<◌, ◌≤◌, List, [], ◌∷◌, length, take, Option, Some, None, Result, Ok, Err, Bool, true, false, cond, ◌||◌, refl, sym, ap, subst, ◌∙◌, ◌⊎◌, inl, inr, arith}
 use Rattle.std.specs.Prelude.{ℤ, pos, nat_lt, is_some, replicate, slice_get}
 use Rattle.std.specs.FinMap as fin
 use Rattle.std.specs.FinSet as set
-use Rattle.std.specs.FinSet.{FinSet, contains-empty}
+use Rattle.std.specs.FinSet.{contains-empty}
 use Rattle.std.proofs.Math.Bool.{true≢false}
 use Rattle.std.proofs.Math.Nat.{mul-le-mul_right}
 use Rattle.std.proofs.lemmas.Bool.{cases_lt, ltb-false}
 use Rattle.al_source.specs.declared.limits.TheConstants.{ACTIVE_CALLS, ITERATION_WORDS, LOOP_TRIPS}
 use Rattle.al_core.specs.declared.choices.Choice.{Choice}
 use Rattle.al_core.specs.declared.choices.Red.{Red}
-use Rattle.al_core.specs.declared.reports.Ending.{Ending}
 use Rattle.al_core.specs.declared.reports.Ending.TheVariants as ending
 use Rattle.al_core.specs.declared.reports.Verdict.{Verdict}
 use Rattle.al_core.specs.declared.typed_tree.TGlobal.{TGlobal}
-use Rattle.al_core.specs.declared.typed_tree.Typed.{Typed}
 use Rattle.al_core.specs.declared.values.Val.{Val}
 use Rattle.al_core.specs.declared.values.Val.TheVariants.{Int}
 use Rattle.al_core.specs.declared.values.Obj.{Obj}
 use Rattle.al_core.specs.declared.values.Obj.TheVariants.{Global, Serial, Iter}
-use Rattle.al_core.specs.declared.values.Addr.TheVariants.{Head}
 use Rattle.al_core.specs.declared.values.Trap.{Trap}
 use Rattle.al_core.specs.Values.{trips}
 use Rattle.al_core.specs.Orders.{obj_cmp, obj_eq}
 use Rattle.al_core.specs.Memory.{Memory, has_object}
-use Rattle.al_core.specs.Access.{AccessRecord, Allocations, Content, Outer, word_limit, name_of, record_make, with_object, load, store, make, free, print, in_iteration}
+use Rattle.al_core.specs.Access.{AccessRecord, Allocations, Content, Outer, word_limit, name_of, record_make, with_object, make, print, in_iteration}
 use Rattle.al_core.specs.Loops.{Loop, loop_at}
 use Rattle.al_core.specs.Meaning.{Outside}
 use Rattle.al_core.specs.Iteration.{Execution, Finished, iteration_from, iterations}
-use Rattle.al_core.specs.Chunk.{Outcome, chunk_start, chunk_end, chunk_runs, chunk_from, outcome_of, outcome}
-use Rattle.al_core.specs.Readiness.{IsNameFrom, IsFresh}
+use Rattle.al_core.specs.Chunk.{chunk_start, chunk_end, chunk_runs, chunk_from, outcome_of, outcome}
+use Rattle.al_core.specs.Readiness.{IsNameFrom}
 use Rattle.al_core.specs.Verdicts.{is_committed, cons_if, committed, verdicts}
 use Rattle.al_core.specs.Applied.{applied, all_applied}
 use Rattle.al_core.specs.Round.{outcomes, round}
@@ -172,6 +169,12 @@ made_are_named x reds m c o h =
     chunk_sees is_made made_view (IsGivenName x.number (chunk_start x c) (chunk_end x c)) x (chunk_start x c) (chunk_end x c) (λ j k f l s. (refl, f, l, s)) c
     (omega arith) (omega arith) (chunk_from x reds m c)
     (λ q t. absurd (true≢false (sym t ∙ contains-empty obj_cmp q))) o (made_in r r.content.accesses o h)
+
+-- a given name is one of the names
+pub given_is_from : (e first last : ℕ) (o : Obj) → IsGivenName e first last o → IsNameFrom e first last o
+given_is_from e first last (Global k) h = h
+given_is_from e first last (Serial k) h = h
+given_is_from e first last (Iter f j k) h = (h.0, h.1, h.2)
 
 -- ---- the names of other chunks
 

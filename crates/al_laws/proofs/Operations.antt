@@ -12,7 +12,7 @@ use Rattle.al_core.specs.declared.values.Kind.{Kind}
 use Rattle.al_core.specs.declared.values.Obj.{Obj}
 use Rattle.al_core.specs.Orders.{obj_cmp, obj_eq}
 use Rattle.al_core.specs.Memory.{Memory, has_object, value_at, put, remove}
-use Rattle.al_core.specs.Access.{AccessRecord, Content, with_accesses, with_head, record_load, record_store, record_free, free_recorded, is_own, red_index, load_recorded, store_recorded, load_by, store_by, store_in, is_freeable, free_there, free_if, load, store, free}
+use Rattle.al_core.specs.Access.{AccessRecord, Content, with_accesses, record_load, record_store, record_free, free_recorded, is_own, red_index, load_recorded, store_recorded, load_by, store_by, store_in, is_freeable, free_there, free_if, load, store, free}
 use Rattle.al_laws.proofs.Stays.{get_put, get_remove, load_reads}
 
 -- ---- objects that are there

@@ -21,7 +21,8 @@ use Rattle.al_core.specs.Chunk.{with_present, writes_of, made_objects}
 use Rattle.al_core.specs.Applied.{with_writes, with_made, without_freed}
 use Rattle.al_laws.proofs.Orders.{obj_total, addr_total, obj_equal, obj_itself, addr_equal, addr_itself}
 use Rattle.al_laws.proofs.Words.{get_set_other}
-use Rattle.al_laws.proofs.Stays.{get_put, get_remove, is_among}
+use Rattle.al_laws.specs.PrivateMemories.{is_among}
+use Rattle.al_laws.proofs.Stays.{get_put, get_remove}
 
 -- ---- sorted lists have each key once
 

@@ -1,16 +1,12 @@
 -- Printed bytes are only appended to: an instance of the abstraction theorem.
-use Rattle.std.proofs.Common.{◌≡◌, ℕ, ◌+◌, ◌-◌, List, [], ◌∷◌, ◌++◌, Option, Some, None, Result, Ok, Err, Bool, true, false, refl, sym, ap, ◌∙◌, append_assoc, append-nil, arith}
+use Rattle.std.proofs.Common.{ℕ, ◌+◌, List, [], ◌∷◌, ◌++◌, Option, Some, None, Result, Ok, Err, Bool, true, false, sym, ap, ◌∙◌, append_assoc, append-nil, arith}
 use Rattle.std.specs.Prelude.{ℤ, nat_lt}
-use Rattle.al_core.specs.declared.values.Addr.{Addr}
-use Rattle.al_core.specs.declared.values.Kind.{Kind}
-use Rattle.al_core.specs.declared.values.Obj.{Obj}
 use Rattle.al_core.specs.declared.values.Val.{Val}
 use Rattle.al_core.specs.declared.values.Trap.{Trap}
 use Rattle.al_core.specs.Values.{trips}
-use Rattle.al_core.specs.Access.{Content, word_limit, load, store, make, free, print, in_iteration}
+use Rattle.al_core.specs.Access.{Content, word_limit, make, print, in_iteration}
 use Rattle.al_core.specs.Loops.{Loop, loop_at}
-use Rattle.al_core.specs.Meaning.{Flow}
-use Rattle.al_core.specs.Iteration.{Execution, Finished, then_by, iterations}
+use Rattle.al_core.specs.Iteration.{Finished, then_by}
 use Rattle.al_core.specs.Chunk.{chunk_start, chunk_trips, chunk_runs}
 use Rattle.al_core.specs.declared.reports.Ending.{Ending}
 use Rattle.al_core.specs.declared.reports.Ending.TheVariants as ending

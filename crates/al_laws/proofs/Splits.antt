@@ -3,7 +3,7 @@ use Rattle.std.proofs.Common.{◌≡◌, ℕ, zero, suc, ◌+◌, refl, sym, ap,
 use Rattle.al_core.specs.declared.reports.Ending.{Ending}
 use Rattle.al_core.specs.declared.reports.Ending.TheVariants as ending
 use Rattle.al_core.specs.Access.{Content}
-use Rattle.al_core.specs.Iteration.{Execution, Finished, nothing_run, add_steps, iteration, then_by, then_runs, iterations}
+use Rattle.al_core.specs.Iteration.{Finished, add_steps, iteration, then_by, then_runs, iterations}
 use Rattle.al_laws.specs.Iterations.{IterationsSplit}
 
 pub steps_twice : (a b : ℕ) (r : Finished) → add_steps a (add_steps b r) ≡ add_steps (a + b) r

@@ -1,7 +1,6 @@
 -- A chunk's private memory differs from the one it was copied from only where the record says so.
-use Rattle.std.proofs.Common.{◌≡◌, ◌≢◌, ℕ, ◌+◌, List, [], ◌∷◌, ◌++◌, length, Option, Some, None, Result, Ok, Err, Bool, true, false, cond, ◌||◌, refl, sym, ap, subst, ◌∙◌, ◌⊎◌, inl, inr}
-use Rattle.std.specs.Prelude.{pos, if◌then◌else◌, nat_lt, is_some, option_map, slice_get, slice_set, replicate}
-use Rattle.std.specs.List.{list_any}
+use Rattle.std.proofs.Common.{◌≡◌, ◌≢◌, ℕ, ◌+◌, List, [], ◌∷◌, ◌++◌, Option, Some, None, Result, Ok, Err, Bool, true, false, cond, ◌||◌, refl, sym, ap, subst, ◌∙◌, ◌⊎◌, inl, inr}
+use Rattle.std.specs.Prelude.{pos, if◌then◌else◌, nat_lt, is_some, option_map, slice_set, replicate}
 use Rattle.std.specs.FinMap as map
 use Rattle.std.specs.FinSet as set
 use Rattle.std.specs.FinSet.{FinSet}
@@ -20,6 +19,7 @@ use Rattle.al_core.specs.Orders.{obj_cmp, obj_eq, addr_cmp, addr_eq}
 use Rattle.al_core.specs.Memory.{Memory, has_object, value_at, with_words, put, add, remove}
 use Rattle.al_core.specs.Access.{AccessRecord, Content, with_memory, with_accesses, with_head, record_load, record_store, record_free, free_recorded, is_own, red_index, load_recorded, store_recorded, load_by, store_by, store_in, record_make, with_touched, with_object, word_limit, name_of, is_freeable, free_there, free_if, load, store, make, free, print, in_iteration}
 use Rattle.al_core.specs.Readiness.{IsNameFrom}
+use Rattle.al_laws.specs.PrivateMemories.{is_among, SameBut, IsGone, IsPrivate}
 use Rattle.al_laws.proofs.Orders.{obj_total, addr_total, obj_equal, obj_itself, addr_itself}
 use Rattle.al_laws.proofs.Keeps.{KeepsOp, KeepsWorld}
 use Rattle.al_laws.proofs.Words.{get_set_other}
@@ -89,43 +89,12 @@ obj_differs x y n = elim (obj_eq x y) as (λ b. obj_eq x y ≡ b → b ≡ false
 
 -- ---- lists of objects
 
--- the object stands in the list
-abbrev pub is_among : List Obj → Obj → Bool
-is_among os o = list_any (obj_eq o) os
-
 pub among_append : (os ps : List Obj) (q : Obj) → is_among (os ++ ps) q ≡ (is_among os q || is_among ps q)
 among_append [] ps q = refl
 among_append (o ∷ os) ps q =
     elim (obj_eq q o) as (λ b. (b || is_among (os ++ ps) q) ≡ ((b || is_among os q) || is_among ps q)) [ true ↦ refl | false ↦ among_append os ps q ]
 
 -- ---- what stays
-
--- an object of the first memory and the same one now: they differ at touched words alone
-abbrev pub SameBut : FinSet addr_cmp → Obj → Option (List Val) → Option (List Val) → Type 0
-SameBut touched o None None = Unit {0}
-SameBut touched o None (Some ws) = ⊥
-SameBut touched o (Some vs) None = ⊥
-SameBut touched o (Some vs) (Some ws) = (length ws ≡ length vs) × ((w : ℕ) → set.contains touched (Word o w) ≡ false → slice_get ws w ≡ slice_get vs w)
-
--- An object of the first memory that was freed: it was no global, it is gone, and its head is read and touched.
-pub record IsGone (accesses : AccessRecord) (o : Obj) (x y : Option (List Val)) : Type 0 where
-  pub freeable : is_freeable o 0 ≡ true
-  pub was_there : is_some x ≡ true
-  pub is_gone : y ≡ None
-  pub read : set.contains accesses.reads (Head o) ≡ true
-  pub touched : set.contains accesses.touched (Head o) ≡ true
-
--- The memory n is private to a chunk that began on a copy of m and has this record. Its names are those of execution e
--- from a first iteration to below a last.
-pub record IsPrivate (m : Memory) (e first last : ℕ) (accesses : AccessRecord) (n : Memory) : Type 0 where
-  pub fresh : (o : Obj) → IsNameFrom e first last o → map.get m.objects o ≡ None
-  pub named : (o : Obj) → set.contains accesses.made o ≡ true → IsNameFrom e first last o
-  pub headed : (o : Obj) → set.contains accesses.made o ≡ true → set.contains accesses.touched (Head o) ≡ true
-  pub kept : (o : Obj) → set.contains accesses.made o ≡ false → is_among accesses.freed o ≡ false
-      → SameBut accesses.touched o (map.get m.objects o) (map.get n.objects o)
-  pub gone : (o : Obj) → is_among accesses.freed o ≡ true → IsGone accesses o (map.get m.objects o) (map.get n.objects o)
-  pub locals_length : length n.locals ≡ length m.locals
-  pub locals : (k : ℕ) → set.contains accesses.touched (Local k) ≡ false → slice_get n.locals k ≡ slice_get m.locals k
 
 pub same_itself : (t : FinSet addr_cmp) (o : Obj) (y : Option (List Val)) → SameBut t o y y
 same_itself t o None = tt

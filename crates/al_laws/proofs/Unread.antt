@@ -1,12 +1,10 @@
 -- No reduction variable is among what a chunk read or touched: an instance of the abstraction theorem.
-use Rattle.std.proofs.Common.{arith, ◌≡◌, ℕ, zero, suc, ◌+◌, List, Option, Some, None, Result, Ok, Bool, true, false, ◌||◌, refl, sym, ap, subst, ◌∙◌}
+use Rattle.std.proofs.Common.{arith, ◌≡◌, ℕ, ◌+◌, List, Option, Some, None, Result, Ok, Bool, true, false, ◌||◌, refl, sym, ap, subst, ◌∙◌}
 use Rattle.std.specs.Prelude.{if◌then◌else◌, is_some, nat_lt}
 use Rattle.std.specs.FinSet as set
 use Rattle.std.specs.FinSet.{FinSet, contains-empty}
 use Rattle.std.proofs.Math.Bool.{true≢false}
 use Rattle.al_core.specs.declared.choices.Red.{Red}
-use Rattle.al_core.specs.declared.reports.Ending.{Ending}
-use Rattle.al_core.specs.declared.reports.Ending.TheVariants as ending
 use Rattle.al_core.specs.declared.values.Val.{Val}
 use Rattle.al_core.specs.declared.values.Addr.{Addr}
 use Rattle.al_core.specs.declared.values.Addr.TheVariants.{Word, Head, Local}
@@ -15,7 +13,7 @@ use Rattle.al_core.specs.declared.values.Trap.{Trap}
 use Rattle.al_core.specs.declared.values.Obj.{Obj}
 use Rattle.al_core.specs.Orders.{addr_cmp, addr_eq}
 use Rattle.al_core.specs.Memory.{Memory, has_object, value_at}
-use Rattle.al_core.specs.Access.{AccessRecord, Content, with_accesses, with_touched, with_head, record_load, record_store, record_make, record_free, free_recorded, is_own, red_index, load_recorded, store_recorded, load_by, store_by, store_in, word_limit, name_of, is_freeable, free_there, free_if, load, store, make, free, print, in_iteration}
+use Rattle.al_core.specs.Access.{AccessRecord, Content, with_accesses, with_head, record_load, record_store, record_make, record_free, free_recorded, is_own, red_index, load_recorded, store_recorded, load_by, store_by, store_in, word_limit, name_of, is_freeable, free_there, free_if, load, store, make, free, print, in_iteration}
 use Rattle.al_core.specs.Iteration.{Execution, Finished}
 use Rattle.al_core.specs.Chunk.{chunk_start, chunk_end, chunk_runs, chunk_from, outcome_of, outcome}
 use Rattle.al_laws.proofs.Orders.{addr_total, addr_equal}

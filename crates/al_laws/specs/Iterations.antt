@@ -4,7 +4,7 @@ use Rattle.al_core.specs.declared.typed_tree.TStmt.{TStmt}
 use Rattle.al_core.specs.declared.typed_tree.TFunc.{TFunc}
 use Rattle.al_core.specs.World.{World}
 use Rattle.al_core.specs.Action.{State}
-use Rattle.al_core.specs.Access.{Content, in_iteration}
+use Rattle.al_core.specs.Access.{Content}
 use Rattle.al_core.specs.Meaning.{Where, execute, call_to}
 use Rattle.al_core.specs.Iteration.{Execution, then_runs, iterations}
 use Rattle.al_core.specs.Serial.{chunks_run}
@@ -23,10 +23,12 @@ abbrev pub Continues : List ℕ → List ℕ → Type 0
 Continues before after = (more : List ℕ) × (after ≡ before ++ more)
 
 abbrev pub IterationsOnlyAppend : Type 0
-IterationsOnlyAppend = (x : Execution) (n j : ℕ) (c : Content) → Continues c.printed (iterations x n j c).content.printed
+IterationsOnlyAppend =
+    (x : Execution) (n j : ℕ) (c : Content) → Continues c.printed (iterations x n j c).content.printed
 
 abbrev pub ChunksOnlyAppend : Type 0
-ChunksOnlyAppend = (x : Execution) (cs : List ℕ) (c : Content) → Continues c.printed (chunks_run x cs c).content.printed
+ChunksOnlyAppend =
+    (x : Execution) (cs : List ℕ) (c : Content) → Continues c.printed (chunks_run x cs c).content.printed
 
 -- whatever a statement does in a world whose states have these bytes
 abbrev pub StatementsOnlyAppend : {S : Type 0} → World S → (S → List ℕ) → Type 0

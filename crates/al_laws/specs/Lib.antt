@@ -12,3 +12,4 @@ pub mod Ends
 pub mod Iterations
 pub mod Commits
 pub mod Names
+pub mod PrivateMemories
