@@ -19,31 +19,32 @@ use Rattle.al_grammar.proofs.ProgramFacts.{sound_program, complete_program}
 use Rattle.al_lexer.specs.Answers.{Explains}
 use Rattle.al_rules.specs.declared.faults.Refusal.{Refusal}
 use Rattle.al_rules.specs.declared.faults.Refusal.TheVariants.{Lexical, Grammar}
-use Rattle.al_rules.specs.Checks.{and_then}
-use Rattle.al_rules.specs.Refusals.{because, most_bytes, tokens_of, derived, program_of}
+use Rattle.al_source.specs.Steps.{and_then}
+use Rattle.al_source.specs.declared.limits.TheConstants.{SOURCE_BYTES}
+use Rattle.al_rules.specs.Refusals.{because, tokens_of, derived, program_of}
 use Rattle.al_front.specs.declared.fault.FrontFault.{FrontFault}
 use Rattle.al_front.specs.declared.fault.FrontFault.TheVariants.{Refused, Memory}
 use Rattle.al_front.specs.Answers.{Meets}
 
 -- ---- tokens
 
-within : (source : Bytes) → length source ≤ most_bytes → tokens_of source ≡ because Lexical (reading source)
-within source h = let short : nat_lt most_bytes (length source) ≡ false = search (rules, h) in rw short refl
+within : (source : Bytes) → length source ≤ SOURCE_BYTES → tokens_of source ≡ because Lexical (reading source)
+within source h = let short : nat_lt SOURCE_BYTES (length source) ≡ false = search (rules, h) in rw short refl
 
-beyond : (source : Bytes) → most_bytes < length source → tokens_of source ≡ Err (Lexical lex.TooLong)
-beyond source h = let long : nat_lt most_bytes (length source) ≡ true = search (rules, h) in rw long refl
+beyond : (source : Bytes) → SOURCE_BYTES < length source → tokens_of source ≡ Err (Lexical lex.TooLong)
+beyond source h = let long : nat_lt SOURCE_BYTES (length source) ≡ true = search (rules, h) in rw long refl
 
 le_or_lt : (m n : ℕ) → (m ≤ n) ⊎ (n < m)
 le_or_lt m n = grind arith
 
-pub spelled_tokens : (source : Bytes) (tokens : List Token) → (1048576 < length source → ◌≡◌ {A = Result (List Token) LexFault} (Ok tokens) (Err lex.TooLong)) → Spells source tokens → tokens_of source ≡ Ok tokens
-spelled_tokens source tokens long spelled = by_length (le_or_lt (length source) most_bytes)
+pub spelled_tokens : (source : Bytes) (tokens : List Token) → (SOURCE_BYTES < length source → ◌≡◌ {A = Result (List Token) LexFault} (Ok tokens) (Err lex.TooLong)) → Spells source tokens → tokens_of source ≡ Ok tokens
+spelled_tokens source tokens long spelled = by_length (le_or_lt (length source) SOURCE_BYTES)
   where
-    by_length : (length source ≤ most_bytes) ⊎ (most_bytes < length source) → tokens_of source ≡ Ok tokens
+    by_length : (length source ≤ SOURCE_BYTES) ⊎ (SOURCE_BYTES < length source) → tokens_of source ≡ Ok tokens
     by_length (inl short) = within source short ∙ ap (because Lexical) (spelled_reading source tokens spelled)
     by_length (inr more) = let never = long more in absurd cc
 
-faulty : (source : Bytes) (fault : LexFault) → (length source ≤ 1048576) × (first_lexical_fault source ≡ Some fault) → tokens_of source ≡ Err (Lexical fault)
+faulty : (source : Bytes) (fault : LexFault) → (length source ≤ SOURCE_BYTES) × (first_lexical_fault source ≡ Some fault) → tokens_of source ≡ Err (Lexical fault)
 faulty source fault h = within source h.0 ∙ ap (because Lexical) (fault_read source fault h.1)
 
 pub refused_tokens : (source : Bytes) (fault : LexFault) → fault ≢ lex.Memory → Explains source fault → tokens_of source ≡ Err (Lexical fault)

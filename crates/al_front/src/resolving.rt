@@ -3,22 +3,21 @@ ghost use Rattle.al_rules.specs.Refusals as spec;
 ghost use Rattle.al_front.specs.Answers.{Meets};
 
 use crate::fault::FrontFault;
-use al_core::Typed;
+use al_core::{LoopInfo, Typed};
 use al_layout::layout;
 use al_lexer::lex;
 use al_loops::notes;
 use al_parser::parse;
 use al_rules::{LayoutFault, LowerFault, NoteFault, Refusal, TypeFault};
+use al_source::limits::SOURCE_NODES;
 use al_source::{LexFault, ParseFault, Program, Token};
 use al_types::check;
 use sqlite_items::Items;
 use std::alloc::Global;
 
-/// The most statements and expressions that a source may have.
-const MOST_NODES: u64 = 262144;
-
-/// The typed tree of a source, or the first cause for which the source is refused.
-pub fn resolve(alloc: Global, source: &[u8]) -> Result<Typed, FrontFault>
+/// The typed tree of a source and the entries of its annotated loops, by their numbers, or the first cause for which the
+/// source is refused.
+pub fn resolve(alloc: Global, source: &[u8]) -> Result<(Typed, Items<LoopInfo>), FrontFault>
     ensures { Meets result (spec.accepted source.now) }
 {
     let tokens = tokens_of(alloc, source)?;
@@ -62,15 +61,18 @@ fn tree_of(alloc: Global, program: &Program) -> Result<Typed, FrontFault>
     }
 }
 
-/// The tree itself, where its loops are annotated well and it is not too large.
-fn annotated_well(alloc: Global, typed: Typed) -> Result<Typed, FrontFault>
+/// The tree and the entries of its loops, where these are annotated well and it is not too large.
+fn annotated_well(
+    alloc: Global,
+    typed: Typed,
+) -> Result<(Typed, Items<LoopInfo>), FrontFault>
     ensures { Meets result (spec.annotated_well typed) }
 {
     match notes(alloc, &typed) {
-        Ok(_) if typed.nodes > MOST_NODES => {
+        Ok(_) if typed.nodes > SOURCE_NODES => {
             Err(FrontFault::Refused(Refusal::Lowering(LowerFault::TooLarge)))
         }
-        Ok(_) => Ok(typed),
+        Ok(infos) => Ok((typed, infos)),
         Err(NoteFault::Memory) => Err(FrontFault::Memory),
         Err(fault) => Err(FrontFault::Refused(Refusal::Notes(fault))),
     }

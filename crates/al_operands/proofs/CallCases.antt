@@ -8,7 +8,7 @@ use Rattle.al_rules.specs.declared.faults.TypeKind.TheVariants.{Count}
 use Rattle.al_rules.specs.declared.operands.Operand.{Operand}
 use Rattle.al_rules.specs.Checks.{◌>>=◌, ◌>>◌, ensure}
 use Rattle.al_rules.specs.Scopes.{Function, Input, Inputs, Choose}
-use Rattle.al_rules.specs.Operands.{integer, fitting_all, called}
+use Rattle.al_rules.specs.Operands.{integer, pointer, fitting_all, called, freed}
 use Rattle.al_operands.specs.Arguments.{none_of, only_of, pair_of}
 
 pub called_function : (k : ℕ) (f : Func) (xs : List Operand) → called (Function k f) xs ≡ (ensure (length xs == length f.params) Count >> fitting_all f.params xs >>= (λ args. Ok (f.result, e.Call k args)))
@@ -32,3 +32,9 @@ called_choose op [] = refl
 called_choose op (x ∷ []) = refl
 called_choose op (x ∷ y ∷ []) = refl
 called_choose op (x ∷ y ∷ z ∷ xs) = refl
+
+pub freed_only : (xs : List Operand) → freed xs ≡ (only_of xs >>= (λ x. pointer x >>= (λ a. Ok (e.Free a.1))))
+unfolding freed
+freed_only [] = refl
+freed_only (x ∷ []) = refl
+freed_only (x ∷ y ∷ xs) = refl

@@ -7,7 +7,7 @@ ghost use Rattle.al_names.specs.Meanings.{callee_of};
 ghost use Rattle.al_source.specs.Answers.{Gives};
 ghost use Rattle.al_names.specs.Steps.{kind_of};
 
-use crate::operands::{fitting, integer};
+use crate::operands::{fitting, integer, pointer};
 use crate::queue::Queue;
 use al_core::TExpr;
 use al_names::fault::{Fault, ensure};
@@ -148,4 +148,15 @@ pub fn called(
         Callee::Inputs => call_inputs(alloc, args),
         Callee::Choose(op) => call_choose(alloc, op, args),
     }
+}
+
+/// The term of a statement that frees what its one operand leads to. `Count` of its operands, and then `Mismatch` where it
+/// is no pointer.
+#[tactic(auto, using(crate::proofs::CallCases::freed_only))]
+pub fn freed(alloc: Global, args: Queue<Boxed<Operand>>) -> Result<Boxed<TExpr>, Fault>
+    ensures { Gives kind_of (spec.freed args) result }
+{
+    let x = only(args)?;
+    let (_, a) = pointer(alloc, x)?;
+    Ok(Boxed::new(alloc, TExpr::Free(a))?)
 }

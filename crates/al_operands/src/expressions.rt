@@ -11,7 +11,7 @@ ghost use Rattle.al_rules.specs.Scopes as scopes;
 ghost use Rattle.al_source.specs.Answers.{Gives};
 ghost use Rattle.al_names.specs.Steps.{kind_of};
 
-use crate::calls::called;
+use crate::calls::{called, freed};
 use crate::operands::{and, binary, integer, or, unary};
 use crate::places::{address, followed, indexed, member, member_behind, of_variable};
 use crate::queue::Queue;
@@ -21,6 +21,7 @@ use al_names::known::Known;
 use al_names::scope::Scope;
 use al_names::types::{Role, copy};
 use al_rules::{Operand, TypeKind};
+use al_source::limits::WORD_BYTES;
 use al_source::{CType, Expr};
 use sqlite_items::Boxed;
 use std::alloc::{AllocError, Global};
@@ -59,12 +60,12 @@ fn value(alloc: Global, ty: CType, x: TExpr) -> Result<Boxed<Operand>, AllocErro
 fn size_of(alloc: Global, known: &Known<'_>, ty: &CType) -> Result<Boxed<Operand>, Fault>
     ensures { Gives kind_of
         (and_then (spec.sized known.now [] ty.now)
-        (λ _. Ok (variant.Value ctype.Int (e.Number (pos (8 * scopes.size known.now ty.now))))))
+        (λ _. Ok (variant.Value ctype.Int (e.Number (pos (WORD_BYTES * scopes.size known.now ty.now))))))
         result }
 {
     sized(known, ty)?;
     let words = known.size(ty)?;
-    let bytes = TExpr::Number(i64::from(words) * 8);
+    let bytes = TExpr::Number(i64::from(WORD_BYTES) * i64::from(words));
     Ok(value(alloc, CType::Int, bytes)?)
 }
 
@@ -121,21 +122,26 @@ fn call_value<'a>(
     Ok(value(alloc, ty.into_inner(), x.into_inner())?)
 }
 
-/// The type and the term of a call of this name. The first fault: of the arguments, of the name (`Unknown`, or `Mismatch` of a variable), of their count, of their types.
-pub fn call_named<'a>(
+/// The term of a call as a statement, which frees an object where its name is `free`. The first fault: of the arguments,
+/// of the name (`Unknown`, or `Mismatch` of a variable), of their count, of their types.
+pub fn call_alone<'a>(
     alloc: Global,
     known: &Known<'a>,
     scope: &Scope<'a>,
     name: &[u8],
     args: &[Expr],
-) -> Result<(Boxed<CType>, Boxed<TExpr>), Fault>
+) -> Result<Boxed<TExpr>, Fault>
     ensures { Gives kind_of
-        (spec.call known.now (scopes.in_scope scope.now) name.now
+        (spec.call_alone known.now (scopes.in_scope scope.now) name.now
         (spec.operands known.now (scopes.in_scope scope.now) args.now))
         result }
 {
     let args = operands(alloc, known, scope, args)?;
-    call(alloc, known, scope, name, args)
+    if known.frees(scope, name) {
+        return freed(alloc, args);
+    }
+    let (_, x) = call(alloc, known, scope, name, args)?;
+    Ok(x)
 }
 
 /// What an expression is, or the first fault: its parts from left to right, and then the whole.

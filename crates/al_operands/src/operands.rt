@@ -201,7 +201,10 @@ fn literal(x: &Operand) -> Option<i64>
 
 /// A pointer, which the literal 0 is too.
 #[tactic(auto, using(crate::proofs::OperandCases::pointers))]
-fn pointer(alloc: Global, x: Boxed<Operand>) -> Result<(Option<Boxed<CType>>, Boxed<TExpr>), Fault>
+pub fn pointer(
+    alloc: Global,
+    x: Boxed<Operand>,
+) -> Result<(Option<Boxed<CType>>, Boxed<TExpr>), Fault>
     ensures { Gives kind_of (spec.pointer x) result }
 {
     match literal(x.get()) {
