@@ -1,5 +1,5 @@
 -- Loops, as kinds of statements, as the code does them.
-use Rattle.std.proofs.Common.{◌≡◌, ℕ, List, Option, Some, None, Result, Ok, Err, sym, ap, subst, ◌∙◌, rules}
+use Rattle.std.proofs.Common.{◌≡◌, ℕ, Option, Some, None, Result, Ok, Err, sym, ap, subst, ◌∙◌, rules}
 use Rattle.al_core.specs.declared.typed_tree.TExpr.{TExpr}
 use Rattle.al_core.specs.declared.typed_tree.TStmt.{TStmt}
 use Rattle.al_core.specs.declared.typed_tree.TKind.{TKind, out-TKind, the_lemmas}
