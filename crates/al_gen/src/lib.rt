@@ -1,13 +1,14 @@
 //! Generates a job: a program, and the numbers that it reads.
 #![tactic(auto)]
 
-ghost use Rattle.std.specs.Prelude.{◌≡◌, ◌<◌, ◌≤◌, ◌^◌, IfOk};
+ghost use Rattle.std.specs.Prelude.{◌≡◌, ◌≤◌, IfOk};
 ghost use Rattle.al_gen.specs.Generated as spec;
 
 #[cfg(test)]
 mod tests;
 
 use al_source::Bytes;
+use al_source::limits::{MOST_SIZE, MOST_START};
 use sqlite_items::Items;
 use std::alloc::{AllocError, Global};
 
@@ -62,8 +63,8 @@ fn input(alloc: Global, start: u32, size: u32) -> Result<Items<i64>, AllocError>
 
 /// The program and `size` numbers, which depend on `start` alone.
 pub fn make(alloc: Global, start: u32, size: u32) -> Result<Made2, AllocError>
-    requires start { start < 2 ^ 31 }
-    requires size { (1 ≤ size) × (size ≤ 100000) }
+    requires start { start ≤ MOST_START }
+    requires size { (1 ≤ size) × (size ≤ MOST_SIZE) }
     ensures { IfOk result (λ made. made ≡ spec.made start size) }
 {
     let source = source(alloc)?;

@@ -1,14 +1,12 @@
--- What a function ensures, unless memory is wanting.
-use Rattle.std.specs.Prelude.{◌≡◌, ◌≢◌, Result, Ok, Err, Option, Some, None}
+-- What a step of laying a program out ensures, unless memory runs out: a fault, or where there is none a fact of its value.
+use Rattle.std.specs.Prelude.{◌≡◌, ⊤, Result, Ok, Err, Option, Some, None}
 use Rattle.al_rules.specs.declared.faults.LayoutFault.{LayoutFault}
-use Rattle.al_rules.specs.declared.faults.LayoutFault.TheVariants.{Memory}
+use Rattle.al_rules.specs.Faults.{laid}
 
--- the outcome
-abbrev pub Gives : {A : Type 0} → Result A LayoutFault → Result A LayoutFault → Type 0
-Gives outcome (Ok a) = outcome ≡ Ok a
-Gives outcome (Err e) = e ≢ Memory → outcome ≡ Err e
+abbrev pub IsFault : Option LayoutFault → Option LayoutFault → Type 0
+IsFault fault (Some e) = fault ≡ Some e
+IsFault fault None = ⊤
 
--- the fault, or a value of which the fact holds where there is none
 abbrev pub Finds : {A : Type 0} → Option LayoutFault → (A → Type 0) → Result A LayoutFault → Type 0
 Finds fault Holds (Ok a) = (fault ≡ None) × Holds a
-Finds fault Holds (Err e) = e ≢ Memory → fault ≡ Some e
+Finds fault Holds (Err e) = IsFault fault (laid e)

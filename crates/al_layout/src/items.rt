@@ -2,15 +2,16 @@ ghost use Rattle.std.specs.Prelude.{◌≡◌, sum};
 ghost use Rattle.std.specs.List.{list_any};
 ghost use Rattle.al_source.specs.declared.source_tree.Item.TheVariants as item;
 ghost use Rattle.al_rules.specs.Layouts as spec;
-ghost use Rattle.al_layout.specs.Steps.{Gives, Finds};
+ghost use Rattle.al_source.specs.Answers.{Gives};
+ghost use Rattle.al_rules.specs.Faults.{laid};
+ghost use Rattle.al_layout.specs.Steps.{Finds};
 
 use crate::types::{holds, words};
 use al_rules::{Layout, LayoutFault, StructLayout};
+use al_source::limits::OBJECT_WORDS;
 use al_source::{Field, GlobalDef, Item, Program, StructDef};
 use sqlite_items::Items;
 use std::alloc::Global;
-
-const MOST_WORDS: u32 = 4_194_304;
 
 fn any_holds(name: &[u8], fields: &[Field]) -> bool
     ensures { result ≡ list_any (λ f. spec.holds name.now f.ty) fields.now }
@@ -31,7 +32,7 @@ fn struct_layout(
     while let [field, rest @ ..] = fields {
         offsets.push(at)?;
         at = at.saturating_add(words(structs, &field.ty));
-        if MOST_WORDS < at {
+        if OBJECT_WORDS < at {
             return Err(LayoutFault::TooLarge(s.line));
         }
         fields = rest;
@@ -61,19 +62,20 @@ fn add_global(done: &mut Layout, total: u32, g: &GlobalDef) -> Result<u32, Layou
 {
     let words = words(done.structs.as_slice(), &g.ty);
     let total = total.saturating_add(words);
-    if MOST_WORDS < total {
+    if OBJECT_WORDS < total {
         return Err(LayoutFault::TooLarge(g.line));
     }
     done.globals.push(words)?;
     Ok(total)
 }
 
-/// The sizes of a program whose structs and globals have at most 4,194,304 words each, or else its first fault in source order.
+/// The sizes of a program whose structs, and whose globals together, have at most `OBJECT_WORDS` words, or else its
+/// first fault in source order.
 ///
 /// A struct by value is known where an earlier item defines it (C99 6.7.2.3p1). One that is not known has no words.
 #[tactic(auto, unfolding(al_rules::specs::Layouts::layout_of))]
 pub fn layout(alloc: Global, program: &Program) -> Result<Layout, LayoutFault>
-    ensures { Gives (spec.layout_of program.now) result }
+    ensures { Gives laid (spec.layout_of program.now) result }
 {
     let mut done = Layout {
         structs: Items::new(alloc),

@@ -3,7 +3,7 @@ use Rattle.std.specs.Prelude.{ℕ, ◌+◌, List, [], ◌∷◌, ◌++◌, codes
 use Rattle.std.specs.Fmt.{decimal}
 use Rattle.std.specs.List.{flat_map}
 use Rattle.al_core.specs.declared.values.Trap.{Trap}
-use Rattle.al_core.specs.declared.values.Trap.TheVariants.{Null, Missing, Bounds, Kind, Divide, Input, Trips, Steps, Alloc, Depth}
+use Rattle.al_core.specs.declared.values.Trap.TheVariants.{Null, Missing, Bounds, Kind, Divide, Input, Trips, Steps, Alloc, Depth, BadFree, Freed}
 use Rattle.al_core.specs.declared.reports.Ending.{Ending}
 use Rattle.al_core.specs.declared.reports.Ending.TheVariants as ending
 use Rattle.al_core.specs.declared.reports.Verdict.{Verdict}
@@ -27,6 +27,8 @@ trap_name Trips = codes "too many trips"
 trap_name Steps = codes "step budget spent"
 trap_name Alloc = codes "too many words allocated"
 trap_name Depth = codes "calls nested too deep"
+trap_name BadFree = codes "not an allocated object"
+trap_name Freed = codes "freed already"
 
 abbrev pub trap_text : List ℕ → Trap → ℕ → List ℕ
 trap_text name trap line = of_line name line (codes "trap: " ++ trap_name trap)

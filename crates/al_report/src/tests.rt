@@ -216,6 +216,18 @@ fn traps_have_their_line(rt: HostRuntime) -> Result<(), Fail> {
             2,
             "alter: demo:2: trap: calls nested too deep\n",
         ),
+        (
+            "f1.c",
+            Trap::Freed,
+            8,
+            "alter: f1.c:8: trap: freed already\n",
+        ),
+        (
+            "f3.c",
+            Trap::BadFree,
+            3,
+            "alter: f3.c:3: trap: not an allocated object\n",
+        ),
     ];
     for (name, trap, line, expected) in table {
         let text = trap_text(rt.alloc(), name, trap, line)?;

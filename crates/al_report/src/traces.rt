@@ -22,6 +22,8 @@ fn trap_name(trap: Trap) -> &'static [u8]
         Trap::Steps => b"step budget spent",
         Trap::Alloc => b"too many words allocated",
         Trap::Depth => b"calls nested too deep",
+        Trap::BadFree => b"not an allocated object",
+        Trap::Freed => b"freed already",
     }
 }
 

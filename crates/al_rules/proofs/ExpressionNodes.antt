@@ -1,6 +1,7 @@
 -- What each kind of expression is.
 use Rattle.std.proofs.Common.{◌≡◌, ◌*◌, List, [], ◌∷◌, map, Ok, refl, sym, ap, ◌∙◌}
 use Rattle.std.specs.Prelude.{ℤ, pos}
+use Rattle.al_source.specs.declared.limits.TheConstants.{WORD_BYTES}
 use Rattle.al_source.specs.declared.operators.UnOp.{UnOp}
 use Rattle.al_source.specs.declared.operators.BinOp.{BinOp}
 use Rattle.al_source.specs.declared.source_tree.CType.{CType}
@@ -19,7 +20,8 @@ use Rattle.al_rules.specs.Expressions.{sized, call, expr_case, operand, operands
 use Rattle.al_rules.specs.Checks.{Checked, ◌>>=◌, ◌>>◌, all, some_or}
 
 module _ (known : Known) (scope : List Binding) where
-  of_operand : (x : Expr-F Expr) (d : Expr) → roll-Expr x ≡ d → operand known scope d ≡ expr_case known scope (map-Expr Expr (Checked Operand) (operand known scope) x)
+  of_operand : (x : Expr-F Expr) (d : Expr) → roll-Expr x ≡ d
+      → operand known scope d ≡ expr_case known scope (map-Expr Expr (Checked Operand) (operand known scope) x)
   unfolding operand
   of_operand x d is = ap (λ d. fold-Expr (Checked Operand) (expr_case known scope) d) (sym is) ∙ fold-roll-Expr (Checked Operand) (expr_case known scope) x
 
@@ -39,7 +41,8 @@ module _ (known : Known) (scope : List Binding) where
   pub operand-Unary : (op : UnOp) (x : Expr) → operand known scope (s.Unary op x) ≡ (operand known scope x >>= unary op)
   operand-Unary op x = of_operand (Expr-F.Unary op x) _ (s.rolls-Unary op x)
 
-  pub operand-Binary : (op : BinOp) (x y : Expr) → operand known scope (s.Binary op x y) ≡ (operand known scope x >>= (λ a. operand known scope y >>= (λ b. binary op a b)))
+  pub operand-Binary : (op : BinOp) (x y : Expr)
+      → operand known scope (s.Binary op x y) ≡ (operand known scope x >>= (λ a. operand known scope y >>= (λ b. binary op a b)))
   operand-Binary op x y = of_operand (Expr-F.Binary op x y) _ (s.rolls-Binary op x y)
 
   pub operand-And : (x y : Expr) → operand known scope (s.And x y) ≡ (operand known scope x >>= (λ a. operand known scope y >>= (λ b. of_scalars e.And a b)))
@@ -63,15 +66,19 @@ module _ (known : Known) (scope : List Binding) where
   pub operand-Address : (x : Expr) → operand known scope (s.Address x) ≡ (operand known scope x >>= address)
   operand-Address x = of_operand (Expr-F.Address x) _ (s.rolls-Address x)
 
-  pub operand-Call : (name : Name) (xs : List Expr) → operand known scope (s.Call name xs) ≡ (call known scope name (operands known scope xs) >>= (λ c. Ok (Value c.0 c.1)))
+  pub operand-Call : (name : Name) (xs : List Expr)
+      → operand known scope (s.Call name xs) ≡ (call known scope name (operands known scope xs) >>= (λ c. Ok (Value c.0 c.1)))
   operand-Call name xs =
       of_operand (Expr-F.Call name xs) _ (s.rolls-Call name xs)
       ∙ ap (λ (args : Checked (List Operand)). call known scope name args >>= (λ c. Ok (Value c.0 c.1))) (all_each xs)
 
-  pub operand-SizeOf : (a : CType) → operand known scope (s.SizeOf a) ≡ (sized known scope a >> Ok (Value type.Int (e.Number (pos (8 * size known a)))))
+  pub operand-SizeOf : (a : CType)
+      → operand known scope (s.SizeOf a) ≡ (sized known scope a >> Ok (Value type.Int (e.Number (pos (WORD_BYTES * size known a)))))
   operand-SizeOf a = of_operand (Expr-F.SizeOf a) _ (s.rolls-SizeOf a)
 
-  pub operand-Calloc : (x : Expr) (a : CType) → operand known scope (s.Calloc x a) ≡ (operand known scope x >>= integer >>= (λ n. sized known scope a >> Ok (Value (type.Ptr a) (e.Calloc n (size known a)))))
+  pub operand-Calloc : (x : Expr) (a : CType)
+      → operand known scope (s.Calloc x a)
+      ≡ (operand known scope x >>= integer >>= (λ n. sized known scope a >> Ok (Value (type.Ptr a) (e.Calloc n (size known a)))))
   operand-Calloc x a = of_operand (Expr-F.Calloc x a) _ (s.rolls-Calloc x a)
 
 pub ruleset operand_nodes = (

@@ -9,7 +9,8 @@ use Rattle.al_rules.specs.declared.layout.StructLayout.{StructLayout}
 use Rattle.al_rules.specs.Names.{Name}
 use Rattle.al_rules.specs.Layouts.{words_or_none, words_case, words_of, holds_case, holds}
 
-of_words : (known : List StructLayout) (x : CType-F CType) (d : CType) → roll-CType x ≡ d → words_of known d ≡ words_case known (map-CType CType ℕ (words_of known) x)
+of_words : (known : List StructLayout) (x : CType-F CType) (d : CType) → roll-CType x ≡ d
+    → words_of known d ≡ words_case known (map-CType CType ℕ (words_of known) x)
 unfolding words_of
 of_words known x d is = ap (λ d. fold-CType ℕ (words_case known) d) (sym is) ∙ fold-roll-CType ℕ (words_case known) x
 

@@ -27,20 +27,28 @@ module _ (known : Known) (func : ℕ) (result : CType) where
   part_of None = None
   part_of (Some b) = Some (part known func result b)
 
-  of_part : (x : StmtKind-F StmtKind Stmt) (d : StmtKind) → roll-StmtKind x ≡ d → kind_part known func result d ≡ kind_case known func result (map-StmtKind StmtKind Stmt KindPart Part (kind_part known func result) (part known func result) x)
+  of_part : (x : StmtKind-F StmtKind Stmt) (d : StmtKind) → roll-StmtKind x ≡ d
+      → kind_part known func result d
+      ≡ kind_case known func result (map-StmtKind StmtKind Stmt KindPart Part (kind_part known func result) (part known func result) x)
   unfolding kind_part part
   of_part x d is =
       ap (λ d. fold-StmtKind KindPart Part (kind_case known func result) (stmt_case known func result) d) (sym is)
       ∙ fold-roll-StmtKind KindPart Part (kind_case known func result) (stmt_case known func result) x
 
-  of_walk : (x : StmtKind-F StmtKind Stmt) (d : StmtKind) (line : ℕ) (looped : Bool) → roll-StmtKind x ≡ d → (kind_part known func result d).walk line looped ≡ walk_case known func result (map-StmtKind StmtKind Stmt KindPart Part (kind_part known func result) (part known func result) x) line looped
+  of_walk : (x : StmtKind-F StmtKind Stmt) (d : StmtKind) (line : ℕ) (looped : Bool) → roll-StmtKind x ≡ d
+      → (kind_part known func result d).walk line looped
+      ≡ walk_case known func result (map-StmtKind StmtKind Stmt KindPart Part (kind_part known func result) (part known func result) x) line looped
   of_walk x d line looped is = ap (λ (p : KindPart). p.walk line looped) (of_part x d is)
 
-  part_out : (b : Stmt) → part known func result b ≡ stmt_case known func result (record { line = (out-Stmt b).line; kind = kind_part known func result (out-Stmt b).kind })
+  part_out : (b : Stmt)
+      → part known func result b ≡ stmt_case known func result (record { line = (out-Stmt b).line; kind = kind_part known func result (out-Stmt b).kind })
   unfolding kind_part part
   part_out b = fold_out-Stmt KindPart Part (kind_case known func result) (stmt_case known func result) b
 
-  pub walks-stmt : (b : Stmt) (looped : Bool) → (part known func result b).walk looped ≡ ((kind_part known func result (out-Stmt b).kind).walk (out-Stmt b).line looped >>= (λ d. pure (roll-TStmt (record { line = (out-Stmt b).line; kind = d }))))
+  pub walks-stmt : (b : Stmt) (looped : Bool)
+      → (part known func result b).walk looped
+      ≡ ((kind_part known func result (out-Stmt b).kind).walk (out-Stmt b).line looped
+      >>= (λ d. pure (roll-TStmt (record { line = (out-Stmt b).line; kind = d }))))
   walks-stmt b looped = ap (λ (p : Part). p.walk looped) (part_out b)
 
   pub sort-stmt : (b : Stmt) → (part known func result b).sort ≡ (kind_part known func result (out-Stmt b).kind).sort
@@ -52,44 +60,70 @@ module _ (known : Known) (func : ℕ) (result : CType) where
   pub walks-Empty : (line : ℕ) (looped : Bool) → (kind_part known func result s.Empty).walk line looped ≡ pure k.Empty
   walks-Empty line looped = of_walk StmtKind-F.Empty _ line looped s.rolls-Empty
 
-  pub walks-Declare : (a : CType) (name : Name) (v : Option Expr) (line : ℕ) (looped : Bool) → (kind_part known func result (s.Declare a name v)).walk line looped ≡ declare known func result line a name v
+  pub walks-Declare : (a : CType) (name : Name) (v : Option Expr) (line : ℕ) (looped : Bool)
+      → (kind_part known func result (s.Declare a name v)).walk line looped ≡ declare known func result line a name v
   walks-Declare a name v line looped = of_walk (StmtKind-F.Declare a name v) _ line looped (s.rolls-Declare a name v)
 
-  pub walks-Assign : (a b : Expr) (line : ℕ) (looped : Bool) → (kind_part known func result (s.Assign a b)).walk line looped ≡ (operand_of known func result line a >>= (λ l. lift line (ensure (is_place l) NotPlace) >> (operand_of known func result line b >>= (λ r. lift line (assigned l r)))))
+  pub walks-Assign : (a b : Expr) (line : ℕ) (looped : Bool)
+      → (kind_part known func result (s.Assign a b)).walk line looped
+      ≡ (operand_of known func result line a
+      >>= (λ l. lift line (ensure (is_place l) NotPlace) >> (operand_of known func result line b >>= (λ r. lift line (assigned l r)))))
   walks-Assign a b line looped = of_walk (StmtKind-F.Assign a b) _ line looped (s.rolls-Assign a b)
 
-  pub walks-Update : (op : BinOp) (a b : Expr) (line : ℕ) (looped : Bool) → (kind_part known func result (s.Update op a b)).walk line looped ≡ (lift line (ensure (may_update op) Shape) >> (operand_of known func result line a >>= (λ l. lift line (ensure (is_place l) NotPlace) >> (operand_of known func result line b >>= (λ r. lift line (updated op l r))))))
+  pub walks-Update : (op : BinOp) (a b : Expr) (line : ℕ) (looped : Bool)
+      → (kind_part known func result (s.Update op a b)).walk line looped
+      ≡ (lift line (ensure (may_update op) Shape)
+      >> (operand_of known func result line a
+      >>= (λ l. lift line (ensure (is_place l) NotPlace) >> (operand_of known func result line b >>= (λ r. lift line (updated op l r))))))
   walks-Update op a b line looped = of_walk (StmtKind-F.Update op a b) _ line looped (s.rolls-Update op a b)
 
-  pub walks-Call : (name : Name) (args : List Expr) (line : ℕ) (looped : Bool) → (kind_part known func result (s.Call name args)).walk line looped ≡ (checks line (λ scope. x.call known (in_scope scope) name (x.operands known (in_scope scope) args)) >>= (λ c. pure (k.Call c.1)))
+  pub walks-Call : (name : Name) (args : List Expr) (line : ℕ) (looped : Bool)
+      → (kind_part known func result (s.Call name args)).walk line looped
+      ≡ (checks line (λ scope. x.call_alone known (in_scope scope) name (x.operands known (in_scope scope) args)) >>= (λ c. pure (k.Call c)))
   walks-Call name args line looped = of_walk (StmtKind-F.Call name args) _ line looped (s.rolls-Call name args)
 
-  pub walks-Print : (format : List Piece) (args : List Expr) (line : ℕ) (looped : Bool) → (kind_part known func result (s.Print format args)).walk line looped ≡ (operands_of known func result line args >>= (λ xs. lift line (ensure (length xs == numbers_in format) Count) >> (lift line (each integer xs) >>= (λ ns. pure (k.Print format ns)))))
+  pub walks-Print : (format : List Piece) (args : List Expr) (line : ℕ) (looped : Bool)
+      → (kind_part known func result (s.Print format args)).walk line looped
+      ≡ (operands_of known func result line args
+      >>= (λ xs. lift line (ensure (length xs == numbers_in format) Count) >> (lift line (each integer xs) >>= (λ ns. pure (k.Print format ns)))))
   walks-Print format args line looped = of_walk (StmtKind-F.Print format args) _ line looped (s.rolls-Print format args)
 
-  pub walks-If : (c : Expr) (a : Stmt) (b : Option Stmt) (line : ℕ) (looped : Bool) → (kind_part known func result (s.If c a b)).walk line looped ≡ (condition known func result line c >>= (λ t. part_if is_body (part known func result a) looped >>= (λ p. any_part is_body (part_of b) looped >>= (λ r. pure (k.If t p r)))))
+  pub walks-If : (c : Expr) (a : Stmt) (b : Option Stmt) (line : ℕ) (looped : Bool)
+      → (kind_part known func result (s.If c a b)).walk line looped
+      ≡ (condition known func result line c
+      >>= (λ t. part_if is_body (part known func result a) looped >>= (λ p. any_part is_body (part_of b) looped >>= (λ r. pure (k.If t p r)))))
   walks-If c a (Some b) line looped = of_walk (StmtKind-F.If c a (Some b)) _ line looped (s.rolls-If c a (Some b))
   walks-If c a None line looped = of_walk (StmtKind-F.If c a None) _ line looped (s.rolls-If c a None)
 
-  pub walks-While : (c : Expr) (a : Stmt) (line : ℕ) (looped : Bool) → (kind_part known func result (s.While c a)).walk line looped ≡ (condition known func result line c >>= (λ t. part_if is_body (part known func result a) true >>= (λ p. pure (k.While t p))))
+  pub walks-While : (c : Expr) (a : Stmt) (line : ℕ) (looped : Bool)
+      → (kind_part known func result (s.While c a)).walk line looped
+      ≡ (condition known func result line c >>= (λ t. part_if is_body (part known func result a) true >>= (λ p. pure (k.While t p))))
   walks-While c a line looped = of_walk (StmtKind-F.While c a) _ line looped (s.rolls-While c a)
 
-  pub walks-For : (first : Option Stmt) (test : Option Expr) (third : Option Stmt) (body : Stmt) (note : Option LoopNote) (line : ℕ) (looped : Bool) → (kind_part known func result (s.For first test third body note)).walk line looped ≡ (choice_of known func result line note >>= for_loop known func result line looped (part_of first) test (part_of third) (part known func result body))
-  walks-For (Some first) test (Some third) body note line looped = of_walk (StmtKind-F.For (Some first) test (Some third) body note) _ line looped (s.rolls-For (Some first) test (Some third) body note)
-  walks-For (Some first) test None body note line looped = of_walk (StmtKind-F.For (Some first) test None body note) _ line looped (s.rolls-For (Some first) test None body note)
-  walks-For None test (Some third) body note line looped = of_walk (StmtKind-F.For None test (Some third) body note) _ line looped (s.rolls-For None test (Some third) body note)
+  pub walks-For : (first : Option Stmt) (test : Option Expr) (third : Option Stmt) (body : Stmt) (note : Option LoopNote) (line : ℕ) (looped : Bool)
+      → (kind_part known func result (s.For first test third body note)).walk line looped
+      ≡ (choice_of known func result line note >>= for_loop known func result line looped (part_of first) test (part_of third) (part known func result body))
+  walks-For (Some first) test (Some third) body note line looped =
+      of_walk (StmtKind-F.For (Some first) test (Some third) body note) _ line looped (s.rolls-For (Some first) test (Some third) body note)
+  walks-For (Some first) test None body note line looped =
+      of_walk (StmtKind-F.For (Some first) test None body note) _ line looped (s.rolls-For (Some first) test None body note)
+  walks-For None test (Some third) body note line looped =
+      of_walk (StmtKind-F.For None test (Some third) body note) _ line looped (s.rolls-For None test (Some third) body note)
   walks-For None test None body note line looped = of_walk (StmtKind-F.For None test None body note) _ line looped (s.rolls-For None test None body note)
 
   each_walked : (looped : Bool) (ss : List Stmt) → all_steps (walks_of looped (map (part known func result) ss)) ≡ statements known func result looped ss
   each_walked looped [] = refl
-  each_walked looped (b ∷ ss) = ap (λ (q : Walk (List TStmt)). (part known func result b).walk looped >>= (λ t. q >>= (λ ts. pure (t ∷ ts)))) (each_walked looped ss)
+  each_walked looped (b ∷ ss) =
+      ap (λ (q : Walk (List TStmt)). (part known func result b).walk looped >>= (λ t. q >>= (λ ts. pure (t ∷ ts)))) (each_walked looped ss)
 
-  pub walks-Block : (ss : List Stmt) (line : ℕ) (looped : Bool) → (kind_part known func result (s.Block ss)).walk line looped ≡ within (statements known func result looped ss >>= (λ ts. pure (k.Block ts)))
+  pub walks-Block : (ss : List Stmt) (line : ℕ) (looped : Bool)
+      → (kind_part known func result (s.Block ss)).walk line looped ≡ within (statements known func result looped ss >>= (λ ts. pure (k.Block ts)))
   walks-Block ss line looped =
       of_walk (StmtKind-F.Block ss) _ line looped (s.rolls-Block ss)
       ∙ ap (λ (q : Walk (List TStmt)). within (q >>= (λ ts. pure (k.Block ts)))) (each_walked looped ss)
 
-  pub walks-Return : (v : Option Expr) (line : ℕ) (looped : Bool) → (kind_part known func result (s.Return v)).walk line looped ≡ returned known func result line v
+  pub walks-Return : (v : Option Expr) (line : ℕ) (looped : Bool)
+      → (kind_part known func result (s.Return v)).walk line looped ≡ returned known func result line v
   walks-Return v line looped = of_walk (StmtKind-F.Return v) _ line looped (s.rolls-Return v)
 
   pub walks-Break : (line : ℕ) (looped : Bool) → (kind_part known func result s.Break).walk line looped ≡ leave known func result line looped k.Break
@@ -98,7 +132,9 @@ module _ (known : Known) (func : ℕ) (result : CType) where
   pub walks-Continue : (line : ℕ) (looped : Bool) → (kind_part known func result s.Continue).walk line looped ≡ leave known func result line looped k.Continue
   walks-Continue line looped = of_walk StmtKind-F.Continue _ line looped s.rolls-Continue
 
-  of_sort : (x : StmtKind-F StmtKind Stmt) (d : StmtKind) → roll-StmtKind x ≡ d → (kind_part known func result d).sort ≡ sort_case known func result (map-StmtKind StmtKind Stmt KindPart Part (kind_part known func result) (part known func result) x)
+  of_sort : (x : StmtKind-F StmtKind Stmt) (d : StmtKind) → roll-StmtKind x ≡ d
+      → (kind_part known func result d).sort
+      ≡ sort_case known func result (map-StmtKind StmtKind Stmt KindPart Part (kind_part known func result) (part known func result) x)
   of_sort x d is = ap (λ (p : KindPart). p.sort) (of_part x d is)
 
   pub sort-Declare : (a : CType) (name : Name) → (kind_part known func result (s.Declare a name None)).sort ≡ Declares
@@ -128,7 +164,8 @@ module _ (known : Known) (func : ℕ) (result : CType) where
   pub sort-While : (c : Expr) (a : Stmt) → (kind_part known func result (s.While c a)).sort ≡ Other
   sort-While c a = of_sort (StmtKind-F.While c a) _ (s.rolls-While c a)
 
-  pub sort-For : (first : Option Stmt) (test : Option Expr) (third : Option Stmt) (body : Stmt) (note : Option LoopNote) → (kind_part known func result (s.For first test third body note)).sort ≡ Other
+  pub sort-For : (first : Option Stmt) (test : Option Expr) (third : Option Stmt) (body : Stmt) (note : Option LoopNote)
+      → (kind_part known func result (s.For first test third body note)).sort ≡ Other
   sort-For first test third body note = of_sort (StmtKind-F.For first test third body note) _ (s.rolls-For first test third body note)
 
   pub sort-Block : (ss : List Stmt) → (kind_part known func result (s.Block ss)).sort ≡ Other

@@ -157,7 +157,8 @@ form-Array a n = of_form (CType-F.Array a n) _ (t.rolls-Array a n)
 -- ---- structs
 
 module _ (earlier anywhere : Name → Bool) where
-  of_known : (x : CType-F CType) (d : CType) → roll-CType x ≡ d → are_known earlier anywhere d ≡ known_case earlier anywhere (map-CType CType (Bool × Bool) (are_known earlier anywhere) x)
+  of_known : (x : CType-F CType) (d : CType) → roll-CType x ≡ d
+      → are_known earlier anywhere d ≡ known_case earlier anywhere (map-CType CType (Bool × Bool) (are_known earlier anywhere) x)
   unfolding are_known
   of_known x d is = ap (λ d. fold-CType (Bool × Bool) (known_case earlier anywhere) d) (sym is) ∙ fold-roll-CType (Bool × Bool) (known_case earlier anywhere) x
 

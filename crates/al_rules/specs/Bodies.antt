@@ -1,4 +1,5 @@
--- What the body of an annotated loop does: which locals it assigns, how it may be left, which functions it reaches, and how it uses a variable.
+-- What the body of an annotated loop does: which locals it assigns, how it may be left, which functions it reaches, and
+-- how it uses a variable.
 use Rattle.std.specs.Prelude.{ℕ, zero, suc, ◌+◌, ◌==◌, Bool, true, false, not, ◌&&◌, ◌||◌, List, [], ◌∷◌, length, Option, Some, None, slice_get}
 use Rattle.std.specs.List.{list_any}
 use Rattle.al_source.specs.declared.operators.RedOp.{RedOp}
@@ -87,7 +88,8 @@ reaches typed (suc n) f g = reaches typed n f g || (reaches typed n f n && reach
 
 -- a statement reaches the function: it calls it, or one that reaches it
 unfoldable pub is_reached : Typed → TStmt → ℕ → Bool
-is_reached typed s g = has g (calls_of (terms s)) || list_any (λ f. reaches typed (length typed.funcs) f g) (calls_of (terms s))
+is_reached typed s g =
+    has g (calls_of (terms s)) || list_any (λ f. reaches typed (length typed.funcs) f g) (calls_of (terms s))
 
 -- ---- how a variable is used
 
@@ -101,7 +103,8 @@ any_from test n (f ∷ fs) = test n f || any_from test (n + 1) fs
 
 -- a function that the statement reaches mentions the global
 abbrev pub is_mentioned_there : Typed → TStmt → Addr → Bool
-is_mentioned_there typed s (Word o w) = any_from (λ n f. is_reached typed s n && mentions_in (Word o w) (terms_of f.body)) 0 typed.funcs
+is_mentioned_there typed s (Word o w) =
+    any_from (λ n f. is_reached typed s n && mentions_in (Word o w) (terms_of f.body)) 0 typed.funcs
 is_mentioned_there typed s (Head o) = false
 is_mentioned_there typed s (Local n) = false
 

@@ -1,6 +1,7 @@
 -- The choices that are tried for an annotated loop.
 use Rattle.std.specs.Prelude.{ℕ, ◌==◌, Bool, false, not, ◌&&◌, if◌then◌else◌, nat_le, nat_lt, List, [], ◌∷◌, ◌++◌, map, take, Option, Some, None, option_map, slice_get}
 use Rattle.std.specs.List.{list_any, find, filter_map, flat_map}
+use Rattle.al_source.specs.declared.limits.TheConstants.{TRIED_REDUCTIONS}
 use Rattle.al_source.specs.declared.annotations.Policy.{Policy}
 use Rattle.al_source.specs.declared.annotations.Policy.TheVariants as policy
 use Rattle.al_source.specs.declared.annotations.CommitOrder.TheVariants as order
@@ -24,7 +25,9 @@ use Rattle.al_core.specs.declared.values.Addr.TheVariants.{Word, Head, Local}
 use Rattle.al_core.specs.declared.values.Obj.{Obj}
 use Rattle.al_core.specs.declared.values.Addr.{Addr}
 use Rattle.al_core.specs.Orders.{addr_eq}
-use Rattle.al_rules.specs.ForLoops.{ForLoop, for_loops_in, is_kind, is_integer}
+use Rattle.al_core.specs.Lines.{by_words}
+use Rattle.al_core.specs.Loops.{PlacedLoop, program_loops}
+use Rattle.al_rules.specs.ForLoops.{is_kind, is_integer}
 use Rattle.al_rules.specs.Bodies.{is_taken, is_misused, has_update}
 use Rattle.al_rules.specs.Notes.{is_counter_or_bound}
 
@@ -49,6 +52,7 @@ expr_names (TExpr-F.Input x) = x
 expr_names TExpr-F.Inputs = []
 expr_names (TExpr-F.Choose op x y) = x ++ y
 expr_names (TExpr-F.Calloc x size) = x
+expr_names (TExpr-F.Free x) = x
 
 abbrev pub place_names : TPlace-F (List Addr) (List Addr) → List Addr
 place_names (TPlace-F.Global n) = Word (Global n) 0 ∷ []
@@ -137,14 +141,14 @@ operators = red.Add ∷ red.Mul ∷ red.Min ∷ red.Max ∷ red.BitAnd ∷ red.B
 -- A variable that is updated has at most one such operator.
 abbrev pub reduction_of : Typed → LoopInfo → TStmt → Addr → Option Red
 reduction_of typed info body a =
-    if may_reduce typed info a then option_map (λ op. record { op = op; at = a }) (find (reduces typed info body a) operators) else None
+    if may_reduce typed info a
+    then option_map (λ op. record { op = op; at = a }) (find (reduces typed info body a) operators)
+    else None
 
--- the reducible variables that count: at most so many, in order of first mention
-abbrev pub most_reductions : ℕ
-most_reductions = 8
-
+-- the reducible variables that count, in order of first mention
 abbrev pub reductions_of : Typed → LoopInfo → TStmt → List Red
-reductions_of typed info body = take most_reductions (filter_map (reduction_of typed info body) (firsts [] (variables body)))
+reductions_of typed info body =
+    take TRIED_REDUCTIONS (filter_map (reduction_of typed info body) (firsts [] (variables body)))
 
 -- ---- choices
 
@@ -157,8 +161,7 @@ abbrev pub reduction_lists : List Red → List (List Red)
 reduction_lists rs = [] ∷ map (λ r. r ∷ []) rs ++ all_together rs
 
 abbrev pub in_both_orders : List Red → Policy → List Choice
-in_both_orders reds p =
-    record { policy = p; order = order.OutOfOrder; reds = reds } ∷ record { policy = p; order = order.InOrder; reds = reds } ∷ []
+in_both_orders reds p = by_words p order.OutOfOrder reds ∷ by_words p order.InOrder reds ∷ []
 
 abbrev pub policies : List Policy
 policies = policy.None ∷ policy.Waw ∷ policy.Raw ∷ policy.Full ∷ []
@@ -166,14 +169,10 @@ policies = policy.None ∷ policy.Waw ∷ policy.Raw ∷ policy.Full ∷ []
 abbrev pub with_reductions : List Red → List Choice
 with_reductions reds = flat_map (in_both_orders reds) policies
 
-abbrev pub choices_of : Typed → LoopInfo → Option ForLoop → List Choice
+abbrev pub choices_of : Typed → LoopInfo → Option PlacedLoop → List Choice
 choices_of typed info None = []
-choices_of typed info (Some l) = flat_map with_reductions (reduction_lists (reductions_of typed info l.body))
-
-abbrev pub loop_in : ℕ → Option TFunc → Option ForLoop
-loop_in number None = None
-loop_in number (Some f) = find (λ l. l.number == number) (for_loops_in f.body)
+choices_of typed info (Some l) = flat_map with_reductions (reduction_lists (reductions_of typed info l.loop.body))
 
 -- The choices for a loop by its entry, in the order in which they are tried.
 unfoldable pub choices : Typed → LoopInfo → List Choice
-choices typed info = choices_of typed info (loop_in info.number (slice_get typed.funcs info.func))
+choices typed info = choices_of typed info (slice_get (program_loops typed) info.number)

@@ -1,13 +1,10 @@
 -- Checks that give a value, or the kind of a fault. The line is told by the statement or item.
 use Rattle.std.specs.Prelude.{Bool, if◌then◌else◌, List, [], ◌∷◌, Option, Some, None, Result, Ok, Err}
+use Rattle.al_source.specs.Steps.{and_then}
 use Rattle.al_rules.specs.declared.faults.TypeKind.{TypeKind}
 
 abbrev pub Checked : Type 0 → Type 0
 Checked A = Result A TypeKind
-
-abbrev pub and_then : {A B F : Type 0} → Result A F → (A → Result B F) → Result B F
-and_then (Ok a) f = f a
-and_then (Err e) f = Err e
 
 infixl 10 ◌>>=◌
 abbrev pub ◌>>=◌ : {A B : Type 0} → Checked A → (A → Checked B) → Checked B

@@ -84,38 +84,50 @@ pub record IsBuiltIn (g : Names) (name : Name) (c : Callee) : Type 0 where
 mutual
   pub data Has (g : Names) : Expr → Status → CType → Type 0 where
     number : {n : ℤ} → Has g (e.Number n) value type.Int
-    local_variable : {name : Name} {f : Field} → named (λ f. f.name) name g.locals ≡ Some f → Has g (e.Var name) local f.ty
+    local_variable : {name : Name} {f : Field} → named (λ f. f.name) name g.locals ≡ Some f
+        → Has g (e.Var name) local f.ty
     global_variable : {name : Name} {x : GlobalDef}
-        → named (λ f. f.name) name g.locals ≡ None → named (λ x. x.name) name g.globals ≡ Some x → Has g (e.Var name) place x.ty
+        → named (λ f. f.name) name g.locals ≡ None → named (λ x. x.name) name g.globals ≡ Some x
+        → Has g (e.Var name) place x.ty
     of_local : {x : Expr} {a : CType} → Has g x local a → Has g x value a
     of_int : {x : Expr} → Has g x place type.Int → Has g x value type.Int
     of_pointer : {x : Expr} (a : CType) → Has g x place (type.Ptr a) → Has g x value (type.Ptr a)
-    of_array : {x : Expr} (a : CType) (n : ℕ) → Has g x place (type.Array a n) → element a ≡ None → Has g x value (type.Ptr a)
+    of_array : {x : Expr} (a : CType) (n : ℕ) → Has g x place (type.Array a n) → element a ≡ None
+        → Has g x value (type.Ptr a)
     negative : {x : Expr} → Has g x value type.Int → Has g (e.Unary Neg x) value type.Int
     complement : {x : Expr} → Has g x value type.Int → Has g (e.Unary BitNot x) value type.Int
     negation : {x : Expr} → Condition g x → Has g (e.Unary Not x) value type.Int
-    binary : {op : BinOp} {x y : Expr} → Has g x value type.Int → Has g y value type.Int → Has g (e.Binary op x y) value type.Int
-    equal : {x y : Expr} (a : CType) → Fits g x (type.Ptr a) → Fits g y (type.Ptr a) → Has g (e.Binary Eq x y) value type.Int
-    unequal : {x y : Expr} (a : CType) → Fits g x (type.Ptr a) → Fits g y (type.Ptr a) → Has g (e.Binary Ne x y) value type.Int
+    binary : {op : BinOp} {x y : Expr} → Has g x value type.Int → Has g y value type.Int
+        → Has g (e.Binary op x y) value type.Int
+    equal : {x y : Expr} (a : CType) → Fits g x (type.Ptr a) → Fits g y (type.Ptr a)
+        → Has g (e.Binary Eq x y) value type.Int
+    unequal : {x y : Expr} (a : CType) → Fits g x (type.Ptr a) → Fits g y (type.Ptr a)
+        → Has g (e.Binary Ne x y) value type.Int
     both : {x y : Expr} → Condition g x → Condition g y → Has g (e.And x y) value type.Int
     either : {x y : Expr} → Condition g x → Condition g y → Has g (e.Or x y) value type.Int
-    of_elements : {x i : Expr} {a : CType} (n : ℕ) → Has g x place (type.Array a n) → Has g i value type.Int → Has g (e.Index x i) place a
-    of_pointed : {x i : Expr} {a : CType} → Has g x value (type.Ptr a) → Has g i value type.Int → Has g (e.Index x i) place a
-    field : {x : Expr} (name : Name) {member : Name} {a : CType} → Has g x place (type.Struct name) → HasField g name member a → Has g (e.Dot x member) place a
+    of_elements : {x i : Expr} {a : CType} (n : ℕ) → Has g x place (type.Array a n) → Has g i value type.Int
+        → Has g (e.Index x i) place a
+    of_pointed : {x i : Expr} {a : CType} → Has g x value (type.Ptr a) → Has g i value type.Int
+        → Has g (e.Index x i) place a
+    field : {x : Expr} (name : Name) {member : Name} {a : CType} → Has g x place (type.Struct name)
+        → HasField g name member a → Has g (e.Dot x member) place a
     field_behind : {x : Expr} (name : Name) {member : Name} {a : CType}
         → Has g x value (type.Ptr (type.Struct name)) → HasField g name member a → Has g (e.Arrow x member) place a
     followed : {x : Expr} {a : CType} → Has g x value (type.Ptr a) → Has g (e.Deref x) place a
     address : {x : Expr} {a : CType} → Has g x place a → element a ≡ None → Has g (e.Address x) value (type.Ptr a)
     call : {name : Name} {xs : List Expr} {f : Func}
-        → IsNoVariable g name → named (λ f. f.name) name g.funcs ≡ Some f → FitAll g xs f.params → Has g (e.Call name xs) value f.result
+        → IsNoVariable g name → named (λ f. f.name) name g.funcs ≡ Some f → FitAll g xs f.params
+        → Has g (e.Call name xs) value f.result
     call_input : {name : Name} {x : Expr}
-        → IsNoVariable g name → IsBuiltIn g name Input → Has g x value type.Int → Has g (e.Call name (x ∷ [])) value type.Int
+        → IsNoVariable g name → IsBuiltIn g name Input → Has g x value type.Int
+        → Has g (e.Call name (x ∷ [])) value type.Int
     call_inputs : {name : Name} → IsNoVariable g name → IsBuiltIn g name Inputs → Has g (e.Call name []) value type.Int
     call_choose : {name : Name} {op : RedOp} {x y : Expr}
         → IsNoVariable g name → IsBuiltIn g name (Choose op) → Has g x value type.Int → Has g y value type.Int
         → Has g (e.Call name (x ∷ y ∷ [])) value type.Int
     size : {a : CType} → Sized (is_known g) a → Has g (e.SizeOf a) value type.Int
-    allocation : {x : Expr} {a : CType} → Has g x value type.Int → Sized (is_known g) a → Has g (e.Calloc x a) value (type.Ptr a)
+    allocation : {x : Expr} {a : CType} → Has g x value type.Int → Sized (is_known g) a
+        → Has g (e.Calloc x a) value (type.Ptr a)
 
   -- a value that may stand where one of this type is wanted: `NULL` and the literal 0 fit every pointer type
   pub data Fits (g : Names) : Expr → CType → Type 0 where
@@ -132,4 +144,5 @@ mutual
   -- as many arguments as parameters, and each fits its type
   pub data FitAll (g : Names) : List Expr → List Field → Type 0 where
     none : FitAll g [] []
-    more : {x : Expr} {xs : List Expr} {f : Field} {fs : List Field} → Fits g x f.ty → FitAll g xs fs → FitAll g (x ∷ xs) (f ∷ fs)
+    more : {x : Expr} {xs : List Expr} {f : Field} {fs : List Field} → Fits g x f.ty → FitAll g xs fs
+        → FitAll g (x ∷ xs) (f ∷ fs)

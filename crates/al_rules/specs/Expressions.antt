@@ -1,5 +1,6 @@
 -- What an expression is, or its first fault: its parts from left to right, and then the whole.
-use Rattle.std.specs.Prelude.{◌*◌, List, Ok, pos}
+use Rattle.std.specs.Prelude.{◌*◌, if◌then◌else◌, List, Ok, pos}
+use Rattle.al_source.specs.declared.limits.TheConstants.{WORD_BYTES}
 use Rattle.al_source.specs.declared.source_tree.CType.{CType}
 use Rattle.al_source.specs.declared.source_tree.CType.TheVariants as type
 use Rattle.al_source.specs.declared.source_tree.Expr.{Expr, fold-Expr}
@@ -11,8 +12,8 @@ use Rattle.al_rules.specs.declared.operands.Operand.{Operand}
 use Rattle.al_rules.specs.declared.operands.Operand.TheVariants.{Literal, Null, Value}
 use Rattle.al_rules.specs.Names.{Name}
 use Rattle.al_rules.specs.Types.{type_checked, is_sized}
-use Rattle.al_rules.specs.Scopes.{Binding, Known, is_struct, size, variable_named, callee_named}
-use Rattle.al_rules.specs.Operands.{integer, unary, binary, of_scalars, of_variable, indexed, member, member_behind, followed, address, called}
+use Rattle.al_rules.specs.Scopes.{Binding, Known, is_struct, size, variable_named, callee_named, frees}
+use Rattle.al_rules.specs.Operands.{integer, unary, binary, of_scalars, of_variable, indexed, member, member_behind, followed, address, called, freed}
 use Rattle.al_rules.specs.Checks.{Checked, ◌>>=◌, ◌>>◌, all, each, some_or}
 
 module _ (known : Known) (scope : List Binding) where
@@ -23,6 +24,11 @@ module _ (known : Known) (scope : List Binding) where
   -- The arguments come before the name.
   abbrev pub call : Name → Checked (List Operand) → Checked (CType × TExpr)
   call name args = args >>= (λ xs. callee_named known scope name >>= (λ f. called f xs))
+
+  -- a call as a statement
+  abbrev pub call_alone : Name → Checked (List Operand) → Checked TExpr
+  call_alone name args =
+      if frees known scope name then args >>= freed else call name args >>= (λ c. Ok c.1)
 
   abbrev pub expr_case : Expr-F (Checked Operand) → Checked Operand
   expr_case (Expr-F.Number n) = Ok (Literal n)
@@ -38,8 +44,9 @@ module _ (known : Known) (scope : List Binding) where
   expr_case (Expr-F.Deref x) = x >>= followed
   expr_case (Expr-F.Address x) = x >>= address
   expr_case (Expr-F.Call name xs) = call name (all xs) >>= (λ c. Ok (Value c.0 c.1))
-  expr_case (Expr-F.SizeOf a) = sized a >> Ok (Value type.Int (e.Number (pos (8 * size known a))))
-  expr_case (Expr-F.Calloc x a) = x >>= integer >>= (λ n. sized a >> Ok (Value (type.Ptr a) (e.Calloc n (size known a))))
+  expr_case (Expr-F.SizeOf a) = sized a >> Ok (Value type.Int (e.Number (pos (WORD_BYTES * size known a))))
+  expr_case (Expr-F.Calloc x a) =
+      x >>= integer >>= (λ n. sized a >> Ok (Value (type.Ptr a) (e.Calloc n (size known a))))
 
   unfoldable pub operand : Expr → Checked Operand
   operand = fold-Expr (Checked Operand) expr_case

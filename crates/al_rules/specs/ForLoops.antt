@@ -1,5 +1,5 @@
--- The annotated loops of a typed tree, in source order, and the form that each must have.
-use Rattle.std.specs.Prelude.{ℕ, ◌==◌, Bool, true, false, not, ◌&&◌, if◌then◌else◌, List, [], ◌∷◌, ◌++◌, Option, Some, None, option_and_then, slice_get, pos}
+-- The form that an annotated loop must have.
+use Rattle.std.specs.Prelude.{ℕ, ◌==◌, Bool, true, false, not, ◌&&◌, if◌then◌else◌, List, Option, Some, None, option_and_then, slice_get, pos}
 use Rattle.std.specs.Ordering.{int_eq}
 use Rattle.al_source.specs.declared.operators.BinOp.TheVariants.{Add, Lt}
 use Rattle.al_core.specs.declared.choices.Bound.{Bound}
@@ -9,65 +9,11 @@ use Rattle.al_core.specs.declared.values.Kind.TheVariants as kind
 use Rattle.al_core.specs.declared.typed_tree.TExpr.{TExpr, out-TExpr}
 use Rattle.al_core.specs.declared.typed_tree.TPlace.{TPlace}
 use Rattle.al_core.specs.declared.typed_tree.TExpr.TheOpen.{TExpr-F}
-use Rattle.al_core.specs.declared.typed_tree.TStmt.{TStmt, para-TStmt, out-TStmt}
-use Rattle.al_core.specs.declared.typed_tree.TKind.{TKind, para-TKind, out-TKind}
+use Rattle.al_core.specs.declared.typed_tree.TStmt.{TStmt, out-TStmt}
+use Rattle.al_core.specs.declared.typed_tree.TKind.{TKind, out-TKind}
 use Rattle.al_core.specs.declared.typed_tree.TKind.TheOpen.{TKind-F}
 use Rattle.al_core.specs.declared.typed_tree.TLocal.{TLocal}
-
--- ---- the loops in a statement
-
--- an annotated loop where it stands: its number and its parts
-pub record ForLoop : Type 0 where
-  pub number : ℕ
-  pub first : Option TStmt
-  pub test : Option TExpr
-  pub third : Option TStmt
-  pub body : TStmt
-
--- a statement, and the annotated loops in it
-abbrev pub Seen : Type 0
-Seen = TStmt × List ForLoop
-
-abbrev pub SeenKind : Type 0
-SeenKind = TKind × List ForLoop
-
-abbrev pub all_loops : List Seen → List ForLoop
-all_loops [] = []
-all_loops (s ∷ ss) = s.1 ++ all_loops ss
-
-abbrev pub any_loops : Option Seen → List ForLoop
-any_loops (Some s) = s.1
-any_loops None = []
-
-abbrev pub any_stmt : Option Seen → Option TStmt
-any_stmt (Some s) = Some s.0
-any_stmt None = None
-
-abbrev pub this_loop : Option Seen → Option TExpr → Option Seen → Seen → Option ℕ → List ForLoop
-this_loop first test third body None = []
-this_loop first test third body (Some n) =
-    record { number = n; first = any_stmt first; test = test; third = any_stmt third; body = body.0 } ∷ []
-
--- A loop comes before those within it.
-abbrev pub loops_here : TKind-F SeenKind Seen → List ForLoop
-loops_here (TKind-F.If e a b) = a.1 ++ any_loops b
-loops_here (TKind-F.While e a) = a.1
-loops_here (TKind-F.For first test third body number) =
-    this_loop first test third body number ++ any_loops first ++ any_loops third ++ body.1
-loops_here (TKind-F.Block ss) = all_loops ss
-loops_here _ = []
-
-unfoldable pub for_loops : TStmt → List ForLoop
-for_loops = para-TStmt (List ForLoop) (List ForLoop) loops_here (λ s. s.kind.1)
-
-unfoldable pub for_loops_of : TKind → List ForLoop
-for_loops_of = para-TKind (List ForLoop) (List ForLoop) loops_here (λ s. s.kind.1)
-
-abbrev pub for_loops_in : List TStmt → List ForLoop
-for_loops_in [] = []
-for_loops_in (s ∷ ss) = for_loops s ++ for_loops_in ss
-
--- ---- the form of a loop
+use Rattle.al_core.specs.Loops.{ForLoop}
 
 abbrev pub is_kind : Kind → Bool
 is_kind kind.Int = true
@@ -92,7 +38,8 @@ counter_of locals (Some s) = counter_in locals (out-TKind (out-TStmt s).kind)
 
 abbrev pub bound_in : List TLocal → ℕ → TExpr-F TExpr TPlace → Option Bound
 bound_in locals counter (TExpr-F.Number n) = Some (bound.Number n)
-bound_in locals counter (TExpr-F.Local n) = if is_integer locals n && not (n == counter) then Some (bound.Local n) else None
+bound_in locals counter (TExpr-F.Local n) =
+    if is_integer locals n && not (n == counter) then Some (bound.Local n) else None
 bound_in locals counter _ = None
 
 abbrev pub is_local : ℕ → TExpr-F TExpr TPlace → Bool
@@ -100,7 +47,8 @@ is_local n (TExpr-F.Local m) = m == n
 is_local n _ = false
 
 abbrev pub bound_by : List TLocal → ℕ → TExpr-F TExpr TPlace → Option Bound
-bound_by locals counter (TExpr-F.Binary Lt a b) = if is_local counter (out-TExpr a) then bound_in locals counter (out-TExpr b) else None
+bound_by locals counter (TExpr-F.Binary Lt a b) =
+    if is_local counter (out-TExpr a) then bound_in locals counter (out-TExpr b) else None
 bound_by locals counter _ = None
 
 -- the test is that the counter is less than a number or another integer local, the bound
@@ -121,8 +69,11 @@ abbrev pub counts : ℕ → Option TStmt → Bool
 counts counter None = false
 counts counter (Some s) = counts_in counter (out-TKind (out-TStmt s).kind)
 
--- a loop of the form that is wanted: its counter and its bound
+abbrev pub form_by : List TLocal → ForLoop → ℕ → Option (ℕ × Bound)
+form_by locals l counter =
+    option_and_then (λ bound. if counts counter l.third then Some (counter, bound) else None)
+    (bound_of locals counter l.test)
+
+-- a loop of the form that is wanted, among these locals: its counter and its bound
 abbrev pub form_of : List TLocal → ForLoop → Option (ℕ × Bound)
-form_of locals l =
-    option_and_then (λ counter. option_and_then (λ bound. if counts counter l.third then Some (counter, bound) else None) (bound_of locals counter l.test))
-    (counter_of locals l.first)
+form_of locals l = option_and_then (form_by locals l) (counter_of locals l.first)

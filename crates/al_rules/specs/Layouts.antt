@@ -2,6 +2,7 @@
 use Rattle.std.specs.Prelude.{ℕ, ◌+◌, ◌*◌, Bool, false, if◌then◌else◌, nat_lt, List, [], ◌∷◌, ◌++◌, Option, Some, None, Result, Ok, Err}
 use Rattle.std.specs.List.{find, list_any, sum}
 use Rattle.std.specs.Str.{bytes_eq}
+use Rattle.al_source.specs.declared.limits.TheConstants.{OBJECT_WORDS}
 use Rattle.al_source.specs.declared.source_tree.CType.{CType, fold-CType}
 use Rattle.al_source.specs.declared.source_tree.CType.TheOpen.{CType-F}
 use Rattle.al_source.specs.declared.source_tree.Field.{Field}
@@ -21,7 +22,8 @@ abbrev pub words_or_none : Option StructLayout → ℕ
 words_or_none (Some s) = s.words
 words_or_none None = 0
 
--- A word holds an integer or a pointer. A struct that is not known, and `void`, have none. Of two structs of one name the first counts.
+-- A word holds an integer or a pointer. A struct that is not known, and `void`, have none. Of two structs of one name
+-- the first counts.
 abbrev pub words_case : List StructLayout → CType-F ℕ → ℕ
 words_case known CType-F.Int = 1
 words_case known CType-F.Void = 0
@@ -46,7 +48,11 @@ words_of_fields known (f ∷ fs) = words_of known f.ty + words_of_fields known f
 
 -- a struct's fields lie in order without gaps
 abbrev pub struct_layout : List StructLayout → StructDef → StructLayout
-struct_layout known s = record { name = s.name; words = words_of_fields known s.fields; offsets = offsets_from known 0 s.fields }
+struct_layout known s = record {
+  name = s.name;
+  words = words_of_fields known s.fields;
+  offsets = offsets_from known 0 s.fields;
+}
 
 -- a type holds a struct of this name by value
 abbrev pub holds_case : Name → CType-F Bool → Bool
@@ -78,16 +84,15 @@ sizes p = with_items no_layout p.items
 
 -- ---- faults
 
-abbrev pub most_words : ℕ
-most_words = 4194304
-
 abbrev pub too_large : ℕ → ℕ → Option LayoutFault
-too_large words line = if nat_lt most_words words then Some (TooLarge line) else None
+too_large words line = if nat_lt OBJECT_WORDS words then Some (TooLarge line) else None
 
--- an item's fault behind the items before it: a struct holds itself, by name, or is too large; or the globals so far are
+-- an item's fault behind the items before it: a struct holds itself, by name, or is too large; or the globals so far
+-- are
 abbrev pub layout_fault_at : Layout → Item → Option LayoutFault
 layout_fault_at l (item.Struct s) =
-    if list_any (λ f. holds s.name f.ty) s.fields then Some (SelfHolding s.line) else too_large (words_of_fields l.structs s.fields) s.line
+    if list_any (λ f. holds s.name f.ty) s.fields then Some (SelfHolding s.line)
+    else too_large (words_of_fields l.structs s.fields) s.line
 layout_fault_at l (item.Global g) = too_large (sum l.globals + words_of l.structs g.ty) g.line
 layout_fault_at l (item.Func f) = None
 

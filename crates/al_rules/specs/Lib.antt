@@ -1,4 +1,5 @@
 pub mod Names
+pub mod Faults
 pub mod Layouts
 pub mod Checks
 pub mod Types

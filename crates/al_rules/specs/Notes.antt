@@ -1,25 +1,25 @@
--- The entries of a program's annotated loops, or its first note fault: loops in source order, and for each the kinds of fault in their order.
-use Rattle.std.specs.Prelude.{ℕ, Bool, false, ◌||◌, if◌then◌else◌, List, [], ◌∷◌, ◌++◌, Option, Some, None, Result, Ok, Err, slice_get}
+-- The entries of a program's annotated loops, or its first note fault: loops in source order, and for each the kinds of
+-- fault in their order.
+use Rattle.std.specs.Prelude.{ℕ, ◌+◌, Bool, false, ◌||◌, if◌then◌else◌, List, [], ◌∷◌, Option, Some, None, Result, Ok, Err}
 use Rattle.std.specs.List.{list_any}
+use Rattle.al_source.specs.Steps.{and_then}
 use Rattle.al_core.specs.declared.choices.Bound.{Bound}
 use Rattle.al_core.specs.declared.choices.LoopInfo.{LoopInfo}
 use Rattle.al_core.specs.declared.choices.Red.{Red}
 use Rattle.al_core.specs.declared.typed_tree.TStmt.{TStmt}
-use Rattle.al_core.specs.declared.typed_tree.TFunc.{TFunc}
-use Rattle.al_core.specs.declared.typed_tree.TLocal.{TLocal}
 use Rattle.al_core.specs.declared.typed_tree.TNote.{TNote}
 use Rattle.al_core.specs.declared.typed_tree.Typed.{Typed}
 use Rattle.al_core.specs.declared.values.Addr.TheVariants.{Local}
 use Rattle.al_core.specs.declared.values.Addr.{Addr}
 use Rattle.al_core.specs.Orders.{addr_eq}
 use Rattle.al_core.specs.Accepted.{is_local, is_bound}
+use Rattle.al_core.specs.Loops.{PlacedLoop, program_loops}
 use Rattle.al_rules.specs.declared.faults.NoteKind.{NoteKind}
 use Rattle.al_rules.specs.declared.faults.NoteKind.TheVariants.{Form, IndexChanges, BoundChanges, Leaves, ReductionName, ReductionAddress, ReductionUsed}
 use Rattle.al_rules.specs.declared.faults.NoteFault.{NoteFault}
 use Rattle.al_rules.specs.declared.faults.NoteFault.TheVariants.{At}
-use Rattle.al_rules.specs.Checks.{and_then}
 use Rattle.al_rules.specs.Layouts.{fault_of}
-use Rattle.al_rules.specs.ForLoops.{ForLoop, for_loops_in, form_of}
+use Rattle.al_rules.specs.ForLoops.{form_of}
 use Rattle.al_rules.specs.Bodies.{assigns, assigns_bound, has_return, has_break, is_taken, is_misused}
 
 -- ---- the reductions of an annotation
@@ -53,42 +53,41 @@ wrong_in typed info body = first_kind (
     ∷ (list_any (λ r. is_misused typed body r.op r.at) info.own.reds, ReductionUsed)
     ∷ [])
 
+-- the entry of the loop of this number, which has this counter and bound
 abbrev pub info_of : ℕ → TNote → ℕ × Bound → LoopInfo
-info_of number note form = record { number = number; func = note.func; line = note.line; counter = form.0; bound = form.1; first = note.first; last = note.last; own = note.own }
+info_of n note form = record {
+  number = n;
+  func = note.func;
+  line = note.line;
+  counter = form.0;
+  bound = form.1;
+  first = note.first;
+  last = note.last;
+  own = note.own;
+}
 
-abbrev pub unless_wrong : ℕ → LoopInfo → Option NoteKind → Result LoopInfo NoteFault
-unless_wrong line info None = Ok info
-unless_wrong line info (Some kind) = Err (At kind line)
+abbrev pub unless_wrong : LoopInfo → Option NoteKind → Result LoopInfo NoteFault
+unless_wrong info None = Ok info
+unless_wrong info (Some kind) = Err (At kind info.line)
 
-abbrev pub formed : Typed → ForLoop → TNote → Option (ℕ × Bound) → Result LoopInfo NoteFault
-formed typed l note None = Err (At Form note.line)
-formed typed l note (Some form) = unless_wrong note.line (info_of l.number note form) (wrong_in typed (info_of l.number note form) l.body)
+abbrev pub formed : Typed → TStmt → ℕ → TNote → Option (ℕ × Bound) → Result LoopInfo NoteFault
+formed typed body n note None = Err (At Form note.line)
+formed typed body n note (Some form) = unless_wrong (info_of n note form) (wrong_in typed (info_of n note form) body)
 
--- the entry of a loop among these locals
-abbrev pub entry_of : Typed → List TLocal → ForLoop → TNote → Result LoopInfo NoteFault
-entry_of typed locals l note = formed typed l note (form_of locals l)
+-- the entry of the loop of this number, with its note
+abbrev pub entry_of : Typed → ℕ → PlacedLoop → TNote → Result LoopInfo NoteFault
+entry_of typed n l note = formed typed l.loop.body n note (form_of l.func.locals l.loop)
 
 -- ---- all loops
 
-abbrev pub with_entry : Result LoopInfo NoteFault → Result (List LoopInfo) NoteFault → Result (List LoopInfo) NoteFault
-with_entry (Err fault) rest = Err fault
-with_entry (Ok info) rest = and_then rest (λ infos. Ok (info ∷ infos))
-
--- a loop that the tree has no entry for has none here; in the tree of a program every loop has one
-abbrev pub entries_by : Typed → List TLocal → ForLoop → Option TNote → Result (List LoopInfo) NoteFault → Result (List LoopInfo) NoteFault
-entries_by typed locals l None rest = rest
-entries_by typed locals l (Some note) rest = with_entry (entry_of typed locals l note) rest
-
-abbrev pub entries : Typed → List TLocal → List ForLoop → Result (List LoopInfo) NoteFault
-entries typed locals [] = Ok []
-entries typed locals (l ∷ ls) = entries_by typed locals l (slice_get typed.loops l.number) (entries typed locals ls)
-
-abbrev pub entries_in : Typed → List TFunc → Result (List LoopInfo) NoteFault
-entries_in typed [] = Ok []
-entries_in typed (f ∷ fs) = and_then (entries typed f.locals (for_loops_in f.body)) (λ here. and_then (entries_in typed fs) (λ rest. Ok (here ++ rest)))
+-- loops from this number on, each with the note at its place
+abbrev pub entries : Typed → ℕ → List PlacedLoop → List TNote → Result (List LoopInfo) NoteFault
+entries typed n (l ∷ ls) (note ∷ notes) =
+    and_then (entry_of typed n l note) (λ info. and_then (entries typed (n + 1) ls notes) (λ infos. Ok (info ∷ infos)))
+entries typed n _ _ = Ok []
 
 unfoldable pub notes_of : Typed → Result (List LoopInfo) NoteFault
-notes_of typed = entries_in typed typed.funcs
+notes_of typed = entries typed 0 (program_loops typed) typed.loops
 
 abbrev pub note_fault : Typed → Option NoteFault
 note_fault typed = fault_of (notes_of typed)

@@ -115,7 +115,8 @@ are_one_type None b = true
 
 abbrev pub of_pointers : Bool → Operand → Operand → Checked Operand
 of_pointers equal x y =
-    pointer x >>= (λ a. pointer y >>= (λ b. ensure (are_one_type a.0 b.0) Mismatch >> Ok (number (e.Same equal a.1 b.1))))
+    pointer x >>= (λ a. pointer y >>= (λ b.
+    ensure (are_one_type a.0 b.0) Mismatch >> Ok (number (e.Same equal a.1 b.1))))
 
 -- `==` and `!=` compare two integers, or two pointers of one type
 unfoldable pub binary : BinOp → Operand → Operand → Checked Operand
@@ -151,7 +152,8 @@ indexed known x i = indexed_by known (array_in x) x i
 
 abbrev pub field_place : Known → CType → TPlace → Name → Checked Operand
 field_place known a q field =
-    some_or (struct_name a) Mismatch >>= (λ name. some_or (field_of known name field) Unknown >>= (λ f. Ok (Place f.0 (p.Plus q f.1))))
+    some_or (struct_name a) Mismatch >>= (λ name.
+    some_or (field_of known name field) Unknown >>= (λ f. Ok (Place f.0 (p.Plus q f.1))))
 
 -- a field of a place
 unfoldable pub member : Known → Operand → Name → Checked Operand
@@ -180,10 +182,16 @@ fitting_all (f ∷ fs) (x ∷ xs) = fitting f.ty x >>= (λ a. fitting_all fs xs 
 
 -- the type and the term of a call
 unfoldable pub called : Callee → List Operand → Checked (CType × TExpr)
-called (Function k f) xs = ensure (length xs == length f.params) Count >> fitting_all f.params xs >>= (λ args. Ok (f.result, e.Call k args))
+called (Function k f) xs =
+    ensure (length xs == length f.params) Count >> fitting_all f.params xs >>= (λ args. Ok (f.result, e.Call k args))
 called Input (x ∷ []) = integer x >>= (λ a. Ok (type.Int, e.Input a))
 called Input _ = Err Count
 called Inputs [] = Ok (type.Int, e.Inputs)
 called Inputs _ = Err Count
 called (Choose op) (x ∷ y ∷ []) = integer x >>= (λ a. integer y >>= (λ b. Ok (type.Int, e.Choose op a b)))
 called (Choose op) _ = Err Count
+
+-- a statement that frees what a pointer leads to
+unfoldable pub freed : List Operand → Checked TExpr
+freed (x ∷ []) = pointer x >>= (λ a. Ok (e.Free a.1))
+freed _ = Err Count

@@ -1,6 +1,8 @@
--- The typed tree of a program, or its first type fault: the names and types of all items, then `main`, then the bodies of the functions.
+-- The typed tree of a program, or its first type fault: the names and types of all items, then `main`, then the bodies
+-- of the functions.
 use Rattle.std.specs.Prelude.{◌≡◌, ℕ, ◌+◌, Bool, true, false, not, ◌&&◌, ◌||◌, if◌then◌else◌, List, [], ◌∷◌, ◌++◌, length, codes, Option, Some, None, is_some, Result, Ok, Err, slice_get, ℤ, pos}
 use Rattle.std.specs.Ordering.{int_eq}
+use Rattle.al_source.specs.Steps.{and_then}
 use Rattle.al_source.specs.declared.source_tree.CType.{CType}
 use Rattle.al_source.specs.declared.source_tree.Start.{Start}
 use Rattle.al_source.specs.declared.source_tree.Start.TheVariants as start
@@ -22,7 +24,7 @@ use Rattle.al_rules.specs.declared.faults.TypeFault.{TypeFault}
 use Rattle.al_rules.specs.declared.faults.TypeFault.TheVariants.{At}
 use Rattle.al_rules.specs.Names.{Name, place_named, any_named}
 use Rattle.al_rules.specs.Layouts.{sizes, layout_fault, fault_of}
-use Rattle.al_rules.specs.Checks.{Checked, and_then, ensure, ◌>>◌}
+use Rattle.al_rules.specs.Checks.{Checked, ensure, ◌>>◌}
 use Rattle.al_rules.specs.Types.{is_int, pointee, kind_of, type_checked, is_held, is_scalar, is_result, Form}
 use Rattle.al_rules.specs.Scopes.{Known, structs_in, globals_in, funcs_in, known_of, built_in, is_struct, size, no_scope, with_binding}
 use Rattle.al_rules.specs.Walks.{Progress, at_line, local_of}
@@ -30,22 +32,28 @@ use Rattle.al_rules.specs.Statements.{statements}
 
 -- ---- items
 
--- The forms of items that no tokens derive and that are `Shape`: a struct without fields, and a type that is malformed or stands where its form may not.
+-- The forms of items that no tokens derive and that are `Shape`: a struct without fields, and a type that is
+-- malformed or stands where its form may not.
 
--- In the types of items a struct by value is known where an earlier item defines it, and one behind a pointer where any item does.
+-- In the types of items a struct by value is known where an earlier item defines it, and one behind a pointer where any
+-- item does.
 abbrev pub item_type : List Item → List Item → (Form → Bool) → CType → Checked (Unit {0})
-item_type items before allowed a = type_checked (is_struct (structs_in before)) (is_struct (structs_in items)) allowed a
+item_type items before = type_checked (is_struct (structs_in before)) (is_struct (structs_in items))
 
 -- each name is new among those before it, and then its type is looked at
 abbrev pub fields_checked : List Item → List Item → (Form → Bool) → List Field → List Field → Checked (Unit {0})
 fields_checked items before allowed earlier [] = Ok tt
 fields_checked items before allowed earlier (f ∷ fs) =
-    ensure (not (any_named (λ g. g.name) f.name earlier)) Twice >> item_type items before allowed f.ty >> fields_checked items before allowed (earlier ++ f ∷ []) fs
+    ensure (not (any_named (λ g. g.name) f.name earlier)) Twice
+    >> item_type items before allowed f.ty
+    >> fields_checked items before allowed (earlier ++ f ∷ []) fs
 
 -- a global or function has the name, or it is built in
 abbrev pub is_taken : List Item → Name → Bool
 is_taken before name =
-    is_some (built_in name) || any_named (λ g. g.name) name (globals_in before) || any_named (λ f. f.name) name (funcs_in before)
+    is_some (built_in name)
+    || any_named (λ g. g.name) name (globals_in before)
+    || any_named (λ f. f.name) name (funcs_in before)
 
 -- a number starts an integer, and null a pointer; the number 0 is null too
 abbrev pub may_start : Start → CType → Bool
@@ -59,15 +67,21 @@ is_empty (a ∷ as') = false
 
 abbrev pub struct_checked : List Item → List Item → StructDef → Checked (Unit {0})
 struct_checked items before s =
-    ensure (not (is_struct (structs_in before) s.name)) Twice >> ensure (not (is_empty s.fields)) Shape >> fields_checked items before is_held [] s.fields
+    ensure (not (is_struct (structs_in before) s.name)) Twice
+    >> ensure (not (is_empty s.fields)) Shape
+    >> fields_checked items before is_held [] s.fields
 
 abbrev pub global_checked : List Item → List Item → GlobalDef → Checked (Unit {0})
 global_checked items before g =
-    ensure (not (is_taken before g.name)) Twice >> item_type items before is_held g.ty >> ensure (may_start g.start g.ty) Mismatch
+    ensure (not (is_taken before g.name)) Twice
+    >> item_type items before is_held g.ty
+    >> ensure (may_start g.start g.ty) Mismatch
 
 abbrev pub func_checked : List Item → List Item → Func → Checked (Unit {0})
 func_checked items before f =
-    ensure (not (is_taken before f.name)) Twice >> item_type items before is_result f.result >> fields_checked items before is_scalar [] f.params
+    ensure (not (is_taken before f.name)) Twice
+    >> item_type items before is_result f.result
+    >> fields_checked items before is_scalar [] f.params
 
 -- an item behind the items before it
 abbrev pub item_checked : List Item → List Item → Item → Result (Unit {0}) TypeFault
@@ -77,7 +91,8 @@ item_checked items before (item.Func f) = at_line f.line (func_checked items bef
 
 abbrev pub items_checked : List Item → List Item → List Item → Result (Unit {0}) TypeFault
 items_checked items before [] = Ok tt
-items_checked items before (i ∷ is) = and_then (item_checked items before i) (λ _. items_checked items (before ++ i ∷ []) is)
+items_checked items before (i ∷ is) =
+    and_then (item_checked items before i) (λ _. items_checked items (before ++ i ∷ []) is)
 
 -- ---- main
 
@@ -116,7 +131,8 @@ func_typed known n f loops =
 abbrev pub funcs_typed : Known → ℕ → List Func → List TNote → Result (List TFunc × List TNote) TypeFault
 funcs_typed known n [] loops = Ok ([], loops)
 funcs_typed known n (f ∷ fs) loops =
-    and_then (func_typed known n f loops) (λ t. and_then (funcs_typed known (n + 1) fs t.1) (λ ts. Ok (t.0 ∷ ts.0, ts.1)))
+    and_then (func_typed known n f loops) (λ t.
+    and_then (funcs_typed known (n + 1) fs t.1) (λ ts. Ok (t.0 ∷ ts.0, ts.1)))
 
 -- ---- the whole
 
@@ -126,7 +142,12 @@ start_of (start.Number n) = n
 start_of start.Null = pos 0
 
 abbrev pub global_typed : Known → GlobalDef → TGlobal
-global_typed known g = record { name = g.name; words = size known g.ty; scalar = kind_of g.ty; start = start_of g.start }
+global_typed known g = record {
+  name = g.name;
+  words = size known g.ty;
+  scalar = kind_of g.ty;
+  start = start_of g.start;
+}
 
 abbrev pub globals_typed : Known → List GlobalDef → List TGlobal
 globals_typed known [] = []

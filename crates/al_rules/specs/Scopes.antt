@@ -1,5 +1,5 @@
 -- What names mean: the locals in scope, and the structs, globals and functions of a program.
-use Rattle.std.specs.Prelude.{ℕ, Bool, if◌then◌else◌, List, [], ◌∷◌, ◌++◌, codes, Option, Some, None, option_map, option_and_then, Err, slice_get, slice_index}
+use Rattle.std.specs.Prelude.{ℕ, Bool, ◌&&◌, if◌then◌else◌, List, [], ◌∷◌, ◌++◌, codes, Option, Some, None, is_none, option_map, option_and_then, Err, slice_get, slice_index}
 use Rattle.std.specs.List.{find}
 use Rattle.std.specs.Str.{bytes_eq}
 use Rattle.al_source.specs.declared.operators.RedOp.{RedOp}
@@ -99,7 +99,8 @@ field_in field l s = option_and_then (field_at s l) (place_named (λ f. f.name) 
 -- a field of the struct of this name
 abbrev pub field_of : Known → Name → Name → Option (CType × ℕ)
 field_of known name field =
-    option_and_then (field_in field (find (λ l. bytes_eq l.name name) known.layout.structs)) (find (λ s. bytes_eq s.name name) known.structs)
+    option_and_then (field_in field (find (λ l. bytes_eq l.name name) known.layout.structs))
+    (find (λ s. bytes_eq s.name name) known.structs)
 
 -- ---- variables and functions
 
@@ -142,6 +143,14 @@ function_named name fs =
 abbrev pub callee_by : Known → Name → Option Variable → Checked Callee
 callee_by known name (Some v) = Err Mismatch
 callee_by known name None = some_or (first_some (function_named name known.funcs) (built_in name)) Unknown
+
+-- A call of this name is no expression. As a statement it frees an object, where nothing else has the name.
+abbrev pub is_free : Name → Bool
+is_free name = bytes_eq name (codes "free")
+
+abbrev pub frees : Known → List Binding → Name → Bool
+frees known scope name =
+    is_free name && is_none (variable_named known scope name) && is_none (function_named name known.funcs)
 
 -- a variable may not be called
 abbrev pub callee_named : Known → List Binding → Name → Checked Callee

@@ -1,5 +1,6 @@
 -- The typed statement of a statement, or its first fault.
 use Rattle.std.specs.Prelude.{ℕ, ◌==◌, Bool, true, false, not, if◌then◌else◌, List, [], ◌∷◌, length, Option, Some, None, is_none, Ok, Err, pos, count_by}
+use Rattle.al_source.specs.Steps.{and_then}
 use Rattle.al_source.specs.declared.annotations.LoopNote.{LoopNote}
 use Rattle.al_source.specs.declared.annotations.NamedRed.{NamedRed}
 use Rattle.al_source.specs.declared.operators.BinOp.{BinOp}
@@ -17,6 +18,7 @@ use Rattle.al_core.specs.declared.choices.Red.{Red}
 use Rattle.al_core.specs.declared.values.Obj.TheVariants as obj
 use Rattle.al_core.specs.declared.values.Addr.{Addr}
 use Rattle.al_core.specs.declared.values.Addr.TheVariants as addr
+use Rattle.al_core.specs.Lines.{by_words}
 use Rattle.al_core.specs.declared.typed_tree.TExpr.{TExpr}
 use Rattle.al_core.specs.declared.typed_tree.TExpr.TheVariants as e
 use Rattle.al_core.specs.declared.typed_tree.TStmt.{TStmt, roll-TStmt}
@@ -27,7 +29,7 @@ use Rattle.al_rules.specs.declared.operands.Operand.{Operand}
 use Rattle.al_rules.specs.declared.operands.Operand.TheVariants as operand
 use Rattle.al_rules.specs.Names.{Name}
 use Rattle.al_rules.specs.Types.{is_int, is_scalar, type_checked}
-use Rattle.al_rules.specs.Checks.{Checked, and_then, each, ensure, some_or}
+use Rattle.al_rules.specs.Checks.{Checked, each, ensure, some_or}
 use Rattle.al_rules.specs.Scopes.{Known, Variable, Local, Global, in_scope, is_declared, is_struct, variable_named}
 use Rattle.al_rules.specs.Operands.{integer, scalar, fitting}
 use Rattle.al_rules.specs.Expressions as x
@@ -35,11 +37,12 @@ use Rattle.al_rules.specs.Walks.{Walk, pure, checks, lift, fails, add_local, beg
 
 -- ---- forms
 
--- No tokens derive these statements, and they are `Shape`: a declaration as the branch of an `if` or the body of a loop;
--- as a `for`'s first part, what is no declaration with a value and not simple, and as its third, what is not simple;
--- an update by a comparison.
+-- No tokens derive these statements, and they are `Shape`: a declaration as the branch of an `if` or the body of a
+-- loop; as a `for`'s first part, what is no declaration with a value and not simple, and as its third, what is not
+-- simple; an update by a comparison.
 
--- a declaration without a value, one with a value, what is simple (an assignment, an update, a call, a `printf`), and any other statement
+-- a declaration without a value, one with a value, what is simple (an assignment, an update, a call, a `printf`), and
+-- any other statement
 pub data Sort : Type 0 where
   Declares : Sort
   Sets : Sort
@@ -110,8 +113,10 @@ assigned _ y = Err NotPlace
 
 -- an update of an integer
 abbrev pub updated : BinOp → Operand → Operand → Checked TKind
-updated op (operand.Variable n a) y = and_then (ensure (is_int a) Mismatch) (λ _. and_then (integer y) (λ v. Ok (k.UpdateLocal op n v)))
-updated op (operand.Place a q) y = and_then (ensure (is_int a) Mismatch) (λ _. and_then (integer y) (λ v. Ok (k.UpdateAt op q v)))
+updated op (operand.Variable n a) y =
+    and_then (ensure (is_int a) Mismatch) (λ _. and_then (integer y) (λ v. Ok (k.UpdateLocal op n v)))
+updated op (operand.Place a q) y =
+    and_then (ensure (is_int a) Mismatch) (λ _. and_then (integer y) (λ v. Ok (k.UpdateAt op q v)))
 updated op _ y = Err NotPlace
 
 abbrev pub is_place : Operand → Bool
@@ -173,7 +178,7 @@ module _ (known : Known) (func : ℕ) (result : CType) where
 
   abbrev pub choice_of : ℕ → Option LoopNote → Walk (Option Choice)
   choice_of line None = pure None
-  choice_of line (Some n) = reductions line n.reduce >>= (λ reds. pure (Some (record { policy = n.policy; order = n.order; reds = reds })))
+  choice_of line (Some n) = reductions line n.reduce >>= (λ reds. pure (Some (by_words n.policy n.order reds)))
 
   -- the body of a loop, and the loop's number where it is annotated
   abbrev pub looped_body : ℕ → Option Choice → Part → Walk (TStmt × Option ℕ)
@@ -194,27 +199,34 @@ module _ (known : Known) (func : ℕ) (result : CType) where
 
   abbrev pub for_loop : ℕ → Bool → Option Part → Option Expr → Option Part → Part → Option Choice → Walk TKind
   for_loop line looped first test third body own = within (
-      any_part is_first first looped >>= (λ a. any_condition line test >>= (λ c. any_part is_third third looped >>= (λ t.
-      looped_body line own body >>= (λ b. pure (k.For a c t b.0 b.1))))))
+      any_part is_first first looped >>= (λ a. any_condition line test >>= (λ c. any_part is_third third looped
+      >>= (λ t. looped_body line own body >>= (λ b. pure (k.For a c t b.0 b.1))))))
 
   abbrev pub walk_case : StmtKind-F KindPart Part → ℕ → Bool → Walk TKind
   walk_case StmtKind-F.Empty line looped = pure k.Empty
   walk_case (StmtKind-F.Declare a name v) line looped = declare line a name v
   walk_case (StmtKind-F.Assign a b) line looped =
-      operand_of line a >>= (λ l. lift line (ensure (is_place l) NotPlace) >> (operand_of line b >>= (λ r. lift line (assigned l r))))
+      operand_of line a >>= (λ l. lift line (ensure (is_place l) NotPlace)
+      >> (operand_of line b >>= (λ r. lift line (assigned l r))))
   walk_case (StmtKind-F.Update op a b) line looped =
       lift line (ensure (may_update op) Shape)
-      >> (operand_of line a >>= (λ l. lift line (ensure (is_place l) NotPlace) >> (operand_of line b >>= (λ r. lift line (updated op l r)))))
+      >> (operand_of line a >>= (λ l. lift line (ensure (is_place l) NotPlace)
+      >> (operand_of line b >>= (λ r. lift line (updated op l r)))))
   walk_case (StmtKind-F.Call name args) line looped =
-      checks line (λ scope. x.call known (in_scope scope) name (x.operands known (in_scope scope) args)) >>= (λ c. pure (k.Call c.1))
+      checks line (λ scope. x.call_alone known (in_scope scope) name (x.operands known (in_scope scope) args))
+      >>= (λ c. pure (k.Call c))
   walk_case (StmtKind-F.Print format args) line looped =
       operands_of line args >>= (λ xs. lift line (ensure (length xs == numbers_in format) Count)
       >> (lift line (each integer xs) >>= (λ ns. pure (k.Print format ns))))
   walk_case (StmtKind-F.If c a b) line looped =
-      condition line c >>= (λ t. part_if is_body a looped >>= (λ s. any_part is_body b looped >>= (λ r. pure (k.If t s r))))
-  walk_case (StmtKind-F.While c a) line looped = condition line c >>= (λ t. part_if is_body a true >>= (λ s. pure (k.While t s)))
-  walk_case (StmtKind-F.For first test third body note) line looped = choice_of line note >>= for_loop line looped first test third body
-  walk_case (StmtKind-F.Block ss) line looped = within (all_steps (walks_of looped ss) >>= (λ ts. pure (k.Block ts)))
+      condition line c >>= (λ t. part_if is_body a looped >>= (λ s. any_part is_body b looped
+      >>= (λ r. pure (k.If t s r))))
+  walk_case (StmtKind-F.While c a) line looped =
+      condition line c >>= (λ t. part_if is_body a true >>= (λ s. pure (k.While t s)))
+  walk_case (StmtKind-F.For first test third body note) line looped =
+      choice_of line note >>= for_loop line looped first test third body
+  walk_case (StmtKind-F.Block ss) line looped =
+      within (all_steps (walks_of looped ss) >>= (λ ts. pure (k.Block ts)))
   walk_case (StmtKind-F.Return v) line looped = returned line v
   walk_case StmtKind-F.Break line looped = leave line looped k.Break
   walk_case StmtKind-F.Continue line looped = leave line looped k.Continue

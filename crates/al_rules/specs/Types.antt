@@ -65,7 +65,8 @@ kind_of a = kind_case (out-CType a)
 
 -- ---- where a type may stand
 
--- `void`; an integer or a pointer; a struct; an array; or what no declaration has: a pointer to `void` or to an array, an array of `void` or of no elements
+-- `void`; an integer or a pointer; a struct; an array; or what no declaration has: a pointer to `void` or to an
+-- array, an array of `void` or of no elements
 pub data Form : Type 0 where
   Nothing : Form
   Scalar : Form
@@ -134,4 +135,5 @@ are_known earlier anywhere = fold-CType (Bool × Bool) (known_case earlier anywh
 
 -- a type that stands where only some forms may
 abbrev pub type_checked : (Name → Bool) → (Name → Bool) → (Form → Bool) → CType → Checked (Unit {0})
-type_checked earlier anywhere allowed a = ensure (are_known earlier anywhere a).0 Unknown >> ensure (allowed (form a)) Shape
+type_checked earlier anywhere allowed a =
+    ensure (are_known earlier anywhere a).0 Unknown >> ensure (allowed (form a)) Shape

@@ -1,5 +1,7 @@
--- The walk over the statements of a program: what it has found so far, and its steps. A step gives a value, or the first fault with its line.
+-- The walk over the statements of a program: what it has found so far, and its steps. A step gives a value, or the
+-- first fault with its line.
 use Rattle.std.specs.Prelude.{ℕ, List, [], ◌∷◌, ◌++◌, length, Option, Some, None, Result, Ok, Err, slice_get, slice_set}
+use Rattle.al_source.specs.Steps.{and_then}
 use Rattle.al_source.specs.declared.source_tree.CType.{CType}
 use Rattle.al_core.specs.declared.choices.Choice.{Choice}
 use Rattle.al_core.specs.declared.values.Kind.{Kind}
@@ -12,7 +14,7 @@ use Rattle.al_rules.specs.declared.faults.TypeFault.TheVariants.{At}
 use Rattle.al_rules.specs.Names.{Name}
 use Rattle.al_rules.specs.Types.{kind_of}
 use Rattle.al_rules.specs.Scopes.{Scope, with_binding, nested}
-use Rattle.al_rules.specs.Checks.{Checked, and_then}
+use Rattle.al_rules.specs.Checks.{Checked}
 
 -- the names in scope, the locals of the function so far, and the annotated loops of the program so far
 pub record Progress : Type 0 where
@@ -71,18 +73,25 @@ abbrev pub with_end : List TNote → ℕ → ℕ → Option TNote → List TNote
 with_end loops number last None = loops
 with_end loops number last (Some note) = slice_set loops number (record note { last = last })
 
+-- an annotated loop whose body declares no local yet
+abbrev pub note_of : ℕ → ℕ → Choice → ℕ → TNote
+note_of func line own n = record { func = func; line = line; own = own; first = n; last = n }
+
 -- One more annotated loop, whose body's locals begin here; its number. Loops within it come after it.
 unfoldable pub begin_loop : ℕ → ℕ → Choice → Walk ℕ
 begin_loop func line own = λ s. Ok (
   length s.loops,
   record s {
-    loops = s.loops ++ record { func = func; line = line; own = own; first = length s.locals; last = length s.locals } ∷ [];
+    loops = s.loops ++ note_of func line own (length s.locals) ∷ [];
   },
 )
 
 -- The loop's locals end here.
 unfoldable pub end_loop : ℕ → Walk (Unit {0})
-end_loop number = λ s. Ok (tt, record s { loops = with_end s.loops number (length s.locals) (slice_get s.loops number) })
+end_loop number = λ s. Ok (
+  tt,
+  record s { loops = with_end s.loops number (length s.locals) (slice_get s.loops number) },
+)
 
 -- ---- made of those words
 

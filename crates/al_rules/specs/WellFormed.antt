@@ -1,4 +1,5 @@
--- Which typed trees are well formed: each number is in range, and each value of the kind that is wanted where it stands.
+-- Which typed trees are well formed: each number is in range, and each value of the kind that is wanted where it
+-- stands.
 use Rattle.std.specs.Prelude.{◌≡◌, ℕ, ◌+◌, ◌≤◌, max, Bool, true, false, ◌&&◌, ◌||◌, List, [], ◌∷◌, ◌++◌, map, length, take, Option, Some, None, slice_get, pos}
 use Rattle.std.specs.List.{list_all}
 use Rattle.std.specs.Ordering.{int_eq}
@@ -127,6 +128,7 @@ module _ (typed : Typed) (results : List (Option Kind)) (locals : List TLocal) w
   expr_fits TExpr-F.Inputs want = is_one Int want
   expr_fits (TExpr-F.Choose op x y) want = is_one Int want && x Int && y Int
   expr_fits (TExpr-F.Calloc x size) want = is_one Ptr want && x Int
+  expr_fits (TExpr-F.Free x) want = false
 
   abbrev pub place_kind_case : TPlace-F FitsKind PlaceKind → PlaceKind
   place_kind_case (TPlace-F.Global n) = global_kind (slice_get typed.globals n)
@@ -145,9 +147,10 @@ module _ (typed : Typed) (results : List (Option Kind)) (locals : List TLocal) w
 
   -- ---- statements
 
-  -- a call that is a statement may give no value
+  -- a call that is a statement may give no value, and nothing but such a call frees an object
   abbrev pub call_formed : TExpr-F TExpr TPlace → TExpr → Bool
   call_formed (TExpr-F.Call f xs) x = fit_params (fit_each xs) (slice_get typed.funcs f)
+  call_formed (TExpr-F.Free p) x = fits p Ptr
   call_formed _ x = fits_either (fits x)
 
   abbrev pub sets_formed : Option Kind → TExpr → Bool
@@ -182,7 +185,8 @@ module _ (typed : Typed) (results : List (Option Kind)) (locals : List TLocal) w
   kind_formed result (TKind-F.SetLocal n x) looped = sets_formed (local_kind (slice_get locals n)) x
   kind_formed result (TKind-F.Store p x) looped = (place_kind p).formed && fits_want (place_kind p).wants (fits x)
   kind_formed result (TKind-F.UpdateLocal op n x) looped = is_int_local locals n && fits x Int
-  kind_formed result (TKind-F.UpdateAt op p x) looped = (place_kind p).formed && may_want (place_kind p).wants Int && fits x Int
+  kind_formed result (TKind-F.UpdateAt op p x) looped =
+      (place_kind p).formed && may_want (place_kind p).wants Int && fits x Int
   kind_formed result (TKind-F.Call x) looped = call_formed (out-TExpr x) x
   kind_formed result (TKind-F.Print format xs) looped = list_all (λ x. fits x Int) xs
   kind_formed result (TKind-F.If x s t) looped = fits_either (fits x) && s.1 looped && if_formed t looped
@@ -235,20 +239,23 @@ all_counted (a ∷ as') = both_counted a (all_counted as')
 
 abbrev pub standing : ℕ → ℕ → Option ℕ → ℕ → ℕ → List Standing
 standing func line None first last = []
-standing func line (Some number) first last = record { number = number; func = func; line = line; first = first; last = last } ∷ []
+standing func line (Some number) first last =
+    record { number = number; func = func; line = line; first = first; last = last } ∷ []
 
 -- A loop comes before those within it.
 abbrev pub for_counted : ℕ → ℕ → Option ℕ → Counted → Counted → Counted
 for_counted func line number head body = record {
   after = λ n. body.after (head.after n);
-  loops = λ n. standing func line number (head.after n) (body.after (head.after n)) ++ head.loops n ++ body.loops (head.after n);
+  loops = λ n.
+      standing func line number (head.after n) (body.after (head.after n)) ++ head.loops n ++ body.loops (head.after n);
 }
 
 abbrev pub kind_counted : ℕ → TKind-F (ℕ → Counted) Counted → ℕ → Counted
 kind_counted func (TKind-F.SetLocal n x) line = record { after = λ k. max k (n + 1); loops = λ k. [] }
 kind_counted func (TKind-F.If x s t) line = both_counted s (if_counted t)
 kind_counted func (TKind-F.While x s) line = s
-kind_counted func (TKind-F.For first test third body number) line = for_counted func line number (both_counted (if_counted first) (if_counted third)) body
+kind_counted func (TKind-F.For first test third body number) line =
+    for_counted func line number (both_counted (if_counted first) (if_counted third)) body
 kind_counted func (TKind-F.Block ss) line = all_counted ss
 kind_counted func _ line = none_counted
 
@@ -270,7 +277,9 @@ loops_from n (f ∷ fs) = (counted_all n f.body).loops f.params ++ loops_from (n
 -- what the notes say of them
 abbrev pub notes_from : ℕ → List TNote → List Standing
 notes_from n [] = []
-notes_from n (note ∷ notes) = record { number = n; func = note.func; line = note.line; first = note.first; last = note.last } ∷ notes_from (n + 1) notes
+notes_from n (note ∷ notes) =
+    record { number = n; func = note.func; line = note.line; first = note.first; last = note.last }
+    ∷ notes_from (n + 1) notes
 
 -- ---- the whole
 
@@ -315,7 +324,8 @@ pub record IsWellFormed (typed : Typed) : Type 0 where
   pub as_many : length results ≡ length typed.funcs
   pub funcs : (n : ℕ) (f : TFunc) → slice_get typed.funcs n ≡ Some f → IsFormedFunc typed results n f
   pub globals : AllOf IsFormedGlobal typed.globals
-  pub main : (f : TFunc) × (slice_get typed.funcs typed.main ≡ Some f) × (f.params ≡ 0) × (slice_get results typed.main ≡ Some (Some Int))
+  pub main : (f : TFunc) × (slice_get typed.funcs typed.main ≡ Some f) × (f.params ≡ 0)
+      × (slice_get results typed.main ≡ Some (Some Int))
   -- each note says of its loop what holds where the loop stands
   pub loops : loops_from 0 typed.funcs ≡ notes_from 0 typed.loops
   pub reductions : AllOf (λ note. AllOf (IsNoted typed note) note.own.reds) typed.loops

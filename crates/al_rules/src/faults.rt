@@ -7,7 +7,7 @@ use thiserror::Error;
 pub enum LayoutFault {
     #[error("line {0}: struct holds itself")]
     SelfHolding(u32),
-    /// A struct, or the globals so far, have more than 4,194,304 words.
+    /// A struct, or the globals so far, have more than `OBJECT_WORDS` words.
     #[error("line {0}: too many words")]
     TooLarge(u32),
     #[error("out of memory")]
@@ -111,7 +111,7 @@ impl From<AllocError> for NoteFault {
 /// Why a typed program is not lowered.
 #[derive(Clone, Copy, Debug, PartialEq, Eq, Error)]
 pub enum LowerFault {
-    /// Its source has more than 262,144 statements and expressions.
+    /// Its source has more than `SOURCE_NODES` statements and expressions.
     #[error("too many nodes")]
     TooLarge,
     #[error("out of memory")]

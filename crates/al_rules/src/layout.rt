@@ -10,7 +10,7 @@ pub struct Layout {
     pub globals: Items<u32>,
 }
 
-/// A struct of so many words, at most 4,194,304. Each field has the offset of its first word.
+/// A struct of so many words, at most `OBJECT_WORDS`. Each field has the offset of its first word.
 #[derive(Drop)]
 pub struct StructLayout {
     pub name: Name,

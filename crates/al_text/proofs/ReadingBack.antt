@@ -9,6 +9,7 @@ use Rattle.std.specs.List.{list_all}
 use Rattle.std.proofs.lemmas.Fmt.{decimal_nonempty, length-decimal-le}
 use Rattle.std.proofs.lemmas.Int.{ints}
 use Rattle.std.proofs.lemmas.List.{append-nil, append_assoc}
+use Rattle.al_source.specs.declared.limits.TheConstants.{INPUT_BYTES}
 use Rattle.al_text.proofs.DecimalLemmas.{all_digits, value_back}
 use Rattle.al_text.specs.Digits.{is_digits, is_number, signed_value_of}
 use Rattle.al_text.specs.Numbers.{is_blank, word_of, words_from, words_of, numbers_onto, numbers_of}
@@ -64,7 +65,7 @@ minus_value ds n back small =
 one_number : (text : List ℕ) (n : ℤ) → list_all is_solid text ≡ true → length text ≤ 21 → is_number text ≡ true → signed_value_of text ≡ Some n → numbers_of text ≡ Ok (n ∷ [])
 one_number text n solid short number value =
     let one : words_of text ≡ word_of 1 text = solid_words 1 [] text solid in
-    let few : nat_le (length text) 33554432 ≡ true = grind arith in
+    let few : nat_le (length text) INPUT_BYTES ≡ true = grind arith in
     rw (few, one) (of_word text n number value)
 
 pub reads_back : (n : ℤ) → FitsSigned w64 n → numbers_of (signed_decimal n) ≡ Ok (n ∷ [])

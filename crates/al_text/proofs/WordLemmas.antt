@@ -5,7 +5,8 @@ use Rattle.std.proofs.Math.Nat.{sub_self}
 use Rattle.std.proofs.lemmas.Grind.{common_steps}
 use Rattle.std.proofs.lemmas.List.{append-nil, drop_more, take_more}
 use Rattle.al_text.specs.declared.faults.InputFault.{InputFault}
-use Rattle.al_text.specs.Answers.{Fails}
+use Rattle.al_source.specs.Answers.{Fails}
+use Rattle.al_text.specs.Faults.{told}
 use Rattle.al_text.specs.Numbers.{Word, is_blank, line_after, word_of, words_from, numbers_onto}
 
 -- a blank ends the word
@@ -41,6 +42,15 @@ pub read_last : (ns more : List ℤ) (line : ℕ) (text : List ℕ) (start at : 
 read_last ns more line text start at defined last pushed whole = sym whole ∙ ap (λ l. numbers_onto ns l) (word_last text start at line last) ∙ sym (pushed [])
 
 -- and a fault of the last word is the text's
-pub fails_last : (fault : InputFault) (ns : List ℤ) (line : ℕ) (text : List ℕ) (start at : ℕ) (defined : Result (List ℤ) InputFault) → at ≡ length text → ((ws : List Word) → Fails fault (numbers_onto ns (word_of line (slice_range text start (length text)) ++ ws))) → numbers_onto ns (words_from line (slice_range text start at) (drop at text)) ≡ defined → Fails fault defined
+pub fails_last : (fault : InputFault) (ns : List ℤ) (line : ℕ) (text : List ℕ) (start at : ℕ) (defined : Result (List ℤ) InputFault) → at ≡ length text → ((ws : List Word) → Fails (numbers_onto ns (word_of line (slice_range text start (length text)) ++ ws)) (told fault)) → numbers_onto ns (words_from line (slice_range text start at) (drop at text)) ≡ defined → Fails defined (told fault)
 fails_last fault ns line text start at defined last failed whole =
-    subst (λ (d : Result (List ℤ) InputFault). Fails fault d) (sym (ap (λ l. numbers_onto ns l) (word_last text start at line last)) ∙ whole) (failed [])
+    subst (λ (d : Result (List ℤ) InputFault). Fails d (told fault)) (sym (ap (λ l. numbers_onto ns l) (word_last text start at line last)) ∙ whole) (failed [])
+
+-- and so is one of a word that a blank ends
+pub fails_within : (fault : InputFault) (ns : List ℤ) (line : ℕ) (text : List ℕ) (start at : ℕ) (defined : Result (List ℤ) InputFault) → at < length text
+    → is_blank (get_or text at 0) ≡ true → ((ws : List Word) → Fails (numbers_onto ns (word_of line (slice_range text start at) ++ ws)) (told fault))
+    → numbers_onto ns (words_from line (slice_range text start at) (drop at text)) ≡ defined → Fails defined (told fault)
+fails_within fault ns line text start at defined within blank failed whole =
+    let ws : List Word = words_from (line_after line (get_or text at 0)) [] (drop (at + 1) text) in
+    let ended = word_ends text at line (slice_range text start at) within blank in
+    subst (λ (d : Result (List ℤ) InputFault). Fails d (told fault)) (ap (λ l. numbers_onto ns l) (sym ended) ∙ whole) (failed ws)

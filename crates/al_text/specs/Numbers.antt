@@ -1,5 +1,7 @@
 -- The numbers that a text lists.
 use Rattle.std.specs.Prelude.{ℕ, ◌+◌, Bool, ◌&&◌, ◌||◌, if◌then◌else◌, ◌==◌, nat_lt, nat_le, List, [], ◌∷◌, ◌++◌, length, Option, Some, None, Result, Ok, Err, ℤ}
+use Rattle.al_source.specs.Steps.{and_then}
+use Rattle.al_source.specs.declared.limits.TheConstants.{INPUT_NUMBERS, INPUT_BYTES}
 use Rattle.al_text.specs.declared.faults.InputFault.{InputFault}
 use Rattle.al_text.specs.declared.faults.InputFault.TheVariants.{TooLong, NotNumber, OutOfRange, TooMany}
 use Rattle.al_text.specs.Digits.{is_number, signed_value_of}
@@ -24,7 +26,9 @@ line_after line b = if b == 10 then line + 1 else line
 -- the words of a text that goes on a word
 abbrev pub words_from : ℕ → List ℕ → List ℕ → List Word
 words_from line word [] = word_of line word
-words_from line word (b ∷ bs) = if is_blank b then word_of line word ++ words_from (line_after line b) [] bs else words_from line (word ++ b ∷ []) bs
+words_from line word (b ∷ bs) =
+    if is_blank b then word_of line word ++ words_from (line_after line b) [] bs
+    else words_from line (word ++ b ∷ []) bs
 
 abbrev pub words_of : List ℕ → List Word
 words_of text = words_from 1 [] text
@@ -38,16 +42,13 @@ in_range line None = Err (OutOfRange line)
 abbrev pub number_of : Word → Result ℤ InputFault
 number_of w = if is_number w.bytes then in_range w.line (signed_value_of w.bytes) else Err (NotNumber w.line)
 
-infixl 10 ◌>>=◌
-abbrev pub ◌>>=◌ : {A B : Type 0} → Result A InputFault → (A → Result B InputFault) → Result B InputFault
-(Ok x) >>= f = f x
-(Err fault) >>= f = Err fault
-
--- these numbers and those of the words, at most 1,048,576 in all
+-- these numbers and those of the words, at most so many in all
 abbrev pub numbers_onto : List ℤ → List Word → Result (List ℤ) InputFault
 numbers_onto ns [] = Ok ns
-numbers_onto ns (w ∷ ws) = if nat_lt (length ns) 1048576 then number_of w >>= (λ n. numbers_onto (ns ++ n ∷ []) ws) else Err TooMany
+numbers_onto ns (w ∷ ws) =
+    if nat_lt (length ns) INPUT_NUMBERS then and_then (number_of w) (λ n. numbers_onto (ns ++ n ∷ []) ws)
+    else Err TooMany
 
--- The numbers of a text, or its first fault. A text of more than 33,554,432 bytes is refused before it is read.
+-- The numbers of a text, or its first fault. A text that is too long is refused before it is read.
 abbrev pub numbers_of : List ℕ → Result (List ℤ) InputFault
-numbers_of text = if nat_le (length text) 33554432 then numbers_onto [] (words_of text) else Err TooLong
+numbers_of text = if nat_le (length text) INPUT_BYTES then numbers_onto [] (words_of text) else Err TooLong

@@ -1,21 +1,17 @@
 //! The numbers that a text lists.
 
 ghost use Rattle.std.specs.Prelude.{◌≡◌, ◌≤◌, ◌<◌, ◌+◌, [], ◌++◌, List, Err, length, IfErr, OnOk};
-ghost use Rattle.al_text.specs.Answers.{Fails, Gives};
+ghost use Rattle.al_source.specs.Answers.{Fails, Gives};
+ghost use Rattle.al_text.specs.Faults.{told};
 ghost use Rattle.al_text.specs.Digits.{signed, signed_value_of};
 ghost use Rattle.al_text.specs.Numbers as spec;
 ghost use Rattle.al_text.specs.Numbers.{Word, word_of, numbers_onto};
 
 use crate::digits::{is_digits, value_of};
 use crate::faults::InputFault;
+use al_source::limits::{INPUT_BYTES, INPUT_NUMBERS};
 use sqlite_items::Items;
 use std::alloc::Global;
-
-/// The most bytes that a text may have.
-const MOST_BYTES: usize = 33_554_432;
-
-/// The most numbers that a text may list.
-const MOST_NUMBERS: usize = 1_048_576;
 
 fn is_blank(b: u8) -> bool
     ensures { result ≡ spec.is_blank b }
@@ -24,7 +20,7 @@ fn is_blank(b: u8) -> bool
 }
 
 fn line_after(line: u32, b: u8) -> u32
-    requires { line ≤ 33554432 }
+    requires { line ≤ INPUT_BYTES }
     ensures value { result ≡ spec.line_after line b }
     ensures within { result ≤ line + 1 }
 {
@@ -59,12 +55,12 @@ fn number_of(word: &[u8], line: u32) -> Result<i64, InputFault>
 /// Adds the number of a word, if the word has bytes.
 fn push_word(numbers: &mut Items<i64>, word: &[u8], line: u32) -> Result<(), InputFault>
     ensures ok { OnOk result ((ws : List Word) → numbers_onto numbers.new ws ≡ numbers_onto numbers.old (word_of line word.now ++ ws)) }
-    ensures err { IfErr result (λ fault. (ws : List Word) → Fails fault (numbers_onto numbers.old (word_of line word.now ++ ws))) }
+    ensures err { IfErr result (λ fault. (ws : List Word) → Fails (numbers_onto numbers.old (word_of line word.now ++ ws)) (told fault)) }
 {
     if word.is_empty() {
         return Ok(());
     }
-    if MOST_NUMBERS <= numbers.len() {
+    if INPUT_NUMBERS <= numbers.len() {
         return Err(InputFault::TooMany);
     }
     numbers.push(number_of(word, line)?)?;
@@ -72,8 +68,8 @@ fn push_word(numbers: &mut Items<i64>, word: &[u8], line: u32) -> Result<(), Inp
 }
 
 fn read(alloc: Global, text: &[u8]) -> Result<Items<i64>, InputFault>
-    requires { length text.now ≤ 33554432 }
-    ensures { Gives result (numbers_onto [] (spec.words_of text.now)) }
+    requires { length text.now ≤ INPUT_BYTES }
+    ensures { Gives told (numbers_onto [] (spec.words_of text.now)) result }
 {
     let mut numbers = Items::new(alloc);
     let mut line = 1;
@@ -96,11 +92,11 @@ fn read(alloc: Global, text: &[u8]) -> Result<Items<i64>, InputFault>
 /// The numbers that a text lists, or its first fault. Words stand between blanks, and each is an optional `-` and
 /// one or more digits; there may be 1,048,576 of them.
 pub fn read_numbers(alloc: Global, text: &[u8]) -> Result<Items<i64>, InputFault>
-    ensures exact { Gives result (spec.numbers_of text.now) }
+    ensures exact { Gives told (spec.numbers_of text.now) result }
     // A text that is too long is refused before it is read.
-    ensures too_long { 33554432 < length text.now → result ≡ Err InputFault.TooLong }
+    ensures too_long { INPUT_BYTES < length text.now → result ≡ Err InputFault.TooLong }
 {
-    if MOST_BYTES < text.len() {
+    if INPUT_BYTES < text.len() {
         Err(InputFault::TooLong)
     } else {
         read(alloc, text)

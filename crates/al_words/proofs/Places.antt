@@ -1,18 +1,19 @@
 -- Each word that is taken leaves the walk where it can stand.
-use Rattle.std.proofs.Common.{◌≡◌, ◌≤◌, ◌<◌, ℕ, ◌+◌, ◌*◌, Option, None, Some, Result, Ok, Err, IfOk, IfSome, is_some, Bool, true, false, if◌then◌else◌, List, [], ◌∷◌, refl, sym, ap, subst, ◌∙◌, arith}
+use Rattle.std.proofs.Common.{◌≡◌, ℕ, ◌+◌, Option, None, Some, Result, Ok, Err, IfOk, IfSome, is_some, Bool, true, false, if◌then◌else◌, refl, sym, ap, subst, arith}
 use Rattle.al_words.specs.declared.command.WordFault.{WordFault}
 use Rattle.al_words.specs.declared.command.WordFault.TheVariants.{Repeated}
 use Rattle.al_words.specs.declared.option.Given.{Given}
 use Rattle.al_words.specs.declared.option.Knob.{Knob}
-use Rattle.al_words.specs.declared.option.Knob.TheVariants.{Lanes, Chunk, IterSteps, Steps}
+use Rattle.al_words.specs.declared.option.Knob.TheVariants.{Lanes, Chunk, Line, IterSteps, Steps}
 use Rattle.al_words.specs.declared.walk.Waiting.{Waiting}
 use Rattle.al_words.specs.declared.walk.Walk.{Walk}
-use Rattle.al_words.specs.Words.{given_to, give, valued, optioned, named, Takes, step, walked, then_walk}
+use Rattle.al_words.specs.Words.{given_to, give, valued, optioned, named, Takes}
 use Rattle.al_words.specs.Places.{one_if, how_many, Fits}
 
 give_more : (g : Given) (k : Knob) (n : ℕ) → given_to g k ≡ None → how_many (give g k n) ≡ how_many g + 1
 give_more g Lanes n h = rw h (omega arith)
 give_more g Chunk n h = rw h (omega arith)
+give_more g Line n h = rw h (omega arith)
 give_more g IterSteps n h = rw h (omega arith)
 give_more g Steps n h = rw h (omega arith)
 

@@ -1,7 +1,6 @@
 -- Where a walk over words can stand: each option is given once, with one value, so that all but a few words are names.
 use Rattle.std.specs.Prelude.{◌≡◌, ◌≤◌, ◌<◌, ℕ, ◌+◌, ◌*◌, Option, None, Some, IfSome}
 use Rattle.al_words.specs.declared.option.Given.{Given}
-use Rattle.al_words.specs.declared.walk.Waiting.{Waiting}
 use Rattle.al_words.specs.declared.walk.Walk.{Walk}
 use Rattle.al_words.specs.Words.{given_to}
 
@@ -10,7 +9,7 @@ one_if (Some a) = 1
 one_if None = 0
 
 abbrev pub how_many : Given → ℕ
-how_many g = one_if g.lanes + (one_if g.chunk + (one_if g.iter_steps + one_if g.steps))
+how_many g = one_if g.lanes + (one_if g.chunk + one_if g.line + (one_if g.iter_steps + one_if g.steps))
 
 pub record Fits (at : ℕ) (w : Walk) : Type 0 where
   -- before a place stand the command, the names, and each option that was given with its value

@@ -1,13 +1,14 @@
 -- The numbers of a command are in their ranges.
 use Rattle.std.specs.Prelude.{◌≤◌, ℕ}
+use Rattle.al_source.specs.declared.limits.TheConstants.{MOST_START, MOST_SIZE}
 use Rattle.al_core.specs.Limits.{AreInRange}
 use Rattle.al_words.specs.declared.command.Command.{Command}
 use Rattle.al_words.specs.declared.command.Command.TheVariants.{Run, Plain, Trace, Check, Demo}
 
--- the generated program starts below 2^31, and reads 1 to 100,000 numbers
+-- the start of the generated program, and how many numbers it reads
 pub record IsDemo (start size : ℕ) : Type 0 where
-  pub start_fits : start ≤ 2147483647
-  pub size_fits : (1 ≤ size) × (size ≤ 100000)
+  pub start_fits : start ≤ MOST_START
+  pub size_fits : (1 ≤ size) × (size ≤ MOST_SIZE)
 
 abbrev pub HasRanges : Command → Type 0
 HasRanges (Run job) = AreInRange job.knobs

@@ -1,8 +1,11 @@
 -- The command that words ask for, or the first fault in them.
-use Rattle.std.specs.Prelude.{◌≡◌, ℕ, ◌+◌, if◌then◌else◌, ◌==◌, ◌&&◌, ◌||◌, nat_le, nat_lt, Bool, true, false, List, [], ◌∷◌, replicate, Option, Some, None, is_some, Result, Ok, Err, codes, nat_eq, slice_get, slice_set, unwrap_or}
+use Rattle.std.specs.Prelude.{◌≡◌, ℕ, ◌+◌, ◌-◌, ◌^◌, if◌then◌else◌, ◌==◌, ◌&&◌, ◌||◌, nat_le, nat_lt, Bool, true, false, List, [], ◌∷◌, replicate, Option, Some, None, is_some, Result, Ok, Err, codes, nat_eq, slice_get, slice_set, unwrap_or}
 use Rattle.std.specs.List.{starts_with}
 use Rattle.std.specs.Str.{bytes_eq}
+use Rattle.al_source.specs.Steps.{and_then}
+use Rattle.al_source.specs.declared.limits.TheConstants.{MOST_LANES, MOST_CHUNK, MOST_STEPS, MOST_START, MOST_SIZE, DEFAULT_LANES, DEFAULT_CHUNK, DEFAULT_THREADS, DEFAULT_LINE, DEFAULT_ITERATION_STEPS, DEFAULT_SERIAL_STEPS}
 use Rattle.al_core.specs.declared.choices.Knobs.{Knobs}
+use Rattle.al_core.specs.Lines.{is_line_size}
 use Rattle.al_text.specs.Digits.{numeral}
 use Rattle.al_words.specs.declared.command.Command.{Command}
 use Rattle.al_words.specs.declared.command.Command.TheVariants.{Run, Plain, Trace, Check, Demo}
@@ -11,7 +14,7 @@ use Rattle.al_words.specs.declared.command.WordFault.{WordFault}
 use Rattle.al_words.specs.declared.command.WordFault.TheVariants.{NoCommand, BadCommand, Unknown, Repeated, NoValue, BadValue, Names, BadNumber}
 use Rattle.al_words.specs.declared.option.Given.{Given}
 use Rattle.al_words.specs.declared.option.Knob.{Knob}
-use Rattle.al_words.specs.declared.option.Knob.TheVariants.{Lanes, Chunk, IterSteps, Steps}
+use Rattle.al_words.specs.declared.option.Knob.TheVariants.{Lanes, Chunk, Line, IterSteps, Steps}
 use Rattle.al_words.specs.declared.verb.Verb.{Verb}
 use Rattle.al_words.specs.declared.verb.Verb.TheVariants as verb
 use Rattle.al_words.specs.declared.walk.Waiting.{Waiting}
@@ -50,6 +53,7 @@ abbrev pub knob_of : List ℕ → Option Knob
 knob_of word =
     if bytes_eq word (codes "--lanes") then Some Lanes
     else if bytes_eq word (codes "--chunk") then Some Chunk
+    else if bytes_eq word (codes "--line") then Some Line
     else if bytes_eq word (codes "--iter-steps") then Some IterSteps
     else if bytes_eq word (codes "--steps") then Some Steps
     else None
@@ -58,10 +62,19 @@ abbrev pub knob_for : Verb → List ℕ → Option Knob
 knob_for v word = if has_options v then knob_of word else None
 
 abbrev pub greatest : Knob → ℕ
-greatest Lanes = 64
-greatest Chunk = 65536
-greatest IterSteps = 1000000000
-greatest Steps = 1000000000
+greatest Lanes = MOST_LANES
+greatest Chunk = MOST_CHUNK
+greatest Line = 2 ^ 32 - 1
+greatest IterSteps = MOST_STEPS
+greatest Steps = MOST_STEPS
+
+-- of those up to its greatest an option takes all, but a line has one of five sizes
+abbrev pub takes_number : Knob → ℕ → Bool
+takes_number Lanes n = true
+takes_number Chunk n = true
+takes_number Line n = is_line_size n
+takes_number IterSteps n = true
+takes_number Steps n = true
 
 abbrev pub within : ℕ → ℕ → Option ℕ → Option ℕ
 within least most (Some n) = if nat_le least n && nat_le n most then Some n else None
@@ -70,32 +83,39 @@ within least most None = None
 abbrev pub number_in : ℕ → ℕ → List ℕ → Option ℕ
 number_in least most word = within least most (numeral word)
 
+abbrev pub taken : Knob → Option ℕ → Option ℕ
+taken knob (Some n) = if takes_number knob n then Some n else None
+taken knob None = None
+
 abbrev pub value_of : Knob → List ℕ → Option ℕ
-value_of knob word = number_in 1 (greatest knob) word
+value_of knob word = taken knob (number_in 1 (greatest knob) word)
 
 abbrev pub nothing : Given
-nothing = record { lanes = None; chunk = None; iter_steps = None; steps = None }
+nothing = record { lanes = None; chunk = None; line = None; iter_steps = None; steps = None }
 
 abbrev pub given_to : Given → Knob → Option ℕ
 given_to g Lanes = g.lanes
 given_to g Chunk = g.chunk
+given_to g Line = g.line
 given_to g IterSteps = g.iter_steps
 given_to g Steps = g.steps
 
 abbrev pub give : Given → Knob → ℕ → Given
 give g Lanes n = record g { lanes = Some n }
 give g Chunk n = record g { chunk = Some n }
+give g Line n = record g { line = Some n }
 give g IterSteps n = record g { iter_steps = Some n }
 give g Steps n = record g { steps = Some n }
 
 -- what was given, and else the default
 abbrev pub knobs_of : Given → Knobs
 knobs_of g = record {
-  lanes = unwrap_or g.lanes 4;
-  chunk = unwrap_or g.chunk 16;
-  threads = 4;
-  iter_steps = unwrap_or g.iter_steps 1000000;
-  serial_steps = unwrap_or g.steps 10000000;
+  lanes = unwrap_or g.lanes DEFAULT_LANES;
+  chunk = unwrap_or g.chunk DEFAULT_CHUNK;
+  threads = DEFAULT_THREADS;
+  line = unwrap_or g.line DEFAULT_LINE;
+  iter_steps = unwrap_or g.iter_steps DEFAULT_ITERATION_STEPS;
+  serial_steps = unwrap_or g.steps DEFAULT_SERIAL_STEPS;
 }
 
 -- ---- the words after the first
@@ -123,13 +143,9 @@ step_by None w at word = if starts_with nat_eq word (codes "-") then optioned w 
 abbrev pub step : Walk → ℕ → List ℕ → Result Walk WordFault
 step w at word = step_by w.waiting w at word
 
-abbrev pub then_walk : Result Walk WordFault → (Walk → Result Walk WordFault) → Result Walk WordFault
-then_walk (Ok w) f = f w
-then_walk (Err e) f = Err e
-
 abbrev pub walked : Walk → ℕ → List (List ℕ) → Result Walk WordFault
 walked w at [] = Ok w
-walked w at (x ∷ xs) = then_walk (step w at x) (λ v. walked v (at + 1) xs)
+walked w at (x ∷ xs) = and_then (step w at x) (λ v. walked v (at + 1) xs)
 
 -- a step that was taken, or the fault
 abbrev pub Takes : Result Walk WordFault → Result (Unit {0}) WordFault → Walk → Type 0
@@ -149,11 +165,11 @@ with_size at start knobs (Some size) = Ok (Demo start size knobs)
 with_size at start knobs None = Err (BadNumber at)
 
 abbrev pub with_start : List (List ℕ) → Job → Option ℕ → Result Command WordFault
-with_start words job (Some start) = with_size (place job.names 1) start job.knobs (number_in 1 100000 (word_at words (place job.names 1)))
+with_start words job (Some start) = with_size (place job.names 1) start job.knobs (number_in 1 MOST_SIZE (word_at words (place job.names 1)))
 with_start words job None = Err (BadNumber (place job.names 0))
 
 abbrev pub demo : List (List ℕ) → Job → Result Command WordFault
-demo words job = with_start words job (number_in 0 2147483647 (word_at words (place job.names 0)))
+demo words job = with_start words job (number_in 0 MOST_START (word_at words (place job.names 0)))
 
 abbrev pub asked : List (List ℕ) → Verb → Job → Result Command WordFault
 asked words verb.Run job = Ok (Run job)

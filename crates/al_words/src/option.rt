@@ -2,13 +2,18 @@ ghost use Rattle.std.specs.Prelude.{◌≡◌, IfSome, ◌≤◌};
 ghost use Rattle.al_words.specs.Words as spec;
 
 use crate::range::number_in;
-use al_core::Knobs;
+use al_core::{Knobs, is_line_size};
+use al_source::limits::{
+    DEFAULT_CHUNK, DEFAULT_ITERATION_STEPS, DEFAULT_LANES, DEFAULT_LINE, DEFAULT_SERIAL_STEPS,
+    DEFAULT_THREADS, MOST_CHUNK, MOST_LANES, MOST_STEPS,
+};
 
 /// An option, which sets a number of a run.
 #[derive(Clone, Copy, Debug, PartialEq, Eq)]
 pub enum Knob {
     Lanes,
     Chunk,
+    Line,
     IterSteps,
     Steps,
 }
@@ -18,6 +23,7 @@ pub enum Knob {
 pub struct Given {
     pub lanes: Option<u32>,
     pub chunk: Option<u32>,
+    pub line: Option<u32>,
     pub iter_steps: Option<u32>,
     pub steps: Option<u32>,
 }
@@ -30,20 +36,32 @@ impl Knob {
         match word {
             "--lanes" => Some(Knob::Lanes),
             "--chunk" => Some(Knob::Chunk),
+            "--line" => Some(Knob::Line),
             "--iter-steps" => Some(Knob::IterSteps),
             "--steps" => Some(Knob::Steps),
             _ => None,
         }
     }
 
-    /// The greatest number that it takes; the least is 1.
+    /// The greatest number that may be given to it; the least is 1.
     pub fn greatest(self) -> u32
         ensures { result ≡ spec.greatest self }
     {
         match self {
-            Knob::Lanes => 64,
-            Knob::Chunk => 65536,
-            Knob::IterSteps | Knob::Steps => 1000000000,
+            Knob::Lanes => MOST_LANES,
+            Knob::Chunk => MOST_CHUNK,
+            Knob::Line => u32::MAX,
+            Knob::IterSteps | Knob::Steps => MOST_STEPS,
+        }
+    }
+
+    /// Whether it takes a number that is not past its greatest: a line has one of five sizes.
+    fn takes(self, n: u32) -> bool
+        ensures { result ≡ spec.takes_number self n }
+    {
+        match self {
+            Knob::Line => is_line_size(n),
+            Knob::Lanes | Knob::Chunk | Knob::IterSteps | Knob::Steps => true,
         }
     }
 
@@ -51,7 +69,8 @@ impl Knob {
     pub fn value(self, word: &str) -> Option<u32>
         ensures { result ≡ spec.value_of self word.now }
     {
-        number_in(1, self.greatest(), word.as_bytes())
+        let n = number_in(1, self.greatest(), word.as_bytes())?;
+        if self.takes(n) { Some(n) } else { None }
     }
 }
 
@@ -62,6 +81,7 @@ impl Given {
         Given {
             lanes: None,
             chunk: None,
+            line: None,
             iter_steps: None,
             steps: None,
         }
@@ -74,6 +94,7 @@ impl Given {
         match knob {
             Knob::Lanes => self.lanes,
             Knob::Chunk => self.chunk,
+            Knob::Line => self.line,
             Knob::IterSteps => self.iter_steps,
             Knob::Steps => self.steps,
         }
@@ -85,6 +106,7 @@ impl Given {
         match knob {
             Knob::Lanes => self.lanes = Some(n),
             Knob::Chunk => self.chunk = Some(n),
+            Knob::Line => self.line = Some(n),
             Knob::IterSteps => self.iter_steps = Some(n),
             Knob::Steps => self.steps = Some(n),
         }
@@ -95,11 +117,12 @@ impl Given {
         ensures { result ≡ spec.knobs_of self.now }
     {
         Knobs {
-            lanes: self.lanes.unwrap_or(4),
-            chunk: self.chunk.unwrap_or(16),
-            threads: 4,
-            iter_steps: u64::from(self.iter_steps.unwrap_or(1000000)),
-            serial_steps: u64::from(self.steps.unwrap_or(10000000)),
+            lanes: self.lanes.unwrap_or(DEFAULT_LANES),
+            chunk: self.chunk.unwrap_or(DEFAULT_CHUNK),
+            threads: DEFAULT_THREADS,
+            line: self.line.unwrap_or(DEFAULT_LINE),
+            iter_steps: u64::from(self.iter_steps.unwrap_or(DEFAULT_ITERATION_STEPS)),
+            serial_steps: u64::from(self.steps.unwrap_or(DEFAULT_SERIAL_STEPS)),
         }
     }
 }

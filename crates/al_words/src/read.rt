@@ -6,6 +6,7 @@ use crate::command::{Command, Job, WordFault};
 use crate::range::number_in;
 use crate::verb::Verb;
 use crate::walk::Walk;
+use al_source::limits::{MOST_SIZE, MOST_START};
 
 /// The command that the words after the program's name ask for, or the first fault in them. It takes no memory.
 pub fn read_words(words: &[String]) -> Result<Command, WordFault>
@@ -77,10 +78,10 @@ fn demo(words: &[String], job: Job) -> Result<Command, WordFault>
     ensures { result ≡ spec.demo (map string_bytes words.now) job }
 {
     let [start_at, size_at, ..] = job.names;
-    let Some(start) = number_at(words, start_at, 0, 2147483647) else {
+    let Some(start) = number_at(words, start_at, 0, MOST_START) else {
         return Err(WordFault::BadNumber(start_at));
     };
-    let Some(size) = number_at(words, size_at, 1, 100000) else {
+    let Some(size) = number_at(words, size_at, 1, MOST_SIZE) else {
         return Err(WordFault::BadNumber(size_at));
     };
     Ok(Command::Demo(start, size, job.knobs))

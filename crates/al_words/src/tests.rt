@@ -8,6 +8,7 @@ const DEFAULTS: Knobs = Knobs {
     lanes: 4,
     chunk: 16,
     threads: 4,
+    line: 1,
     iter_steps: 1000000,
     serial_steps: 10000000,
 };
@@ -16,6 +17,7 @@ const SET: Knobs = Knobs {
     lanes: 64,
     chunk: 65536,
     threads: 4,
+    line: 16,
     iter_steps: 1,
     serial_steps: 1000000000,
 };
@@ -50,7 +52,7 @@ fn words_are_commands(rt: HostRuntime) -> Result<(), Fail> {
         ("run p1.c", Command::Run(job(1, 0, DEFAULTS))),
         ("plain p9.c n.txt", Command::Plain(job(1, 2, DEFAULTS))),
         (
-            "trace --lanes 64 p.c --chunk 65536 --iter-steps 1 n.txt --steps 1000000000",
+            "trace --lanes 64 p.c --chunk 65536 --iter-steps 1 n.txt --steps 1000000000 --line 16",
             Command::Trace(job(3, 8, SET)),
         ),
         ("check p1.c", Command::Check(job(1, 0, DEFAULTS))),
@@ -69,7 +71,7 @@ fn words_are_commands(rt: HostRuntime) -> Result<(), Fail> {
 
 #[test]
 fn words_have_faults(rt: HostRuntime) -> Result<(), Fail> {
-    let rows: [(&str, WordFault); 24] = [
+    let rows: [(&str, WordFault); 29] = [
         ("walk p1.c", WordFault::BadCommand(0)),
         ("infer p1.c", WordFault::BadCommand(0)),
         ("", WordFault::BadCommand(0)),
@@ -80,6 +82,11 @@ fn words_have_faults(rt: HostRuntime) -> Result<(), Fail> {
         ("run p1.c --chunk 65537", WordFault::BadValue(2)),
         ("run p1.c --steps 1000000001", WordFault::BadValue(2)),
         ("run p1.c --iter-steps x", WordFault::BadValue(2)),
+        ("run p1.c --line 3", WordFault::BadValue(2)),
+        ("run p1.c --line 0", WordFault::BadValue(2)),
+        ("run p1.c --line 32", WordFault::BadValue(2)),
+        ("run --line 2 --line 2 p1.c", WordFault::Repeated(3)),
+        ("check p1.c --line 1", WordFault::Unknown(2)),
         ("run --lanes 2 --lanes 2 p1.c", WordFault::Repeated(3)),
         ("run p1.c --lanes", WordFault::NoValue(2)),
         ("run --lanes=2 p1.c", WordFault::Unknown(1)),

@@ -1,6 +1,6 @@
 use Rattle.std.proofs.Common.{◌≡◌, ◌∙◌, ap, sym, length, arith}
 use Rattle.al_text.specs.Numbers.{numbers_onto}
-use Rattle.al_text.proofs.WordLemmas.{read_on, read_last, fails_last, word_goes_on}
+use Rattle.al_text.proofs.WordLemmas.{read_on, read_last, fails_last, fails_within, word_goes_on}
 use Rattle.al_text.proofs.numbers.read.Goals as goal
 use Rattle.al_text.proofs.numbers.read.Goals.{then-is_blank+in-Ok, else-is_blank}
 
@@ -28,3 +28,9 @@ pub returns-in-Err-push_word : goal.returns-in-Err-push_word
 returns-in-Err-push_word c =
     let last : c.loop-at.at ≡ length c.args.text.now = omega arith in
     fails_last c.in-Err-push_word.fault c.loop-at.numbers c.loop-at.line c.args.text.now c.loop-at.start c.loop-at.at _ last c.in-Err-push_word.ensures.err c.loop-at.invariant.whole
+
+pub returns-in-Err : goal.returns-in-Err
+returns-in-Err c =
+    let blank = sym c.is_blank.ensures ∙ c.if-is_blank.true in
+    fails_within c.in-Err.fault c.loop-at.numbers c.loop-at.line c.args.text.now c.loop-at.start c.loop-at.at _ c.loop-at-test.true blank
+    c.in-Err.ensures.err c.loop-at.invariant.whole

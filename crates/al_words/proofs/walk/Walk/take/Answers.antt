@@ -1,4 +1,4 @@
-use Rattle.al_words.proofs.Places.{value_fits, optioned_fits, named_fits}
+use Rattle.al_words.proofs.Places.{value_fits, optioned_fits}
 use Rattle.al_words.proofs.walk.Walk.take.Goals as goal
 
 pub returns-in-Some-clause-fits : goal.returns-in-Some-clause-fits
