@@ -76,9 +76,26 @@ nodes-Calloc x a = of_expr (Expr-F.Calloc x a) _ (e.rolls-Calloc x a)
 pub nodes-Call : (w : List ℕ) (xs : List Expr) → expr_nodes (e.Call w xs) ≡ 1 + exprs_nodes xs
 nodes-Call w xs = of_expr (Expr-F.Call w xs) _ (e.rolls-Call w xs) ∙ ap (λ n. 1 + n) (total_exprs xs)
 
-pub ruleset expr_counts = (nodes-Number, nodes-Null, nodes-Var, nodes-Unary, nodes-Binary, nodes-And, nodes-Or, nodes-Index, nodes-Dot, nodes-Arrow, nodes-Deref, nodes-Address, nodes-SizeOf, nodes-Calloc, nodes-Call)
+pub ruleset expr_counts = (
+  nodes-Number,
+  nodes-Null,
+  nodes-Var,
+  nodes-Unary,
+  nodes-Binary,
+  nodes-And,
+  nodes-Or,
+  nodes-Index,
+  nodes-Dot,
+  nodes-Arrow,
+  nodes-Deref,
+  nodes-Address,
+  nodes-SizeOf,
+  nodes-Calloc,
+  nodes-Call,
+)
 
-of_kind : (x : StmtKind-F StmtKind Stmt) (d : StmtKind) → roll-StmtKind x ≡ d → kind_nodes d ≡ kind_case (map-StmtKind StmtKind Stmt ℕ ℕ kind_nodes stmt_nodes x)
+of_kind : (x : StmtKind-F StmtKind Stmt) (d : StmtKind)
+    → roll-StmtKind x ≡ d → kind_nodes d ≡ kind_case (map-StmtKind StmtKind Stmt ℕ ℕ kind_nodes stmt_nodes x)
 unfolding kind_nodes stmt_nodes
 of_kind x d is = ap (λ d. fold-StmtKind ℕ ℕ kind_case stmt_case d) (sym is) ∙ fold-roll-StmtKind ℕ ℕ kind_case stmt_case x
 
@@ -111,7 +128,8 @@ kind-If c x (Some y) = of_kind (StmtKind-F.If c x (Some y)) _ (k.rolls-If c x (S
 pub kind-While : (c : Expr) (x : Stmt) → kind_nodes (k.While c x) ≡ expr_nodes c + stmt_nodes x
 kind-While c x = of_kind (StmtKind-F.While c x) _ (k.rolls-While c x)
 
-pub kind-For : (a : Option Stmt) (b : Option Expr) (c : Option Stmt) (x : Stmt) (n : Option LoopNote) → kind_nodes (k.For a b c x n) ≡ part_nodes a + value_nodes b + part_nodes c + stmt_nodes x
+pub kind-For : (a : Option Stmt) (b : Option Expr) (c : Option Stmt) (x : Stmt) (n : Option LoopNote)
+    → kind_nodes (k.For a b c x n) ≡ part_nodes a + value_nodes b + part_nodes c + stmt_nodes x
 kind-For None b None x n = of_kind (StmtKind-F.For None b None x n) _ (k.rolls-For None b None x n)
 kind-For None b (Some c) x n = of_kind (StmtKind-F.For None b (Some c) x n) _ (k.rolls-For None b (Some c) x n)
 kind-For (Some a) b None x n = of_kind (StmtKind-F.For (Some a) b None x n) _ (k.rolls-For (Some a) b None x n)
@@ -133,4 +151,18 @@ pub stmt_counts : (s : Stmt) → stmt_nodes s ≡ 1 + kind_nodes s.kind
 unfolding kind_nodes stmt_nodes
 stmt_counts s = fold_out-Stmt ℕ ℕ kind_case stmt_case s
 
-pub ruleset kind_counts = (kind-Empty, kind-Declare, kind-Assign, kind-Update, kind-Call, kind-Print, kind-If, kind-While, kind-For, kind-Block, kind-Return, kind-Break, kind-Continue)
+pub ruleset kind_counts = (
+  kind-Empty,
+  kind-Declare,
+  kind-Assign,
+  kind-Update,
+  kind-Call,
+  kind-Print,
+  kind-If,
+  kind-While,
+  kind-For,
+  kind-Block,
+  kind-Return,
+  kind-Break,
+  kind-Continue,
+)

@@ -5,7 +5,7 @@ ghost use Rattle.al_grammar.specs.Operators.{infix_of, prefix_of};
 ghost use Rattle.al_grammar.specs.Phrases.{line_at};
 ghost use Rattle.al_grammar.specs.Steps as spec;
 ghost use Rattle.al_grammar.specs.ExpressionParser as job;
-ghost use Rattle.al_expressions.specs.Answers.{state, Answers, Gives};
+ghost use Rattle.al_expressions.specs.Cursors.{Parses, ParsesCounted, state};
 
 use al_grammar::{Joint, Prefix, infix_of, prefix_of};
 use al_source::{Key, Mark, Name, ParseFault, Token, TokenKind};
@@ -118,7 +118,7 @@ impl<'a> Cursor<'a> {
 
     /// Takes the next token, an operator.
     pub fn spend(&mut self) -> Result<(), ParseFault>
-        ensures { Gives (job.spend (state self.old)) result (state self.new) }
+        ensures { ParsesCounted job.spend self.old result self.new }
     {
         if self.room == 0 {
             return Err(ParseFault::Syntax);
@@ -130,7 +130,7 @@ impl<'a> Cursor<'a> {
 
     /// Takes the next token, to which two operators belong.
     pub fn spend_two(&mut self) -> Result<(), ParseFault>
-        ensures reads { Gives (job.spend_two (state self.old)) result (state self.new) }
+        ensures reads { ParsesCounted job.spend_two self.old result self.new }
         ensures shorter { OnOk result (length self.new.rest.now ≤ length self.old.rest.now) }
     {
         if self.room < 2 {
@@ -143,7 +143,7 @@ impl<'a> Cursor<'a> {
 
     /// Takes this mark.
     pub fn expect(&mut self, mark: Mark) -> Result<(), ParseFault>
-        ensures reads { Answers (spec.expect mark self.old.rest.now) result self.new.rest.now }
+        ensures reads { Parses (spec.expect mark) self.old result self.new }
         ensures shorter { OnOk result (length self.new.rest.now < length self.old.rest.now) }
         ensures room { self.new.room ≡ self.old.room }
     {
@@ -157,7 +157,7 @@ impl<'a> Cursor<'a> {
 
     /// Takes this reserved word.
     pub fn expect_key(&mut self, key: Key) -> Result<(), ParseFault>
-        ensures reads { Answers (spec.expect_key key self.old.rest.now) result self.new.rest.now }
+        ensures reads { Parses (spec.expect_key key) self.old result self.new }
         ensures shorter { OnOk result (length self.new.rest.now < length self.old.rest.now) }
         ensures room { self.new.room ≡ self.old.room }
     {
@@ -171,7 +171,7 @@ impl<'a> Cursor<'a> {
 
     /// Takes a name, and copies it.
     pub fn word(&mut self) -> Result<Name, ParseFault>
-        ensures reads { Answers (spec.word self.old.rest.now) result self.new.rest.now }
+        ensures reads { Parses spec.word self.old result self.new }
         ensures shorter { OnOk result (length self.new.rest.now < length self.old.rest.now) }
         ensures room { self.new.room ≡ self.old.room }
     {

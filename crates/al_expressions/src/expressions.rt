@@ -8,15 +8,14 @@ ghost use Rattle.al_source.specs.declared.source_tree.Expr.TheVariants as tree;
 ghost use Rattle.al_grammar.specs.Steps.{kind_at, mark_at};
 ghost use Rattle.al_grammar.specs.ExpressionParser.{parse};
 ghost use Rattle.al_grammar.specs.ExpressionParser as job;
-ghost use Rattle.al_expressions.specs.Answers.{state, Answers, Gives};
+ghost use Rattle.al_expressions.specs.Cursors.{Parses, ParsesCounted};
 ghost use Rattle.al_expressions.specs.Nests.{Nests};
 
 use crate::cursor::Cursor;
 use al_grammar::{LEVELS, apply, join};
+use al_source::limits::EXPRESSION_OPERATORS;
 use al_source::{Expr, Key, Mark, Name, ParseFault, TokenKind};
 use sqlite_items::{Boxed, Items};
-
-const MAX_OPERATORS: u8 = 128;
 
 #[derive(Clone, Copy)]
 pub struct Grammar<F> {
@@ -27,7 +26,7 @@ pub struct Grammar<F> {
 
 /// An expression of this level or a tighter one.
 pub fn whole(cursor: &mut Cursor<'_>, level: u8) -> Result<Expr, ParseFault>
-    ensures reads { Gives (parse (job.whole level) (state cursor.old)) result (state cursor.new) }
+    ensures reads { ParsesCounted (parse (job.whole level)) cursor.old result cursor.new }
     ensures shorter { OnOk result (length cursor.new.rest.now < length cursor.old.rest.now) }
 {
     Grammar {
@@ -38,22 +37,22 @@ pub fn whole(cursor: &mut Cursor<'_>, level: u8) -> Result<Expr, ParseFault>
 }
 
 impl<'a> Cursor<'a> {
-    /// A whole expression, with at most 128 operators.
+    /// A whole expression, with room for all of its operators.
     pub fn expression(&mut self) -> Result<Expr, ParseFault>
-        ensures reads { Answers (job.expression self.old.rest.now) result self.new.rest.now }
+        ensures reads { Parses job.expression self.old result self.new }
         ensures shorter { OnOk result (length self.new.rest.now < length self.old.rest.now) }
     {
-        self.room = MAX_OPERATORS;
+        self.room = EXPRESSION_OPERATORS;
         whole(self, 0)
     }
 
-    /// The place of an assignment, with at most 128 operators.
+    /// The place of an assignment, with room for all of its operators.
     #[tactic(auto, using(al_grammar::proofs::ParserEquation::whole_operand))]
     pub fn place(&mut self) -> Result<Expr, ParseFault>
-        ensures reads { Answers (job.place self.old.rest.now) result self.new.rest.now }
+        ensures reads { Parses job.place self.old result self.new }
         ensures shorter { OnOk result (length self.new.rest.now < length self.old.rest.now) }
     {
-        self.room = MAX_OPERATORS;
+        self.room = EXPRESSION_OPERATORS;
         whole(self, LEVELS)
     }
 }
@@ -63,17 +62,17 @@ impl<F: Fn(&mut Cursor<'_>, u8) -> Result<Expr, ParseFault>> Grammar<F> {
     fn nest(&self, cursor: &mut Cursor<'_>, level: u8) -> Result<Expr, ParseFault>
         requires nests { Nests self.now.limit (F.pre self.now.nested) (F.post self.now.nested) }
         requires below { length cursor.old.rest.now < self.now.limit }
-        ensures reads { Gives (parse (job.whole level) (state cursor.old)) result (state cursor.new) }
+        ensures reads { ParsesCounted (parse (job.whole level)) cursor.old result cursor.new }
         ensures shorter { OnOk result (length cursor.new.rest.now < length cursor.old.rest.now) }
     {
         (self.nested)(cursor, level)
     }
 
-    #[tactic(auto, using(al_grammar::proofs::ParserEquation::whole_tighter, al_grammar::proofs::ParserEquation::whole_operand))]
+    #[tactic(auto, using(al_grammar::proofs::ParserEquation::level_steps))]
     fn level(&self, cursor: &mut Cursor<'_>, level: u8) -> Result<Expr, ParseFault>
         requires nests { Nests self.now.limit (F.pre self.now.nested) (F.post self.now.nested) }
         requires within { length cursor.old.rest.now ≤ self.now.limit }
-        ensures reads { Gives (parse (job.whole level) (state cursor.old)) result (state cursor.new) }
+        ensures reads { ParsesCounted (parse (job.whole level)) cursor.old result cursor.new }
         ensures shorter { OnOk result (length cursor.new.rest.now < length cursor.old.rest.now) }
     {
         if level < LEVELS {
@@ -85,11 +84,11 @@ impl<F: Fn(&mut Cursor<'_>, u8) -> Result<Expr, ParseFault>> Grammar<F> {
     }
 
     /// Goes on from the left operand.
-    #[tactic(auto, using(al_grammar::proofs::ParserEquation::parse_is, al_grammar::proofs::ParserEquation::climb_other, al_grammar::proofs::ParserEquation::climb_same))]
+    #[tactic(auto, using(al_grammar::proofs::ParserEquation::climb_steps))]
     fn climb(&self, cursor: &mut Cursor<'_>, level: u8, left: Expr) -> Result<Expr, ParseFault>
         requires nests { Nests self.now.limit (F.pre self.now.nested) (F.post self.now.nested) }
         requires within { length cursor.old.rest.now ≤ self.now.limit }
-        ensures reads { Gives (parse (job.climb level left) (state cursor.old)) result (state cursor.new) }
+        ensures reads { ParsesCounted (parse (job.climb level left)) cursor.old result cursor.new }
         ensures shorter { OnOk result (length cursor.new.rest.now ≤ length cursor.old.rest.now) }
     {
         let mut left = left;
@@ -107,7 +106,7 @@ impl<F: Fn(&mut Cursor<'_>, u8) -> Result<Expr, ParseFault>> Grammar<F> {
     fn unary(&self, cursor: &mut Cursor<'_>) -> Result<Expr, ParseFault>
         requires nests { Nests self.now.limit (F.pre self.now.nested) (F.post self.now.nested) }
         requires within { length cursor.old.rest.now ≤ self.now.limit }
-        ensures reads { Gives (parse job.unary (state cursor.old)) result (state cursor.new) }
+        ensures reads { ParsesCounted (parse job.unary) cursor.old result cursor.new }
         ensures shorter { OnOk result (length cursor.new.rest.now < length cursor.old.rest.now) }
     {
         match cursor.prefix() {
@@ -123,7 +122,7 @@ impl<F: Fn(&mut Cursor<'_>, u8) -> Result<Expr, ParseFault>> Grammar<F> {
     fn postfix(&self, cursor: &mut Cursor<'_>) -> Result<Expr, ParseFault>
         requires nests { Nests self.now.limit (F.pre self.now.nested) (F.post self.now.nested) }
         requires within { length cursor.old.rest.now ≤ self.now.limit }
-        ensures reads { Gives (parse job.postfix (state cursor.old)) result (state cursor.new) }
+        ensures reads { ParsesCounted (parse job.postfix) cursor.old result cursor.new }
         ensures shorter { OnOk result (length cursor.new.rest.now < length cursor.old.rest.now) }
     {
         let first = self.primary(cursor)?;
@@ -133,7 +132,7 @@ impl<F: Fn(&mut Cursor<'_>, u8) -> Result<Expr, ParseFault>> Grammar<F> {
     fn primary(&self, cursor: &mut Cursor<'_>) -> Result<Expr, ParseFault>
         requires nests { Nests self.now.limit (F.pre self.now.nested) (F.post self.now.nested) }
         requires within { length cursor.old.rest.now ≤ self.now.limit }
-        ensures reads { Gives (parse job.primary (state cursor.old)) result (state cursor.new) }
+        ensures reads { ParsesCounted (parse job.primary) cursor.old result cursor.new }
         ensures shorter { OnOk result (length cursor.new.rest.now < length cursor.old.rest.now) }
     {
         match cursor.kind() {
@@ -157,7 +156,7 @@ impl<F: Fn(&mut Cursor<'_>, u8) -> Result<Expr, ParseFault>> Grammar<F> {
         requires nests { Nests self.now.limit (F.pre self.now.nested) (F.post self.now.nested) }
         requires here { kind_at cursor.old.rest.now ≡ Some (token.Key key) }
         requires within { length cursor.old.rest.now ≤ self.now.limit }
-        ensures reads { Gives (job.primary_by parse (Some (token.Key key)) (state cursor.old)) result (state cursor.new) }
+        ensures reads { ParsesCounted (job.primary_by parse (Some (token.Key key))) cursor.old result cursor.new }
         ensures shorter { OnOk result (length cursor.new.rest.now < length cursor.old.rest.now) }
     {
         match key {
@@ -174,7 +173,7 @@ impl<F: Fn(&mut Cursor<'_>, u8) -> Result<Expr, ParseFault>> Grammar<F> {
     fn allocated(&self, cursor: &mut Cursor<'_>) -> Result<Expr, ParseFault>
         requires nests { Nests self.now.limit (F.pre self.now.nested) (F.post self.now.nested) }
         requires within { length cursor.old.rest.now ≤ self.now.limit }
-        ensures reads { Gives (job.allocated parse (state cursor.old)) result (state cursor.new) }
+        ensures reads { ParsesCounted (job.allocated parse) cursor.old result cursor.new }
         ensures shorter { OnOk result (length cursor.new.rest.now < length cursor.old.rest.now) }
     {
         cursor.spend_two()?;
@@ -188,7 +187,7 @@ impl<F: Fn(&mut Cursor<'_>, u8) -> Result<Expr, ParseFault>> Grammar<F> {
     fn named(&self, cursor: &mut Cursor<'_>, name: Name) -> Result<Expr, ParseFault>
         requires nests { Nests self.now.limit (F.pre self.now.nested) (F.post self.now.nested) }
         requires below { length cursor.old.rest.now < self.now.limit }
-        ensures reads { Gives (job.named parse name (state cursor.old)) result (state cursor.new) }
+        ensures reads { ParsesCounted (job.named parse name) cursor.old result cursor.new }
         ensures shorter { OnOk result (length cursor.new.rest.now ≤ length cursor.old.rest.now) }
     {
         match cursor.mark() {
@@ -204,7 +203,7 @@ impl<F: Fn(&mut Cursor<'_>, u8) -> Result<Expr, ParseFault>> Grammar<F> {
         requires nests { Nests self.now.limit (F.pre self.now.nested) (F.post self.now.nested) }
         requires open { mark_at cursor.old.rest.now ≡ Some LeftParen }
         requires within { length cursor.old.rest.now ≤ self.now.limit }
-        ensures reads { Gives (job.grouped parse (state cursor.old)) result (state cursor.new) }
+        ensures reads { ParsesCounted (job.grouped parse) cursor.old result cursor.new }
         ensures shorter { OnOk result (length cursor.new.rest.now < length cursor.old.rest.now) }
     {
         cursor.spend()?;
@@ -217,7 +216,7 @@ impl<F: Fn(&mut Cursor<'_>, u8) -> Result<Expr, ParseFault>> Grammar<F> {
         requires nests { Nests self.now.limit (F.pre self.now.nested) (F.post self.now.nested) }
         requires open { mark_at cursor.old.rest.now ≡ Some LeftBracket }
         requires within { length cursor.old.rest.now ≤ self.now.limit }
-        ensures reads { Gives (job.indexed parse left (state cursor.old)) result (state cursor.new) }
+        ensures reads { ParsesCounted (job.indexed parse left) cursor.old result cursor.new }
         ensures shorter { OnOk result (length cursor.new.rest.now < length cursor.old.rest.now) }
     {
         cursor.spend()?;
@@ -233,7 +232,7 @@ impl<F: Fn(&mut Cursor<'_>, u8) -> Result<Expr, ParseFault>> Grammar<F> {
     fn suffix(&self, cursor: &mut Cursor<'_>, left: Expr) -> Result<Expr, ParseFault>
         requires nests { Nests self.now.limit (F.pre self.now.nested) (F.post self.now.nested) }
         requires within { length cursor.old.rest.now ≤ self.now.limit }
-        ensures reads { Gives (parse (job.suffix left) (state cursor.old)) result (state cursor.new) }
+        ensures reads { ParsesCounted (parse (job.suffix left)) cursor.old result cursor.new }
         ensures shorter { OnOk result (length cursor.new.rest.now ≤ length cursor.old.rest.now) }
     {
         let mut left = left;
@@ -252,7 +251,7 @@ impl<F: Fn(&mut Cursor<'_>, u8) -> Result<Expr, ParseFault>> Grammar<F> {
     fn arguments(&self, cursor: &mut Cursor<'_>, name: Name) -> Result<Expr, ParseFault>
         requires nests { Nests self.now.limit (F.pre self.now.nested) (F.post self.now.nested) }
         requires below { length cursor.old.rest.now < self.now.limit }
-        ensures reads { Gives (parse (job.arguments name) (state cursor.old)) result (state cursor.new) }
+        ensures reads { ParsesCounted (parse (job.arguments name)) cursor.old result cursor.new }
         ensures shorter { OnOk result (length cursor.new.rest.now < length cursor.old.rest.now) }
     {
         let found = Items::new(cursor.alloc);
@@ -273,7 +272,7 @@ impl<F: Fn(&mut Cursor<'_>, u8) -> Result<Expr, ParseFault>> Grammar<F> {
     ) -> Result<Expr, ParseFault>
         requires nests { Nests self.now.limit (F.pre self.now.nested) (F.post self.now.nested) }
         requires below { length cursor.old.rest.now < self.now.limit }
-        ensures reads { Gives (parse (job.more name found) (state cursor.old)) result (state cursor.new) }
+        ensures reads { ParsesCounted (parse (job.more name found)) cursor.old result cursor.new }
         ensures shorter { OnOk result (length cursor.new.rest.now < length cursor.old.rest.now) }
     {
         let mut found = found;
@@ -293,7 +292,7 @@ impl<F: Fn(&mut Cursor<'_>, u8) -> Result<Expr, ParseFault>> Grammar<F> {
 }
 
 fn sized(cursor: &mut Cursor<'_>) -> Result<Expr, ParseFault>
-    ensures reads { Gives (job.sized (state cursor.old)) result (state cursor.new) }
+    ensures reads { ParsesCounted job.sized cursor.old result cursor.new }
     ensures shorter { OnOk result (length cursor.new.rest.now < length cursor.old.rest.now) }
 {
     cursor.spend()?;
@@ -302,7 +301,7 @@ fn sized(cursor: &mut Cursor<'_>) -> Result<Expr, ParseFault>
 
 fn dot(cursor: &mut Cursor<'_>, left: Expr) -> Result<Expr, ParseFault>
     requires open { mark_at cursor.old.rest.now ≡ Some Dot }
-    ensures reads { Gives (job.field tree.Dot left (state cursor.old)) result (state cursor.new) }
+    ensures reads { ParsesCounted (job.field tree.Dot left) cursor.old result cursor.new }
     ensures shorter { OnOk result (length cursor.new.rest.now < length cursor.old.rest.now) }
 {
     cursor.spend()?;
@@ -312,7 +311,7 @@ fn dot(cursor: &mut Cursor<'_>, left: Expr) -> Result<Expr, ParseFault>
 
 fn arrow(cursor: &mut Cursor<'_>, left: Expr) -> Result<Expr, ParseFault>
     requires open { mark_at cursor.old.rest.now ≡ Some Arrow }
-    ensures reads { Gives (job.field tree.Arrow left (state cursor.old)) result (state cursor.new) }
+    ensures reads { ParsesCounted (job.field tree.Arrow left) cursor.old result cursor.new }
     ensures shorter { OnOk result (length cursor.new.rest.now < length cursor.old.rest.now) }
 {
     cursor.spend()?;

@@ -2,21 +2,16 @@
 
 ghost use Rattle.std.specs.Prelude.{◌≡◌, ◌<◌, ◌≤◌, length, OnOk, IfOk};
 ghost use Rattle.al_source.specs.declared.source_tree.CType.TheVariants as tree;
-ghost use Rattle.al_grammar.specs.Types.{max_stars};
+ghost use Rattle.al_source.specs.declared.limits.TheConstants.{DECLARATOR_STARS};
 ghost use Rattle.al_grammar.specs.TypeParser as spec;
 ghost use Rattle.al_grammar.specs.ExpressionParser.{element_size};
-ghost use Rattle.al_expressions.specs.Answers.{Answers};
+ghost use Rattle.al_expressions.specs.Cursors.{Parses};
 
 use crate::cursor::Cursor;
+use al_source::limits::{DECLARATOR_DIMENSIONS, DECLARATOR_STARS, DIMENSION_LENGTH};
 use al_source::{CType, Field, Key, Mark, ParseFault, TokenKind};
 use sqlite_items::{Boxed, Items};
 use std::alloc::{AllocError, Global};
-
-const MAX_STARS: u8 = 8;
-
-const MAX_DIMENSIONS: u8 = 4;
-
-const MAX_LENGTH: i64 = 4_194_304;
 
 /// The same type again, for the next name of a declaration.
 pub fn copy(alloc: Global, ty: &CType) -> Result<CType, AllocError>
@@ -49,7 +44,7 @@ fn length_of(kind: &TokenKind) -> Option<u32>
 {
     match kind {
         TokenKind::Number(value) => {
-            if *value > 0 && *value <= MAX_LENGTH {
+            if *value > 0 && *value <= DIMENSION_LENGTH {
                 Some(*value as u32)
             } else {
                 None
@@ -73,7 +68,7 @@ impl<'a> Cursor<'a> {
 
     /// The type before the stars.
     pub fn base(&mut self) -> Result<CType, ParseFault>
-        ensures reads { Answers (spec.base self.old.rest.now) result self.new.rest.now }
+        ensures reads { Parses spec.base self.old result self.new }
         ensures shorter { OnOk result (length self.new.rest.now < length self.old.rest.now) }
         ensures room { self.new.room ≡ self.old.room }
     {
@@ -96,15 +91,15 @@ impl<'a> Cursor<'a> {
         }
     }
 
-    #[tactic(auto, using(al_grammar::proofs::Counted::stars_none, al_grammar::proofs::Counted::stars_other, al_grammar::proofs::Counted::stars_more))]
-    /// At most eight stars, each of which makes a pointer.
+    /// As many stars as there may be, each of which makes a pointer.
+    #[tactic(auto, using(al_grammar::proofs::Counted::star_steps))]
     pub fn stars(&mut self, ty: CType) -> Result<CType, ParseFault>
-        ensures reads { Answers (spec.stars max_stars ty self.old.rest.now) result self.new.rest.now }
+        ensures reads { Parses (spec.stars DECLARATOR_STARS ty) self.old result self.new }
         ensures shorter { OnOk result (length self.new.rest.now ≤ length self.old.rest.now) }
         ensures room { self.new.room ≡ self.old.room }
     {
         let mut ty = ty;
-        let mut left = MAX_STARS;
+        let mut left = DECLARATOR_STARS;
         while left > 0 && self.is_mark(Mark::Star) {
             self.advance();
             ty = pointer(self.alloc, ty)?;
@@ -114,7 +109,7 @@ impl<'a> Cursor<'a> {
     }
 
     fn length(&mut self) -> Result<u32, ParseFault>
-        ensures reads { Answers (spec.take_length self.old.rest.now) result self.new.rest.now }
+        ensures reads { Parses spec.take_length self.old result self.new }
         ensures shorter { OnOk result (length self.new.rest.now < length self.old.rest.now) }
         ensures room { self.new.room ≡ self.old.room }
     {
@@ -130,10 +125,10 @@ impl<'a> Cursor<'a> {
         }
     }
 
-    #[tactic(auto, using(al_grammar::proofs::Counted::dimensions_none, al_grammar::proofs::Counted::dimensions_other, al_grammar::proofs::Counted::dimensions_more))]
     /// So many dimensions at most, each of which makes an array of what the later ones make.
+    #[tactic(auto, using(al_grammar::proofs::Counted::dimension_steps))]
     fn dimensions(&mut self, left: u8, of: CType) -> Result<CType, ParseFault>
-        ensures reads { Answers (spec.dimensions left of self.old.rest.now) result self.new.rest.now }
+        ensures reads { Parses (spec.dimensions left of) self.old result self.new }
         ensures shorter { OnOk result (length self.new.rest.now ≤ length self.old.rest.now) }
         ensures room { self.new.room ≡ self.old.room }
     {
@@ -149,20 +144,20 @@ impl<'a> Cursor<'a> {
 
     /// A name with its stars and dimensions, after a base.
     pub fn declarator(&mut self, base: &CType) -> Result<Field, ParseFault>
-        ensures reads { Answers (spec.declarator base.now self.old.rest.now) result self.new.rest.now }
+        ensures reads { Parses (spec.declarator base.now) self.old result self.new }
         ensures shorter { OnOk result (length self.new.rest.now < length self.old.rest.now) }
         ensures room { self.new.room ≡ self.old.room }
     {
         let base = copy(self.alloc, base)?;
         let starred = self.stars(base)?;
         let name = self.word()?;
-        let ty = self.dimensions(MAX_DIMENSIONS, starred)?;
+        let ty = self.dimensions(DECLARATOR_DIMENSIONS, starred)?;
         Ok(Field { name, ty })
     }
 
     /// `( base * )`, after a `sizeof`.
     pub fn operand_type(&mut self) -> Result<CType, ParseFault>
-        ensures reads { Answers (spec.operand_type self.old.rest.now) result self.new.rest.now }
+        ensures reads { Parses spec.operand_type self.old result self.new }
         ensures shorter { OnOk result (length self.new.rest.now < length self.old.rest.now) }
         ensures room { self.new.room ≡ self.old.room }
     {
@@ -175,7 +170,7 @@ impl<'a> Cursor<'a> {
 
     /// The second argument of `calloc`, with the `,` before and the `)` behind.
     pub fn element_size(&mut self) -> Result<CType, ParseFault>
-        ensures reads { Answers (element_size self.old.rest.now) result self.new.rest.now }
+        ensures reads { Parses element_size self.old result self.new }
         ensures shorter { OnOk result (length self.new.rest.now < length self.old.rest.now) }
         ensures room { self.new.room ≡ self.old.room }
     {

@@ -1,6 +1,6 @@
 -- The parser of expressions reads what is in the grammar.
-use Rattle.std.proofs.Common.{◌≡◌, ℕ, zero, suc, ◌+◌, ◌-◌, ◌*◌, ◌<◌, ◌≤◌, Bool, true, false, nat_lt, nat_eq, if◌then◌else◌, List, [], ◌∷◌, ◌++◌, append_assoc, length, Option, Some, None, Ok, Err, refl, sym, ap, subst, ◌∙◌, arith}
-use Rattle.std.proofs.lemmas.Bool.{ltb-true, lt-ltb, ltb-false, eqb-true, eq-eqb, ne_eqb, le-ltb}
+use Rattle.std.proofs.Common.{◌≡◌, ℕ, suc, ◌<◌, Bool, true, false, List, [], ◌∷◌, ◌++◌, append_assoc, Option, Some, None, Ok, refl, sym, ap, ◌∙◌, arith}
+use Rattle.std.proofs.lemmas.Bool.{lt-ltb, eq-eqb, ne_eqb}
 use Rattle.al_source.specs.declared.tokens.Token.{Token}
 use Rattle.al_source.specs.declared.tokens.TokenKind.{TokenKind}
 use Rattle.al_source.specs.declared.tokens.TokenKind.TheVariants.{Word, Number, Key, Mark}
@@ -13,15 +13,16 @@ use Rattle.al_source.specs.declared.source_tree.Expr.{Expr}
 use Rattle.al_source.specs.declared.source_tree.Expr.TheVariants as e
 use Rattle.al_grammar.specs.declared.operators.Joint.{Joint}
 use Rattle.al_grammar.specs.declared.operators.Prefix.{Prefix}
-use Rattle.al_grammar.specs.Operators.{infix_of, levels, join, prefix_of, apply, update_of, step_of}
+use Rattle.al_grammar.specs.declared.operators.TheConstants.{LEVELS}
+use Rattle.al_grammar.specs.Operators.{infix_of, join, prefix_of, apply, update_of, step_of}
 use Rattle.al_grammar.specs.Phrases.{Tokens, Name, Takes, takes, Means, means}
 use Rattle.al_grammar.specs.Types.{SizeOf}
-use Rattle.al_grammar.specs.Expressions.{State, Reads, Arguments, More, Expression, Place, max_operators}
+use Rattle.al_grammar.specs.Expressions.{State, Reads, Arguments, More, Expression, Place}
 use Rattle.al_grammar.specs.Expressions as g
-use Rattle.al_grammar.specs.Steps.{Read, Step, bind, kind_at, mark_in, mark_at, meaning_at, tail, expect, word}
-use Rattle.al_grammar.specs.TypeParser.{operand_type, size_of}
-use Rattle.al_grammar.specs.ExpressionParser.{Outcome, Parser, and_then, keep, lift, spend, spend_two, Job, whole, climb, unary, postfix, primary, suffix, arguments, more, field, sized, element_size, whole_by, joined_by, climb_by, unary_by, named_by, primary_by, indexed, suffix_by, allocated, arguments_by, more_by, step, rank, measure, guard, go, parse, forget, expression, place}
-use Rattle.al_grammar.proofs.StepFacts.{takes_kind, takes_tail, takes_expect, takes_word}
+use Rattle.al_source.specs.Steps.{bind}
+use Rattle.al_grammar.specs.Steps.{mark_in, mark_at, meaning_at, expect}
+use Rattle.al_grammar.specs.ExpressionParser.{keep, lift, whole, climb, unary, postfix, primary, suffix, arguments, more, element_size, whole_by, joined_by, climb_by, unary_by, named_by, primary_by, suffix_by, arguments_by, more_by, parse, forget, expression, place}
+use Rattle.al_grammar.proofs.StepFacts.{takes_kind, takes_expect, takes_word}
 use Rattle.al_grammar.proofs.TypeFacts.{size_key, complete_operand, complete_size}
 use Rattle.al_grammar.proofs.SoundExpressions.{infix_level}
 use Rattle.al_grammar.proofs.ParserEquation.{parse_is}
@@ -91,7 +92,9 @@ is_stop m.Increment = true
 is_stop m.Decrement = true
 is_stop _ = false
 
-stops_by : (k : the_mark.Mark) (s : State) → is_stop k ≡ true → ((x : Expr) → suffix_by parse x (Some k) s ≡ Ok (x, s)) × ((w : Name) → named_by parse w (Some k) s ≡ Ok (e.Var w, s)) × (infix_of (Mark k) ≡ None)
+stops_by : (k : the_mark.Mark) (s : State)
+    → is_stop k ≡ true
+    → ((x : Expr) → suffix_by parse x (Some k) s ≡ Ok (x, s)) × ((w : Name) → named_by parse w (Some k) s ≡ Ok (e.Var w, s)) × (infix_of (Mark k) ≡ None)
 stops_by m.RightParen s d = ((λ x. refl), (λ w. refl), refl)
 stops_by m.RightBracket s d = ((λ x. refl), (λ w. refl), refl)
 stops_by m.Semicolon s d = ((λ x. refl), (λ w. refl), refl)
@@ -150,13 +153,13 @@ pub stops_step : {op : BinOp} {us vs : Tokens} (n : ℕ) → Means step_of op us
 stops_step {op} n (means {t = t} {ts = ts} d) = let (c, is, s) = step_stops t.kind op d in stops c n t ts is s
 
 -- an operator of no level
-top_ends : (x : Expr) (n : ℕ) (ts : Tokens) → parse (climb levels x) (n, ts) ≡ Ok (x, (n, ts))
-top_ends x n [] = parse_is (climb levels x) (n, [])
-top_ends x n (t ∷ ts) = parse_is (climb levels x) (n, t ∷ ts) ∙ by (infix_of t.kind) refl
+top_ends : (x : Expr) (n : ℕ) (ts : Tokens) → parse (climb LEVELS x) (n, ts) ≡ Ok (x, (n, ts))
+top_ends x n [] = parse_is (climb LEVELS x) (n, [])
+top_ends x n (t ∷ ts) = parse_is (climb LEVELS x) (n, t ∷ ts) ∙ by (infix_of t.kind) refl
   where
-    by : (v : Option (ℕ × Joint)) → infix_of t.kind ≡ v → climb_by parse levels x v (n, t ∷ ts) ≡ Ok (x, (n, t ∷ ts))
+    by : (v : Option (ℕ × Joint)) → infix_of t.kind ≡ v → climb_by parse LEVELS x v (n, t ∷ ts) ≡ Ok (x, (n, t ∷ ts))
     by None d = refl
-    by (Some (q, op)) d = let lt : q < levels = infix_level t.kind q op d in ap (λ b. joined_by parse levels x op b (n, t ∷ ts)) (ne_eqb q levels (omega arith))
+    by (Some (q, op)) d = let lt : q < LEVELS = infix_level t.kind q op d in ap (λ b. joined_by parse LEVELS x op b (n, t ∷ ts)) (ne_eqb q LEVELS (omega arith))
 
 -- ---- how an expression begins
 
@@ -285,7 +288,8 @@ Complete g.postfix s x s' = parse postfix s ≡ parse (suffix x) s'
 Complete g.primary s x s' = parse primary s ≡ Ok (x, s')
 
 -- a mark that begins no arguments
-no_call : (k : the_mark.Mark) (n : ℕ) (t : Token) (ts : Tokens) → t.kind ≡ Mark k → ((w : Name) → named_by parse w (Some k) (n, t ∷ ts) ≡ Ok (e.Var w, (n, t ∷ ts))) → NoCall (n, t ∷ ts)
+no_call : (k : the_mark.Mark) (n : ℕ) (t : Token) (ts : Tokens)
+    → t.kind ≡ Mark k → ((w : Name) → named_by parse w (Some k) (n, t ∷ ts) ≡ Ok (e.Var w, (n, t ∷ ts))) → NoCall (n, t ∷ ts)
 no_call k n t ts dt h w = ap (λ c. named_by parse w (mark_in (Some c)) (n, t ∷ ts)) dt ∙ h w
 
 element_is : {ts us vs ws : Tokens} {a : CType} → Takes (Mark m.Comma) ts us → SizeOf us a vs → Takes (Mark m.RightParen) vs ws → element_size ts ≡ Ok (a, ws)
@@ -298,19 +302,19 @@ mutual
       ∙ parse_is (climb p x) (suc n, t ∷ ts)
       ∙ ap (λ v. climb_by parse p x v (suc n, t ∷ ts)) d
       ∙ ap (λ b. joined_by parse p x op b (suc n, t ∷ ts)) (eq-eqb p p refl)
-      ∙ ap (λ o. and_then o (λ z. parse (climb p (join op x z)))) (complete q (ends_more p s' h) ∙ h.climb (suc p) y (omega arith))
+      ∙ ap (λ o. bind o (λ z. parse (climb p (join op x z)))) (complete q (ends_more p s' h) ∙ h.climb (suc p) y (omega arith))
   complete (g.tighter {p = p} {s = s} {s' = s'} {x = x} lt r) h =
       parse_is (whole p) s
-      ∙ ap (λ b. whole_by parse p b s) (lt-ltb p levels lt)
-      ∙ ap (λ o. and_then o (λ z. parse (climb p z))) (complete r (ends_more p s' h) ∙ h.climb (suc p) x (omega arith))
+      ∙ ap (λ b. whole_by parse p b s) (lt-ltb p LEVELS lt)
+      ∙ ap (λ o. bind o (λ z. parse (climb p z))) (complete r (ends_more p s' h) ∙ h.climb (suc p) x (omega arith))
   complete (g.operand {s = s} {s' = s'} {x = x} r) h =
-      parse_is (whole levels) s
+      parse_is (whole LEVELS) s
       ∙ complete r h.operand
       ∙ sym (top_ends x s'.0 s'.1)
   complete (g.prefixed {n = n} {s' = s'} {x = x} {op = op} (means {t = t} {ts = ts} d) r) h =
       parse_is unary (suc n, t ∷ ts)
       ∙ ap (λ v. unary_by parse v (suc n, t ∷ ts)) d
-      ∙ ap (λ o. and_then o (λ z s. Ok (apply op z, s))) (complete r h)
+      ∙ ap (λ o. bind o (λ z s. Ok (apply op z, s))) (complete r h)
   complete (g.plain {s = s} {s' = s'} {x = x} r) h =
       parse_is unary s
       ∙ ap (λ v. unary_by parse v s) (prefix_none (begins_postfix r))
@@ -321,20 +325,21 @@ mutual
       complete r (no_call m.LeftBracket (suc n) t ts dt (λ w. refl))
       ∙ parse_is (suffix x) (suc n, t ∷ ts)
       ∙ ap (λ c. suffix_by parse x (mark_in (Some c)) (suc n, t ∷ ts)) dt
-      ∙ ap (λ o. and_then (and_then o (λ i s. and_then (lift (expect m.RightBracket) s) (λ _ s. Ok (e.Index x i, s)))) (λ y. parse (suffix y))) (complete q (stops_at 0 _ end) ∙ end.climb 0 i)
-      ∙ ap (λ o. and_then (and_then (keep k o) (λ _ s. Ok (e.Index x i, s))) (λ y. parse (suffix y))) (takes_expect u)
+      ∙ ap (λ o. bind (bind o (λ i s. bind (lift (expect m.RightBracket) s) (λ _ s. Ok (e.Index x i, s)))) (λ y. parse (suffix y)))
+      (complete q (stops_at 0 _ end) ∙ end.climb 0 i)
+      ∙ ap (λ o. bind (bind (keep k o) (λ _ s. Ok (e.Index x i, s))) (λ y. parse (suffix y))) (takes_expect u)
   complete (g.dot {n = n} {s = s} {x = x} {w = w} r (takes {t = t} dt) (takes {t = u} {ts = ts} du)) h =
       complete r (no_call m.Dot (suc n) t (u ∷ ts) dt (λ w. refl))
       ∙ parse_is (suffix x) (suc n, t ∷ u ∷ ts)
       ∙ ap (λ c. suffix_by parse x (mark_in (Some c)) (suc n, t ∷ u ∷ ts)) dt
-      ∙ ap (λ o. and_then (and_then (keep n o) (λ w s. Ok (e.Dot x w, s))) (λ y. parse (suffix y))) (takes_word (takes du))
+      ∙ ap (λ o. bind (bind (keep n o) (λ w s. Ok (e.Dot x w, s))) (λ y. parse (suffix y))) (takes_word (takes du))
   complete (g.arrow {n = n} {s = s} {x = x} {w = w} r (takes {t = t} dt) (takes {t = u} {ts = ts} du)) h =
       complete r (no_call m.Arrow (suc n) t (u ∷ ts) dt (λ w. refl))
       ∙ parse_is (suffix x) (suc n, t ∷ u ∷ ts)
       ∙ ap (λ c. suffix_by parse x (mark_in (Some c)) (suc n, t ∷ u ∷ ts)) dt
-      ∙ ap (λ o. and_then (and_then (keep n o) (λ w s. Ok (e.Arrow x w, s))) (λ y. parse (suffix y))) (takes_word (takes du))
+      ∙ ap (λ o. bind (bind (keep n o) (λ w s. Ok (e.Arrow x w, s))) (λ y. parse (suffix y))) (takes_word (takes du))
   complete (g.bare {s = s} {s' = s'} {x = x} r) h =
-      parse_is postfix s ∙ ap (λ o. and_then o (λ z. parse (suffix z))) (complete r h)
+      parse_is postfix s ∙ ap (λ o. bind o (λ z. parse (suffix z))) (complete r h)
   complete (g.number {n = n} {v = v} (takes {t = t} {ts = ts} dt)) h =
       parse_is primary (n, t ∷ ts) ∙ ap (λ k. primary_by parse (Some k) (n, t ∷ ts)) dt
   complete (g.null {n = n} (takes {t = t} {ts = ts} dt)) h =
@@ -350,19 +355,19 @@ mutual
       let end = stops_takes k u refl in
       parse_is primary (suc n, t ∷ ts)
       ∙ ap (λ c. primary_by parse (Some c) (suc n, t ∷ ts)) dt
-      ∙ ap (λ o. and_then o (λ x s. and_then (lift (expect m.RightParen) s) (λ _ s. Ok (x, s)))) (complete r (stops_at 0 _ end) ∙ end.climb 0 x)
-      ∙ ap (λ o. and_then (keep k o) (λ _ s. Ok (x, s))) (takes_expect u)
+      ∙ ap (λ o. bind o (λ x s. bind (lift (expect m.RightParen) s) (λ _ s. Ok (x, s)))) (complete r (stops_at 0 _ end) ∙ end.climb 0 x)
+      ∙ ap (λ o. bind (keep k o) (λ _ s. Ok (x, s))) (takes_expect u)
   complete (g.size {n = n} {a = a} {ts = ts} z) h =
       parse_is primary (suc n, ts)
       ∙ ap (λ c. primary_by parse c (suc n, ts)) (takes_kind (size_key z))
-      ∙ ap (λ o. and_then (keep n o) (λ a s. Ok (e.SizeOf a, s))) (complete_operand z)
+      ∙ ap (λ o. bind (keep n o) (λ a s. Ok (e.SizeOf a, s))) (complete_operand z)
   complete (g.allocation {n = n} {k = k} {x = x} {a = a} (takes {t = t} {ts = ts} dt) u r c z v) h =
       let end = stops_takes k c refl in
       parse_is primary (suc (suc n), t ∷ ts)
       ∙ ap (λ c. primary_by parse (Some c) (suc (suc n), t ∷ ts)) dt
-      ∙ ap (λ o. and_then (and_then (keep n o) (λ _. parse (whole 0))) (λ x s. and_then (lift element_size s) (λ a s. Ok (e.Calloc x a, s)))) (takes_expect u)
-      ∙ ap (λ o. and_then o (λ x s. and_then (lift element_size s) (λ a s. Ok (e.Calloc x a, s)))) (complete r (stops_at 0 _ end) ∙ end.climb 0 x)
-      ∙ ap (λ o. and_then (keep k o) (λ a s. Ok (e.Calloc x a, s))) (element_is c z v)
+      ∙ ap (λ o. bind (bind (keep n o) (λ _. parse (whole 0))) (λ x s. bind (lift element_size s) (λ a s. Ok (e.Calloc x a, s)))) (takes_expect u)
+      ∙ ap (λ o. bind o (λ x s. bind (lift element_size s) (λ a s. Ok (e.Calloc x a, s)))) (complete r (stops_at 0 _ end) ∙ end.climb 0 x)
+      ∙ ap (λ o. bind (keep k o) (λ a s. Ok (e.Calloc x a, s))) (element_is c z v)
 
   complete_arguments : {s s' : State} {xs : List Expr} → Arguments s xs s' → (w : Name) → parse (arguments w) s ≡ Ok (e.Call w xs, s')
   complete_arguments (g.none {n = n} (takes {t = t} {ts = ts} dt)) w =
@@ -374,12 +379,12 @@ mutual
   complete_more (g.last {k = k} {s = s} {x = x} r (takes {t = u} {ts = us} du)) w found =
       let end = stops m.RightParen k u us du refl in
       parse_is (more w found) s
-      ∙ ap (λ o. and_then o (λ y s. more_by parse w (found ++ y ∷ []) (mark_at s.1) s)) (complete r (stops_at 0 (k, u ∷ us) end) ∙ end.climb 0 x)
+      ∙ ap (λ o. bind o (λ y s. more_by parse w (found ++ y ∷ []) (mark_at s.1) s)) (complete r (stops_at 0 (k, u ∷ us) end) ∙ end.climb 0 x)
       ∙ ap (λ c. more_by parse w (found ++ x ∷ []) (mark_in (Some c)) (k, u ∷ us)) du
   complete_more (g.more {k = k} {s = s} {s' = s'} {x = x} {xs = xs} r (takes {t = u} {ts = us} du) q) w found =
       let end = stops m.Comma k u us du refl in
       parse_is (more w found) s
-      ∙ ap (λ o. and_then o (λ y s. more_by parse w (found ++ y ∷ []) (mark_at s.1) s)) (complete r (stops_at 0 (k, u ∷ us) end) ∙ end.climb 0 x)
+      ∙ ap (λ o. bind o (λ y s. more_by parse w (found ++ y ∷ []) (mark_at s.1) s)) (complete r (stops_at 0 (k, u ∷ us) end) ∙ end.climb 0 x)
       ∙ ap (λ c. more_by parse w (found ++ x ∷ []) (mark_in (Some c)) (k, u ∷ us)) du
       ∙ complete_more q w (found ++ x ∷ [])
       ∙ ap (λ l. Ok (e.Call w l, s')) (append_assoc found (x ∷ []) xs)
@@ -393,5 +398,6 @@ pub complete_place : {ts us : Tokens} {x : Expr} → Place ts x us → ((n : ℕ
 complete_place q h = ap forget (complete q.reads (h q.left).operand)
 
 -- before a mark that stops
-pub expression_before : {k : the_mark.Mark} {ts us vs : Tokens} {x : Expr} → is_stop k ≡ true → Expression ts x us → Takes (Mark k) us vs → expression ts ≡ Ok (x, us)
+pub expression_before : {k : the_mark.Mark} {ts us vs : Tokens} {x : Expr}
+    → is_stop k ≡ true → Expression ts x us → Takes (Mark k) us vs → expression ts ≡ Ok (x, us)
 expression_before s q t = complete_expression q (λ n. stops_takes n t s)

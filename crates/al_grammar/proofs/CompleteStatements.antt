@@ -1,12 +1,10 @@
 -- The parser of statements reads what is in the grammar.
-use Rattle.std.proofs.Common.{◌≡◌, ℕ, zero, suc, ◌+◌, ◌<◌, ◌≤◌, Bool, true, false, List, [], ◌∷◌, ◌++◌, append_assoc, length, Option, Some, None, Ok, Err, refl, sym, ap, subst, ◌∙◌, arith}
+use Rattle.std.proofs.Common.{◌≡◌, ℕ, suc, ◌+◌, ◌<◌, Bool, true, false, List, [], ◌∷◌, ◌++◌, append_assoc, length, Option, Some, None, Ok, Err, refl, sym, ap, subst, ◌∙◌, arith}
 use Rattle.std.proofs.lemmas.List.{append-nil}
-use Rattle.al_source.specs.declared.tokens.Token.{Token}
 use Rattle.al_source.specs.declared.tokens.TokenKind.{TokenKind}
-use Rattle.al_source.specs.declared.tokens.TokenKind.TheVariants.{Word, Number, Text, Key, Mark, Alter, EndAlter}
+use Rattle.al_source.specs.declared.tokens.TokenKind.TheVariants.{Word, Text, Key, Mark, Alter, EndAlter}
 use Rattle.al_source.specs.declared.tokens.Mark as the_mark
 use Rattle.al_source.specs.declared.tokens.Mark.TheVariants as m
-use Rattle.al_source.specs.declared.tokens.Key as the_key
 use Rattle.al_source.specs.declared.tokens.Key.TheVariants as key
 use Rattle.al_source.specs.declared.texts.Piece.{Piece}
 use Rattle.al_source.specs.declared.operators.BinOp.{BinOp}
@@ -24,26 +22,27 @@ use Rattle.al_source.specs.declared.source_tree.Expr.TheVariants as e
 use Rattle.al_source.specs.declared.source_tree.Stmt.{Stmt}
 use Rattle.al_source.specs.declared.source_tree.StmtKind.{StmtKind}
 use Rattle.al_source.specs.declared.source_tree.StmtKind.TheVariants as kind
+use Rattle.al_source.specs.declared.limits.TheConstants.{EXPRESSION_OPERATORS}
 use Rattle.al_grammar.specs.declared.operators.NoteWord.{NoteWord}
 use Rattle.al_grammar.specs.declared.operators.NoteWord.TheVariants as note
 use Rattle.al_grammar.specs.Operators.{update_of, step_of, note_word_of}
 use Rattle.al_grammar.specs.Phrases.{Tokens, Name, Takes, takes, Means, means, line_at}
 use Rattle.al_grammar.specs.Types.{Base, Declarator}
 use Rattle.al_grammar.specs.Types as ty
-use Rattle.al_grammar.specs.Expressions.{State, Reads, Expression, Place, max_operators}
+use Rattle.al_grammar.specs.Expressions.{State, Reads, Expression, Place}
 use Rattle.al_grammar.specs.Expressions as gr
-use Rattle.al_grammar.specs.Statements.{statement_of, at, one, reduced, is_else, else_next, Values, CallValues, PrintValues, Simple, NotePolicy, NoteOrder, Reduced, Reductions, Note, Maybe, First, Third, Head, Condition, Initializer, Locals, Statement, Inner, Inners}
+use Rattle.al_grammar.specs.Statements.{statement_of, at, one, reduced, is_else, else_next, Values, CallValues, PrintValues, Simple, NotePolicy, NoteOrder, Reduced, Reductions, Note, Maybe, First, Third, Head, Parenthesized, Initializer, Locals, Statement, Inner, Inners}
 use Rattle.al_grammar.specs.Statements as g
-use Rattle.al_grammar.specs.Steps.{Read, Step, bind, pure, skip, kind_at, mark_in, mark_at, key_in, key_at, meaning_in, meaning_at, tail, same_mark, is_mark_in, is_mark, expect, expect_key, word, after_turn, repeat}
-use Rattle.al_grammar.specs.TypeParser.{base, declarator}
+use Rattle.al_source.specs.Steps.{bind, pure}
+use Rattle.al_grammar.specs.Steps.{Read, Step, mark_in, mark_at, key_in, key_at, meaning_in, meaning_at, tail, same_mark, is_mark_in, is_mark, repeat}
 use Rattle.al_grammar.specs.ExpressionParser.{expression, place, parse, unary, forget}
 use Rattle.al_grammar.specs.StatementParser as p
-use Rattle.al_grammar.proofs.StepFacts.{bind_ok, takes_kind, takes_tail, takes_shorter, kind_takes, means_at, means_tail, takes_is_mark, takes_expect, takes_expect_key, takes_word, repeat_last, repeat_next, repeat_is}
+use Rattle.al_grammar.proofs.StepFacts.{takes_kind, takes_tail, means_at, means_tail, takes_is_mark, takes_expect, takes_expect_key, takes_word, repeat_last, repeat_next}
 use Rattle.al_grammar.proofs.Shorter.{turn_takes}
 use Rattle.al_grammar.proofs.TypeFacts.{EndsType, not_mark, complete_base, complete_declarator, ends_declarator}
 use Rattle.al_grammar.proofs.CompleteExpressions.{complete, Stops, stops_takes, stops_update, stops_step, is_stop, Begins, begins, begins_takes, begins_expr, begins_reads, complete_expression, complete_place, expression_before}
 use Rattle.al_grammar.proofs.Wider.{roomier, roomier_more}
-use Rattle.al_grammar.proofs.SoundStatements.{value_shorter, variable_shorter, reduce_shorter, local_shorter, IsCall, EndsCall, semicolon, paren, sound_call, sound_statement, inner_turn, InnerTurn, again}
+use Rattle.al_grammar.proofs.SoundStatements.{value_shorter, variable_shorter, reduce_shorter, local_shorter, EndsCall, semicolon, paren, sound_call, sound_statement, inner_turn}
 
 -- ---- small steps
 
@@ -54,7 +53,8 @@ takes_mark t = ap mark_in (takes_kind t)
 no_meaning : {A : Type 0} {k : TokenKind} {ts us : Tokens} (table : TokenKind → Option A) → Takes k ts us → table k ≡ None → meaning_at table ts ≡ None
 no_meaning table t e = ap (λ o. meaning_in table o) (takes_kind t) ∙ e
 
-begins_mark : {A : Type 0} {ts : Tokens} (f : Option the_mark.Mark → A) (x : A) → Begins begins_expr ts → ((k : TokenKind) → begins_expr k ≡ true → f (mark_in (Some k)) ≡ x) → f (mark_at ts) ≡ x
+begins_mark : {A : Type 0} {ts : Tokens} (f : Option the_mark.Mark → A) (x : A)
+    → Begins begins_expr ts → ((k : TokenKind) → begins_expr k ≡ true → f (mark_in (Some k)) ≡ x) → f (mark_at ts) ≡ x
 begins_mark f x (begins {t = t} d) h = h t.kind d
 
 -- ---- calls
@@ -89,11 +89,15 @@ complete_print_values (g.some t r) = rw (takes_mark t, takes_tail t) (complete_v
 takes_text : {f : List Piece} {ts us : Tokens} → Takes (Text f) ts us → p.text ts ≡ Ok (f, us)
 takes_text t = rw (takes_kind t, takes_tail t) refl
 
+complete_parenthesized : {ts us : Tokens} {c : Expr} → Parenthesized ts c us → p.parenthesized ts ≡ Ok (c, us)
+complete_parenthesized (g.parenthesized a q b) = rw (takes_expect a, expression_before refl q b, takes_expect b) refl
+
 call_ends : {ts : Tokens} (k : StmtKind) → EndsCall ts → p.call_end k ts ≡ Ok (k, ts)
 call_ends k (semicolon t) = rw (takes_mark t) refl
 call_ends k (paren t) = rw (takes_mark t) refl
 
-call_is : {w : Name} {ts us vs ws : Tokens} {xs : List Expr} → Takes (Word w) ts us → Takes (Mark m.LeftParen) us vs → CallValues vs xs ws → EndsCall ws → p.call w ts ≡ Ok (kind.Call w xs, ws)
+call_is : {w : Name} {ts us vs ws : Tokens} {xs : List Expr}
+    → Takes (Word w) ts us → Takes (Mark m.LeftParen) us vs → CallValues vs xs ws → EndsCall ws → p.call w ts ≡ Ok (kind.Call w xs, ws)
 call_is {w} {xs = xs} t u r h = rw (takes_tail t, takes_expect u, complete_call_values r) (call_ends (kind.Call w xs) h)
 
 -- ---- a call that ends its statement is no place of an assignment
@@ -134,12 +138,12 @@ record RoomyMore (ts : Tokens) (xs : List Expr) (us : Tokens) : Type 0 where
   reads : gr.More (room, ts) xs (left, us)
 
 roomy_more : {ts us : Tokens} {xs : List Expr} → Values ts xs us → RoomyMore ts xs us
-roomy_more (g.last q t) = record { room = max_operators; left = q.left; reads = gr.last q.reads t }
+roomy_more (g.last q t) = record { room = EXPRESSION_OPERATORS; left = q.left; reads = gr.last q.reads t }
 roomy_more (g.more {vs = vs} {ws = ws} {xs = xs} q t r) =
     let k = roomy_more r in
     let swap : q.left + k.room ≡ k.room + q.left = omega arith in
     record {
-      room = k.room + max_operators;
+      room = k.room + EXPRESSION_OPERATORS;
       left = q.left + k.left;
       reads = gr.more (roomier k.room q.reads) t (subst (λ n. gr.More (n, vs) xs (q.left + k.left, ws)) swap (roomier_more q.left k.reads));
     }
@@ -153,7 +157,8 @@ roomy : {ts us : Tokens} {xs : List Expr} → CallValues ts xs us → Roomy ts x
 roomy (g.none t) = record { room = 0; left = 0; reads = gr.none t }
 roomy (g.some r) = let q = roomy_more r in record { room = q.room; left = q.left; reads = gr.some q.reads }
 
-one_call : {w : Name} {ts us vs ws : Tokens} {xs : List Expr} {n l : ℕ} → Takes (Word w) ts us → Takes (Mark m.LeftParen) us vs → gr.Arguments (n, vs) xs (l, ws) → Reads gr.unary (suc n, ts) (e.Call w xs) (l, ws)
+one_call : {w : Name} {ts us vs ws : Tokens} {xs : List Expr} {n l : ℕ}
+    → Takes (Word w) ts us → Takes (Mark m.LeftParen) us vs → gr.Arguments (n, vs) xs (l, ws) → Reads gr.unary (suc n, ts) (e.Call w xs) (l, ws)
 one_call t u r = gr.plain (gr.bare (gr.call t u r))
 
 unwrap : {x y : Expr × Tokens} → ◌≡◌ {A = Read Expr} (Ok x) (Ok y) → x ≡ y
@@ -164,10 +169,10 @@ not_both w ts us x q t c place a =
     let (k, end) = sound_call w ts q c in
     let r = roomy k.arguments in
     let wide_place = roomier (suc r.room) place.reads in
-    let wide_call = roomier max_operators (one_call t k.opens r.reads) in
-    let same_room : suc r.room + max_operators ≡ max_operators + suc r.room = omega arith in
+    let wide_call = roomier EXPRESSION_OPERATORS (one_call t k.opens r.reads) in
+    let same_room : suc r.room + EXPRESSION_OPERATORS ≡ EXPRESSION_OPERATORS + suc r.room = omega arith in
     let first = complete wide_place (stops_assigns (suc r.room + place.left) a).operand in
-    let second = complete wide_call (stops_call (max_operators + r.left) end).operand in
+    let second = complete wide_call (stops_call (EXPRESSION_OPERATORS + r.left) end).operand in
     let both : ◌≡◌ {A = Read Expr} (Ok (x, us)) (Ok (e.Call w k.xs, q.1)) = ap forget (sym first ∙ ap (λ n. parse unary (n, ts)) same_room ∙ second) in
     assigns_no_call (subst Assigns (ap (λ o. o.1) (unwrap both)) a) end
 
@@ -205,7 +210,8 @@ record IsPlaced (ts : Tokens) (k : StmtKind) (us : Tokens) : Type 0 where
   assigns : Assigns behind
   is : p.assign x behind ≡ Ok (k, us)
 
-assigned : {ts us vs ws : Tokens} {x y : Expr} → Place ts x us → Takes (Mark m.Assign) us vs → Expression vs y ws → Follows ws → IsPlaced ts (kind.Assign x y) ws
+assigned : {ts us vs ws : Tokens} {x y : Expr}
+    → Place ts x us → Takes (Mark m.Assign) us vs → Expression vs y ws → Follows ws → IsPlaced ts (kind.Assign x y) ws
 assigned {us = us} {x = x} q t r h = record {
   x = x;
   behind = us;
@@ -214,7 +220,8 @@ assigned {us = us} {x = x} q t r h = record {
   is = rw (no_meaning update_of t refl, no_meaning step_of t refl, takes_expect t, complete_expression r (stops_follows h)) refl;
 }
 
-updated : {ts us vs ws : Tokens} {x y : Expr} {op : BinOp} → Place ts x us → Means update_of op us vs → Expression vs y ws → Follows ws → IsPlaced ts (kind.Update op x y) ws
+updated : {ts us vs ws : Tokens} {x y : Expr} {op : BinOp}
+    → Place ts x us → Means update_of op us vs → Expression vs y ws → Follows ws → IsPlaced ts (kind.Update op x y) ws
 updated {us = us} {x = x} q t r h = record {
   x = x;
   behind = us;
@@ -252,6 +259,7 @@ placed_simple {ts} {us} {k} q = from (begins_reads q.place.reads) (placed_is q) 
         by : (c : TokenKind) → t.kind ≡ c → begins_expr t.kind ≡ true → p.simple_by (Some c) (t ∷ ts) ≡ Ok (k, us)
         by (Word w) dt f = no_call w (p.call w (t ∷ ts)) refl (takes dt)
         by (Key key.Printf) dt f = absurd (let no : false ≡ true = sym (ap begins_expr dt) ∙ f in cc)
+        by (Key key.Free) dt f = absurd (let no : false ≡ true = sym (ap begins_expr dt) ∙ f in cc)
         by c dt f = plain c dt (ap begins_expr (sym dt) ∙ f)
 
 -- what begins with a step goes on as one
@@ -263,7 +271,8 @@ step_first _ op ts d = absurd cc
 before_simple : {op : BinOp} {ts us : Tokens} → Means step_of op ts us → p.simple ts ≡ p.before_by (Some op) ts
 before_simple {op} (means {t = t} {ts = ts} d) = step_first t.kind op (t ∷ ts) d ∙ ap (λ o. p.before_by o (t ∷ ts)) d
 
-call_simple : {w : Name} {ts us vs ws : Tokens} {xs : List Expr} → Takes (Word w) ts us → Takes (Mark m.LeftParen) us vs → CallValues vs xs ws → EndsCall ws → p.simple ts ≡ Ok (kind.Call w xs, ws)
+call_simple : {w : Name} {ts us vs ws : Tokens} {xs : List Expr}
+    → Takes (Word w) ts us → Takes (Mark m.LeftParen) us vs → CallValues vs xs ws → EndsCall ws → p.simple ts ≡ Ok (kind.Call w xs, ws)
 call_simple {w} {ts} t u r h = ap (λ c. p.simple_by c ts) (takes_kind t) ∙ ap (λ o. p.first o (p.placed ts)) (call_is t u r h)
 
 pub complete_simple : {ts us : Tokens} {k : StmtKind} → Simple ts k us → Follows us → p.simple ts ≡ Ok (k, us)
@@ -273,10 +282,12 @@ complete_simple (g.step_after q t) h = placed_simple (stepped q t)
 complete_simple (g.step_before {op = op} t q) h = before_simple t ∙ rw (means_tail t, complete_place q (stops_follows h)) refl
 complete_simple (g.call t u r) h = call_simple t u r (ends_call h)
 complete_simple (g.print t u f r) h = rw (takes_kind t, takes_tail t, takes_expect u, takes_text f, complete_print_values r) refl
+complete_simple (g.free t q) h = rw (takes_kind t, takes_tail t, complete_parenthesized q) refl
 
 -- ---- annotations
 
-complete_policy : {ts us : Tokens} {a : Policy} → NotePolicy ts a us → ((b : Policy) → meaning_at note_word_of us ≡ Some (note.Policy b) → ⊥) → p.note_policy ts ≡ Ok (a, us)
+complete_policy : {ts us : Tokens} {a : Policy}
+    → NotePolicy ts a us → ((b : Policy) → meaning_at note_word_of us ≡ Some (note.Policy b) → ⊥) → p.note_policy ts ≡ Ok (a, us)
 complete_policy (g.absent {ts = ts}) h = by (meaning_at note_word_of ts) refl
   where
     by : (o : Option NoteWord) → meaning_at note_word_of ts ≡ o → p.policy_by o ts ≡ Ok (policy.Raw, ts)
@@ -284,7 +295,8 @@ complete_policy (g.absent {ts = ts}) h = by (meaning_at note_word_of ts) refl
     by _ d = refl
 complete_policy (g.written t) h = rw (means_at t, means_tail t) refl
 
-complete_order : {ts us : Tokens} {a : CommitOrder} → NoteOrder ts a us → ((b : CommitOrder) → meaning_at note_word_of us ≡ Some (note.Order b) → ⊥) → p.note_order ts ≡ Ok (a, us)
+complete_order : {ts us : Tokens} {a : CommitOrder}
+    → NoteOrder ts a us → ((b : CommitOrder) → meaning_at note_word_of us ≡ Some (note.Order b) → ⊥) → p.note_order ts ≡ Ok (a, us)
 complete_order (g.absent {ts = ts}) h = by (meaning_at note_word_of ts) refl
   where
     by : (o : Option NoteWord) → meaning_at note_word_of ts ≡ o → p.order_by o ts ≡ Ok (order.InOrder, ts)
@@ -292,7 +304,8 @@ complete_order (g.absent {ts = ts}) h = by (meaning_at note_word_of ts) refl
     by _ d = refl
 complete_order (g.written t) h = rw (means_at t, means_tail t) refl
 
-complete_variables : {op : RedOp} {ts us : Tokens} {rs : List NamedRed} (found : List NamedRed) → Reduced op ts rs us → repeat (p.variable op) found ts ≡ Ok (found ++ rs, us)
+complete_variables : {op : RedOp} {ts us : Tokens} {rs : List NamedRed} (found : List NamedRed)
+    → Reduced op ts rs us → repeat (p.variable op) found ts ≡ Ok (found ++ rs, us)
 complete_variables {op} {ts} {us} found (g.last {w = w} t u) =
     repeat_last (p.variable op) (variable_shorter op) found (found ++ reduced op w ∷ []) ts us (rw (takes_word t, takes_mark u, takes_tail u) refl)
 complete_variables {op} {ts} {us} found (g.more {vs = vs} {w = w} {xs = xs} t u r) =
@@ -304,11 +317,13 @@ complete_variables {op} {ts} {us} found (g.more {vs = vs} {w = w} {xs = xs} t u 
 end_says : {ts us : Tokens} → Takes EndAlter ts us → meaning_at note_word_of ts ≡ None
 end_says t = no_meaning note_word_of t refl
 
-complete_reductions : {ts us vs : Tokens} {rs : List NamedRed} (found : List NamedRed) → Reductions ts rs us → Takes EndAlter us vs → repeat p.reduce_turn found ts ≡ Ok (found ++ rs, us)
+complete_reductions : {ts us vs : Tokens} {rs : List NamedRed} (found : List NamedRed)
+    → Reductions ts rs us → Takes EndAlter us vs → repeat p.reduce_turn found ts ≡ Ok (found ++ rs, us)
 complete_reductions found (g.none {ts = ts}) t =
     repeat_last p.reduce_turn reduce_shorter found found ts ts (rw (end_says t) refl) ∙ ap (λ l. Ok (l, ts)) (sym (append-nil found))
 complete_reductions {ts} {us} found (g.reduce {ys = ys} {ns = ns} {rs = rs} a b c d r q) t =
-    repeat_next p.reduce_turn reduce_shorter found (found ++ ns) ts ys (rw (means_at a, means_tail a, takes_expect b, means_at c, means_tail c, takes_expect d, complete_variables found r) refl)
+    repeat_next p.reduce_turn reduce_shorter found (found ++ ns) ts ys
+    (rw (means_at a, means_tail a, takes_expect b, means_at c, means_tail c, takes_expect d, complete_variables found r) refl)
     ∙ complete_reductions (found ++ ns) q t
     ∙ ap (λ l. Ok (l, us)) (append_assoc found ns rs)
 
@@ -330,7 +345,8 @@ says_reductions : {ts us vs : Tokens} {rs : List NamedRed} → Reductions ts rs 
 says_reductions g.none t = nothing t
 says_reductions (g.reduce a b c d r q) t = says a refl
 
-says_order : {ts us vs ws : Tokens} {a : CommitOrder} {rs : List NamedRed} → NoteOrder ts a us → Reductions us rs vs → Takes EndAlter vs ws → Says is_order_or_reduce ts
+says_order : {ts us vs ws : Tokens} {a : CommitOrder} {rs : List NamedRed}
+    → NoteOrder ts a us → Reductions us rs vs → Takes EndAlter vs ws → Says is_order_or_reduce ts
 says_order (g.written a) r t = says a refl
 says_order g.absent r t = wider (says_reductions r t)
   where
@@ -351,7 +367,8 @@ says_no_order (says {a = a} t e) b d = let is : a ≡ note.Order b = word_same (
 
 says_no_policy : {ts : Tokens} → Says is_order_or_reduce ts → (b : Policy) → meaning_at note_word_of ts ≡ Some (note.Policy b) → ⊥
 says_no_policy (nothing t) b d = some_none (sym d ∙ end_says t)
-says_no_policy (says {a = a} t e) b d = let is : a ≡ note.Policy b = word_same (sym (means_at t) ∙ d) in let no : false ≡ true = ap is_order_or_reduce (sym is) ∙ e in cc
+says_no_policy (says {a = a} t e) b d =
+    let is : a ≡ note.Policy b = word_same (sym (means_at t) ∙ d) in let no : false ≡ true = ap is_order_or_reduce (sym is) ∙ e in cc
 
 complete_note : {ts us vs : Tokens} {n : LoopNote} → Note ts n us → Takes EndAlter us vs → p.loop_note ts ≡ Ok (n, us)
 complete_note (g.note a b r) t =
@@ -376,12 +393,14 @@ complete_maybe (g.just q) t = maybe_open (begins_reads q.reads) ∙ rw (expressi
 -- what begins a simple statement
 abbrev pub begins_simple : TokenKind → Bool
 begins_simple (Key key.Printf) = true
+begins_simple (Key key.Free) = true
 begins_simple (Mark m.Increment) = true
 begins_simple (Mark m.Decrement) = true
 begins_simple k = begins_expr k
 
 expr_simple : (k : TokenKind) → begins_expr k ≡ true → begins_simple k ≡ true
 expr_simple (Key key.Printf) d = refl
+expr_simple (Key key.Free) d = refl
 expr_simple (Mark m.Increment) d = refl
 expr_simple (Mark m.Decrement) d = refl
 expr_simple _ d = d
@@ -407,6 +426,7 @@ first_simple (g.step_after q t) = begins_place q
 first_simple (g.step_before t q) = begins_step t
 first_simple (g.call t u r) = begins_takes begins_simple refl t
 first_simple (g.print t u f r) = begins_takes begins_simple refl t
+first_simple (g.free t q) = begins_takes begins_simple refl t
 
 -- a statement of the line that stands here
 lined_is : (q : Step StmtKind) (ts us : Tokens) (k : StmtKind) → q ts ≡ Ok (k, us) → p.lined q ts ≡ Ok (at ts k, us)
@@ -421,10 +441,13 @@ simple_open (begins {t = t} {ts = ts} d) = by t.kind refl d
     no_base (Key key.Struct) d = absurd cc
     no_base _ d = refl
 
-    plain : (c : TokenKind) → t.kind ≡ c → begins_simple c ≡ true → bind (p.lined (p.first_kind (p.begins_base (key_at (t ∷ ts)))) (t ∷ ts)) (λ s. pure (Some s)) ≡ bind (p.lined p.simple (t ∷ ts)) (λ s. pure (Some s))
+    plain : (c : TokenKind)
+        → t.kind ≡ c → begins_simple c ≡ true
+        → bind (p.lined (p.first_kind (p.begins_base (key_at (t ∷ ts)))) (t ∷ ts)) (λ s. pure (Some s)) ≡ bind (p.lined p.simple (t ∷ ts)) (λ s. pure (Some s))
     plain c dt f = ap (λ b. bind (p.lined (p.first_kind b) (t ∷ ts)) (λ s. pure (Some s))) (ap (λ k. p.begins_base (key_in (Some k))) dt ∙ no_base c f)
 
-    by : (c : TokenKind) → t.kind ≡ c → begins_simple t.kind ≡ true → p.first_by (mark_in (Some c)) (t ∷ ts) ≡ bind (p.lined p.simple (t ∷ ts)) (λ s. pure (Some s))
+    by : (c : TokenKind)
+        → t.kind ≡ c → begins_simple t.kind ≡ true → p.first_by (mark_in (Some c)) (t ∷ ts) ≡ bind (p.lined p.simple (t ∷ ts)) (λ s. pure (Some s))
     by (Mark m.Semicolon) dt f = absurd (let no : false ≡ true = sym (ap begins_simple dt) ∙ f in cc)
     by c dt f = plain c dt (ap begins_simple (sym dt) ∙ f)
 
@@ -460,14 +483,17 @@ base_open : {ts : Tokens} → FirstBase ts → p.first_part ts ≡ bind (p.lined
 base_open {ts} f = ap (λ k. p.first_by k ts) (base_mark f) ∙ ap (λ b. bind (p.lined (p.first_kind b) ts) (λ s. pure (Some s))) (base_begins f)
 
 first_declaration_is : {ts us vs ws xs ys : Tokens} {a : CType} {f : Field} {x : Expr}
-    → Base ts a us → Declarator a us f vs → Takes (Mark m.Assign) vs ws → Expression ws x xs → Takes (Mark m.Semicolon) xs ys → p.first_declaration ts ≡ Ok (kind.Declare f.ty f.name (Some x), xs)
+    → Base ts a us → Declarator a us f vs → Takes (Mark m.Assign) vs ws → Expression ws x xs → Takes (Mark m.Semicolon) xs ys
+    → p.first_declaration ts ≡ Ok (kind.Declare f.ty f.name (Some x), xs)
 unfolding same_mark
-first_declaration_is b d t q u = rw (complete_base b (ends_declarator d), complete_declarator d (not_mark m.LeftBracket t refl), takes_expect t, expression_before refl q u) refl
+first_declaration_is b d t q u =
+    rw (complete_base b (ends_declarator d), complete_declarator d (not_mark m.LeftBracket t refl), takes_expect t, expression_before refl q u) refl
 
 complete_first : {ts us vs : Tokens} {x : Option Stmt} → First ts x us → Takes (Mark m.Semicolon) us vs → p.first_part ts ≡ Ok (x, us)
 complete_first g.nothing t = rw (takes_mark t) refl
 complete_first (g.declares {ts = ts} {xs = xs} {f = f} {x = x} b d t q) u =
-    base_open (first_base b) ∙ ap (λ o. bind o (λ s. pure (Some s))) (lined_is p.first_declaration ts xs (kind.Declare f.ty f.name (Some x)) (first_declaration_is b d t q u))
+    base_open (first_base b)
+    ∙ ap (λ o. bind o (λ s. pure (Some s))) (lined_is p.first_declaration ts xs (kind.Declare f.ty f.name (Some x)) (first_declaration_is b d t q u))
 complete_first (g.simple {ts = ts} {us = us} {k = k} s) t =
     simple_open (first_simple s) ∙ ap (λ o. bind o (λ s. pure (Some s))) (lined_is p.simple ts us k (complete_simple s (by_semicolon t)))
 
@@ -480,22 +506,22 @@ complete_head : {ts us : Tokens} {a c : Option Stmt} {b : Option Expr} → Head 
 complete_head (g.head f o a s b t c r) =
     rw (takes_expect_key f, takes_expect o, complete_first a s, takes_expect s, complete_maybe b t, takes_expect t, complete_third c r, takes_expect r) refl
 
-complete_condition : {ts us : Tokens} {c : Expr} → Condition ts c us → p.condition ts ≡ Ok (c, us)
-complete_condition (g.condition a q b) = rw (takes_expect a, expression_before refl q b, takes_expect b) refl
-
 -- ---- declarations
 
-complete_initializer : {k : the_mark.Mark} {ts us vs : Tokens} {x : Option Expr} → Initializer ts x us → Takes (Mark k) us vs → is_stop k ≡ true → is_mark_in m.Assign (Some k) ≡ false → p.initializer ts ≡ Ok (x, us)
+complete_initializer : {k : the_mark.Mark} {ts us vs : Tokens} {x : Option Expr}
+    → Initializer ts x us → Takes (Mark k) us vs → is_stop k ≡ true → is_mark_in m.Assign (Some k) ≡ false → p.initializer ts ≡ Ok (x, us)
 complete_initializer g.nothing t s h = rw (not_mark m.Assign t h) refl
 complete_initializer (g.just u q) t s h = rw (takes_is_mark u, takes_tail u, expression_before s q t) refl
 
 -- no `[` comes behind a declared name
-no_bracket : {k : the_mark.Mark} {ts us vs : Tokens} {x : Option Expr} → Initializer ts x us → Takes (Mark k) us vs → is_mark_in m.LeftBracket (Some k) ≡ false → is_mark m.LeftBracket ts ≡ false
+no_bracket : {k : the_mark.Mark} {ts us vs : Tokens} {x : Option Expr}
+    → Initializer ts x us → Takes (Mark k) us vs → is_mark_in m.LeftBracket (Some k) ≡ false → is_mark m.LeftBracket ts ≡ false
 unfolding same_mark
 no_bracket g.nothing t h = not_mark m.LeftBracket t h
 no_bracket (g.just u q) t h = not_mark m.LeftBracket u refl
 
-complete_locals : {line : ℕ} {a : CType} {ts us : Tokens} {ss : List Stmt} (found : List Stmt) → Locals line a ts ss us → repeat (p.local line a) found ts ≡ Ok (found ++ ss, us)
+complete_locals : {line : ℕ} {a : CType} {ts us : Tokens} {ss : List Stmt} (found : List Stmt)
+    → Locals line a ts ss us → repeat (p.local line a) found ts ≡ Ok (found ++ ss, us)
 unfolding same_mark
 complete_locals {line} {a} {ts} {us} found (g.last {f = f} {x = x} d i t) =
     repeat_last (p.local line a) (local_shorter line a) found (found ++ statement_of line (kind.Declare f.ty f.name x) ∷ []) ts us
@@ -510,7 +536,8 @@ ends_locals : {line : ℕ} {a : CType} {ts us : Tokens} {ss : List Stmt} → Loc
 ends_locals (g.last d i t) = ends_declarator d
 ends_locals (g.more d i t r) = ends_declarator d
 
-complete_declaration : {ts us vs : Tokens} {a : CType} {ss : List Stmt} (found : List Stmt) → Base ts a us → Locals (line_at ts) a us ss vs → p.declaration found ts ≡ Ok (found ++ ss, vs)
+complete_declaration : {ts us vs : Tokens} {a : CType} {ss : List Stmt} (found : List Stmt)
+    → Base ts a us → Locals (line_at ts) a us ss vs → p.declaration found ts ≡ Ok (found ++ ss, vs)
 complete_declaration found b r = rw (complete_base b (ends_locals r)) (complete_locals found r)
 
 -- ---- statements
@@ -598,7 +625,8 @@ inner_no_brace (g.declares b r) = base_no_brace (first_base b)
 inner_no_brace (g.statement s) = statement_no_brace (first_statement s)
 
 -- a token that begins a simple statement chooses it
-kind_simple : (d : ℕ) (nested : Step Stmt) {ts : Tokens} → Begins begins_simple ts → p.statement_step d nested ts ≡ p.lined (λ us. bind (p.simple us) p.ended) ts
+kind_simple : (d : ℕ) (nested : Step Stmt) {ts : Tokens}
+    → Begins begins_simple ts → p.statement_step d nested ts ≡ p.lined (λ us. bind (p.simple us) p.ended) ts
 kind_simple d nested (begins {t = t} {ts = ts} f) = by t.kind f
   where
     by : (c : TokenKind) → begins_simple c ≡ true → p.statement_by d nested (Some c) (t ∷ ts) ≡ p.lined (λ us. bind (p.simple us) p.ended) (t ∷ ts)
@@ -623,11 +651,12 @@ mutual
   complete_statement (g.empty t) = rw (takes_kind t, takes_tail t) refl
   complete_statement (g.block {d = d} t r u) = rw (takes_kind t, takes_tail t, complete_inners [] r u, takes_expect u) refl
   complete_statement (g.simple {d = d} {ts = ts} {vs = vs} {k = k} s t) =
-      kind_simple d (p.statement d) (first_simple s) ∙ lined_is (λ us. bind (p.simple us) p.ended) ts vs k (rw (complete_simple s (by_semicolon t), takes_expect t) refl)
-  complete_statement (g.if_only {ts = ts} t b s n) = rw (takes_kind t, gate_open ts s, takes_tail t, complete_condition b, complete_statement s, n) refl
+      kind_simple d (p.statement d) (first_simple s)
+      ∙ lined_is (λ us. bind (p.simple us) p.ended) ts vs k (rw (complete_simple s (by_semicolon t), takes_expect t) refl)
+  complete_statement (g.if_only {ts = ts} t b s n) = rw (takes_kind t, gate_open ts s, takes_tail t, complete_parenthesized b, complete_statement s, n) refl
   complete_statement (g.if_else {ts = ts} t b s u q) =
-      rw (takes_kind t, gate_open ts s, takes_tail t, complete_condition b, complete_statement s, takes_else u, takes_tail u, complete_statement q) refl
-  complete_statement (g.while_loop {ts = ts} t b s) = rw (takes_kind t, gate_open ts s, takes_tail t, complete_condition b, complete_statement s) refl
+      rw (takes_kind t, gate_open ts s, takes_tail t, complete_parenthesized b, complete_statement s, takes_else u, takes_tail u, complete_statement q) refl
+  complete_statement (g.while_loop {ts = ts} t b s) = rw (takes_kind t, gate_open ts s, takes_tail t, complete_parenthesized b, complete_statement s) refl
   complete_statement (g.for_loop {ts = ts} h s) = rw (takes_kind (head_first h), gate_open ts s, complete_head h, complete_statement s) refl
   complete_statement (g.noted_loop {ts = ts} t n u h s) =
       rw (takes_kind t, gate_open ts s, takes_tail t, complete_note n u, takes_end u, complete_head h, complete_statement s) refl
@@ -639,9 +668,11 @@ mutual
   complete_inner found (g.declares b r) = rw (base_begins (first_base b)) (complete_declaration found b r)
   complete_inner found (g.statement {d = d} {ts = ts} s) = rw (gate_open ts s, statement_no_base (first_statement s), complete_statement s) refl
 
-  pub complete_inners : {d : ℕ} {ts us vs : Tokens} {ss : List Stmt} (found : List Stmt) → Inners d ts ss us → Takes (Mark m.RightBrace) us vs → repeat (p.inner_turn d (p.statement d)) found ts ≡ Ok (found ++ ss, us)
+  pub complete_inners : {d : ℕ} {ts us vs : Tokens} {ss : List Stmt} (found : List Stmt)
+      → Inners d ts ss us → Takes (Mark m.RightBrace) us vs → repeat (p.inner_turn d (p.statement d)) found ts ≡ Ok (found ++ ss, us)
   complete_inners found (g.done {d = d} {ts = ts}) u =
-      repeat_last (p.inner_turn d (p.statement d)) (inner_shorter_turn d) found found ts ts (rw (takes_is_mark u) refl) ∙ ap (λ l. Ok (l, ts)) (sym (append-nil found))
+      repeat_last (p.inner_turn d (p.statement d)) (inner_shorter_turn d) found found ts ts (rw (takes_is_mark u) refl)
+      ∙ ap (λ l. Ok (l, ts)) (sym (append-nil found))
   complete_inners found (g.next {d = d} {ts = ts} {us = us} {vs = vs} {ss = ss} {rs = rs} r q) u =
       repeat_next (p.inner_turn d (p.statement d)) (inner_shorter_turn d) found (found ++ ss) ts us (rw (inner_no_brace r, complete_inner found r) refl)
       ∙ complete_inners (found ++ ss) q u

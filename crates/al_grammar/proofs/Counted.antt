@@ -1,12 +1,11 @@
 -- The parts of the parser that count down, at the count that is left.
-use Rattle.std.proofs.Common.{◌≡◌, ℕ, zero, suc, ◌-◌, ◌<◌, ◌≤◌, Bool, true, false, List, [], ◌∷◌, ◌++◌, length, Option, Some, None, Result, Ok, Err, refl, sym, ap, subst, ◌∙◌, arith}
+use Rattle.std.proofs.Common.{◌≡◌, ℕ, zero, suc, ◌-◌, true, false, Ok, Err, refl, ap, arith}
 use Rattle.al_source.specs.declared.tokens.Mark.TheVariants as m
 use Rattle.al_source.specs.declared.source_tree.CType.{CType}
 use Rattle.al_source.specs.declared.source_tree.CType.TheVariants as type
-use Rattle.al_source.specs.declared.source_tree.Stmt.{Stmt}
 use Rattle.al_grammar.specs.Phrases.{Tokens}
 use Rattle.al_grammar.specs.Steps.{tail, is_mark}
-use Rattle.al_grammar.specs.TypeParser.{star_by, stars, dimension_by, dimensions}
+use Rattle.al_grammar.specs.TypeParser.{stars, dimension_by, dimensions}
 use Rattle.al_grammar.specs.StatementParser.{statement, statement_step}
 
 pub stars_none : (n : ℕ) (a : CType) (ts : Tokens) → n ≡ 0 → stars n a ts ≡ Ok (a, ts)
@@ -34,7 +33,8 @@ unfolding dimensions
 dimensions_other zero a ts h = refl
 dimensions_other (suc n) a ts h = rw h refl
 
-pub dimensions_more : (n : ℕ) (a : CType) (ts : Tokens) → (n ≡ 0 → ⊥) → is_mark m.LeftBracket ts ≡ true → dimensions n a ts ≡ dimension_by (dimensions (n - 1)) a true ts
+pub dimensions_more : (n : ℕ) (a : CType) (ts : Tokens)
+    → (n ≡ 0 → ⊥) → is_mark m.LeftBracket ts ≡ true → dimensions n a ts ≡ dimension_by (dimensions (n - 1)) a true ts
 unfolding dimensions
 dimensions_more zero a ts ne h = absurd (ne refl)
 dimensions_more (suc n) a ts ne h = let e : n ≡ suc n - 1 = omega arith in rw h (ap (λ n. dimension_by (dimensions n) a true ts) e)
@@ -48,3 +48,7 @@ pub statement_some : (d : ℕ) (ts : Tokens) → (d ≡ 0 → ⊥) → statement
 unfolding statement
 statement_some zero ts ne = absurd (ne refl)
 statement_some (suc d) ts ne = let e : d ≡ suc d - 1 = omega arith in ap (λ n. statement_step n (statement n) ts) e
+
+pub ruleset star_steps = (stars_none, stars_other, stars_more)
+
+pub ruleset dimension_steps = (dimensions_none, dimensions_other, dimensions_more)

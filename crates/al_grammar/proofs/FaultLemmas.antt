@@ -88,7 +88,9 @@ lined_pragma false n = tt
 lined_matter : (p : Place) (s : Spot) (z : Bytes) → IsLined (matter_at p s z)
 lined_matter Fresh s z = either (slice_index z 0 == 35) _ _ tt (lined_token s Inside (lexeme s.line z) (lined_lexeme s.line z))
 lined_matter Inside s z = lined_token s Inside (lexeme s.line z) (lined_lexeme s.line z)
-lined_matter (Hash start line) s z = lined_directive (bytes_eq (take (name_len z) z) (codes "include")) (bytes_eq (take (name_len z) z) (codes "pragma")) (length (take (name_len z) z)) (length (take (name_len z) z)) Skipped (Pragma start line) line
+lined_matter (Hash start line) s z =
+    lined_directive (bytes_eq (take (name_len z) z) (codes "include")) (bytes_eq (take (name_len z) z) (codes "pragma")) (length (take (name_len z) z))
+    (length (take (name_len z) z)) Skipped (Pragma start line) line
 lined_matter (Pragma start line) s z = lined_pragma (bytes_eq (take (name_len z) z) (codes "alter")) _
 lined_matter Skipped s z = tt
 lined_matter Note s z = lined_token s Note (lexeme s.line z) (lined_lexeme s.line z)
@@ -114,8 +116,10 @@ abbrev goes_on : Spot → ℕ → Bytes → Result Next LexFault → Result (Lis
 goes_on s b z (Err fault) = Err fault
 goes_on s b z (Ok n) = with_front (option_to_list n.token) (reading_from (n.len - 1) (spot_after s (b ∷ z) n) z)
 
-lined_goes : (s : Spot) (b : ℕ) (z : Bytes) → ((left : ℕ) (t : Spot) → IsLined (reading_from left t z)) → (r : Result Next LexFault) → IsLined r → IsLined (goes_on s b z r)
-lined_goes s b z rest (Ok n) h = lined_front (option_to_list n.token) (reading_from (n.len - 1) (spot_after s (b ∷ z) n) z) (rest (n.len - 1) (spot_after s (b ∷ z) n))
+lined_goes : (s : Spot) (b : ℕ) (z : Bytes)
+    → ((left : ℕ) (t : Spot) → IsLined (reading_from left t z)) → (r : Result Next LexFault) → IsLined r → IsLined (goes_on s b z r)
+lined_goes s b z rest (Ok n) h =
+    lined_front (option_to_list n.token) (reading_from (n.len - 1) (spot_after s (b ∷ z) n) z) (rest (n.len - 1) (spot_after s (b ∷ z) n))
 lined_goes s b z rest (Err TooLong) h = h
 lined_goes s b z rest (Err Memory) h = h
 lined_goes s b z rest (Err (BadByte n)) h = tt

@@ -1,38 +1,21 @@
 -- The parser of expressions is a fixed point of its step, where the step may only go to what is smaller.
-use Rattle.std.proofs.Common.{◌≡◌, ℕ, zero, suc, ◌+◌, ◌-◌, ◌*◌, ◌<◌, ◌≤◌, Bool, true, false, nat_lt, nat_eq, if◌then◌else◌, List, [], ◌∷◌, ◌++◌, append_assoc, length, Option, Some, None, Ok, Err, refl, sym, ap, subst, ◌∙◌, arith}
-use Rattle.std.proofs.lemmas.Bool.{ltb-true, lt-ltb, ltb-false, eqb-true, eq-eqb, ne_eqb, le-ltb}
-use Rattle.al_source.specs.declared.tokens.Token.{Token}
-use Rattle.al_source.specs.declared.tokens.TokenKind.{TokenKind}
-use Rattle.al_source.specs.declared.tokens.TokenKind.TheVariants.{Word, Number, Key, Mark}
-use Rattle.al_source.specs.declared.tokens.Mark as the_mark
-use Rattle.al_source.specs.declared.tokens.Mark.TheVariants as m
-use Rattle.al_source.specs.declared.tokens.Key.TheVariants as key
-use Rattle.al_source.specs.declared.operators.BinOp.{BinOp}
-use Rattle.al_source.specs.declared.source_tree.CType.{CType}
+use Rattle.std.proofs.Common.{◌≡◌, ℕ, zero, suc, ◌<◌, Bool, true, false, nat_lt, if◌then◌else◌, Ok, Err, refl, ap, ◌∙◌, arith}
+use Rattle.std.proofs.lemmas.Bool.{ltb-true, lt-ltb}
 use Rattle.al_source.specs.declared.source_tree.Expr.{Expr}
-use Rattle.al_source.specs.declared.source_tree.Expr.TheVariants as e
-use Rattle.al_grammar.specs.declared.operators.Joint.{Joint}
-use Rattle.al_grammar.specs.declared.operators.Prefix.{Prefix}
-use Rattle.al_grammar.specs.Operators.{infix_of, levels, join, prefix_of, apply, update_of, step_of}
-use Rattle.al_grammar.specs.Phrases.{Tokens, Name, Takes, takes, Means, means}
-use Rattle.al_grammar.specs.Types.{SizeOf}
-use Rattle.al_grammar.specs.Expressions.{State, Reads, Arguments, More, Expression, Place, max_operators}
-use Rattle.al_grammar.specs.Expressions as g
-use Rattle.al_grammar.specs.Steps.{Read, Step, bind, kind_at, mark_in, mark_at, meaning_at, tail, expect, word}
-use Rattle.al_grammar.specs.TypeParser.{operand_type, size_of}
-use Rattle.al_grammar.specs.ExpressionParser.{Outcome, Parser, and_then, keep, lift, spend, spend_two, Job, whole, climb, unary, postfix, primary, suffix, arguments, more, field, sized, element_size, whole_by, joined_by, climb_by, unary_by, named_by, primary_by, indexed, suffix_by, allocated, arguments_by, more_by, step, rank, measure, guard, go, parse, forget, expression, place}
+use Rattle.al_grammar.specs.Phrases.{Tokens}
+use Rattle.al_grammar.specs.Expressions.{State}
+use Rattle.al_source.specs.Steps.{bind}
+use Rattle.al_grammar.specs.Steps.{Read, Step}
+use Rattle.al_grammar.specs.ExpressionParser.{Outcome, Parser, keep, lift, Job, step, measure, guard, go, parse}
 
 -- ---- steps that may fail
 
-pub then_ok : {A B : Type 0} {y : B × State} → (r : Outcome A) (k : A → Parser B) → and_then r k ≡ Ok y → (p : A × State) × (r ≡ Ok p) × (k p.0 p.1 ≡ Ok y)
-then_ok (Ok p) k e = (p, refl, e)
-then_ok (Err d) k e = cc
-
 -- two continuations that agree at what the first step gives
-pub then_same : {A B : Type 0} → (r r' : Outcome A) (k k' : A → Parser B) → r ≡ r' → ((x : A) (s : State) → r' ≡ Ok (x, s) → k x s ≡ k' x s) → and_then r k ≡ and_then r' k'
-then_same r r' k k' e h = ap (λ q. and_then q k) e ∙ alike r' h
+pub then_same : {A B : Type 0}
+    → (r r' : Outcome A) (k k' : A → Parser B) → r ≡ r' → ((x : A) (s : State) → r' ≡ Ok (x, s) → k x s ≡ k' x s) → bind r k ≡ bind r' k'
+then_same r r' k k' e h = ap (λ q. bind q k) e ∙ alike r' h
   where
-    alike : (q : Outcome _) → ((x : _) (s : State) → q ≡ Ok (x, s) → k x s ≡ k' x s) → and_then q k ≡ and_then q k'
+    alike : (q : Outcome _) → ((x : _) (s : State) → q ≡ Ok (x, s) → k x s ≡ k' x s) → bind q k ≡ bind q k'
     alike (Ok p) g = g p.0 p.1 refl
     alike (Err d) g = refl
 
@@ -54,7 +37,8 @@ if_true false x z y h e = absurd (h e)
 
 -- ---- the guard
 
-guard_same : (N N' : Job → Parser Expr) (b : ℕ) → ((j : Job) (s : State) → measure j s < b → N j s ≡ N' j s) → (j : Job) (s : State) → guard N b j s ≡ guard N' b j s
+guard_same : (N N' : Job → Parser Expr) (b : ℕ)
+    → ((j : Job) (s : State) → measure j s < b → N j s ≡ N' j s) → (j : Job) (s : State) → guard N b j s ≡ guard N' b j s
 unfolding guard
 guard_same N N' b h j s = if_same (nat_lt (measure j s) b) _ _ _ (λ e. h j s (ltb-true _ _ e))
 
@@ -72,8 +56,11 @@ stable : (f f' : ℕ) (j : Job) (s : State) → measure j s < f → measure j s 
 unfolding go
 stable zero f' j s h h' = absurd (omega arith)
 stable (suc f) zero j s h h' = absurd (omega arith)
-stable (suc f) (suc f') j s h h' = ap (λ N. step N j s) (λ i j' s'. guard_same (go f) (go f') (measure j s) (λ k u l. stable f f' k u (omega arith) (omega arith)) j' s' i)
+stable (suc f) (suc f') j s h h' =
+    ap (λ N. step N j s) (λ i j' s'. guard_same (go f) (go f') (measure j s) (λ k u l. stable f f' k u (omega arith) (omega arith)) j' s' i)
 
 pub parse_step : (j : Job) (s : State) → parse j s ≡ step (guard parse (measure j s)) j s
 unfolding go parse
-parse_step j s = ap (λ N. step N j s) (λ i j' s'. guard_same (go (measure j s)) parse (measure j s) (λ k u l. stable (measure j s) (suc (measure k u)) k u l (omega arith)) j' s' i)
+parse_step j s =
+    ap (λ N. step N j s)
+    (λ i j' s'. guard_same (go (measure j s)) parse (measure j s) (λ k u l. stable (measure j s) (suc (measure k u)) k u l (omega arith)) j' s' i)

@@ -12,11 +12,13 @@ use Rattle.al_source.specs.declared.tokens.Key.{Key}
 use Rattle.al_source.specs.declared.tokens.Mark.{Mark}
 use Rattle.al_source.specs.declared.faults.LexFault.{LexFault}
 use Rattle.al_grammar.specs.Characters.{Bytes, is_letter}
-use Rattle.al_grammar.specs.Words.{key_text, mark_text, all_keys, all_marks, key_of, mark_at}
+use Rattle.al_grammar.specs.declared.words.TheConstants.{KEYS, MARKS}
+use Rattle.al_grammar.specs.Words.{key_text, mark_text, key_of, mark_at}
 use Rattle.al_grammar.specs.Lexemes.{TextUnit, name_len, named, number_len, number_value, is_number, number_at, number_token, unit_at, inside_from, inside_len, format_of, quoted, marked, Lexeme, lexeme}
 use Rattle.al_grammar.specs.Slices.{IsSpelledBy}
 
-found_next : {X : Type 0} (p : X → Bool) (y : X) (xs : List X) (x : X) → (find p xs ≡ Some x → p x ≡ true) → (b : Bool) → p y ≡ b → cond b (Some y) (find p xs) ≡ Some x → p x ≡ true
+found_next : {X : Type 0} (p : X → Bool) (y : X) (xs : List X) (x : X)
+    → (find p xs ≡ Some x → p x ≡ true) → (b : Bool) → p y ≡ b → cond b (Some y) (find p xs) ≡ Some x → p x ≡ true
 found_next p y xs x rest true is e = let same : y ≡ x = cc in ap p (sym same) ∙ is
 found_next p y xs x rest false is e = rest e
 
@@ -28,12 +30,12 @@ found_passes p (y ∷ xs) x e = found_next p y xs x (λ h. found_passes p xs x h
 -- a reserved word has its bytes
 pub key_found : (word : Bytes) (k : Key) → key_of word ≡ Some k → word ≡ key_text k
 unfolding key_of
-key_found word k e = sym ((bytes_eq-Decides (key_text k) word).0 (found_passes (λ j. bytes_eq (key_text j) word) all_keys k e))
+key_found word k e = sym ((bytes_eq-Decides (key_text k) word).0 (found_passes (λ j. bytes_eq (key_text j) word) KEYS k e))
 
 -- a mark has its bytes
 pub mark_found : (z : Bytes) (m : Mark) → mark_at z ≡ Some m → take (length (mark_text m)) z ≡ mark_text m
 unfolding mark_at
-mark_found z m e = sym ((bytes_eq-Decides (mark_text m) (take (length (mark_text m)) z)).0 (found_passes (λ j. starts_with nat_eq z (mark_text j)) all_marks m e))
+mark_found z m e = sym ((bytes_eq-Decides (mark_text m) (take (length (mark_text m)) z)).0 (found_passes (λ j. starts_with nat_eq z (mark_text j)) MARKS m e))
 
 spelled_name : (word : Bytes) (o : Option Key) → key_of word ≡ o → IsSpelledBy (named word o) word
 spelled_name word None e = refl
@@ -48,14 +50,17 @@ spelled_number : (line : ℕ) (z : Bytes) (o : Option (ℤ × ℕ)) → number_a
 unfolding number_at
 spelled_number line z None e = tt
 spelled_number line z (Some n) e =
-    let is : (pos (number_value (take (number_len z) z)), number_len z) ≡ n = (cond_some (is_number z) (pos (number_value (take (number_len z) z)), number_len z) n e).1 in
+    let is : (pos (number_value (take (number_len z) z)), number_len z) ≡ n =
+    (cond_some (is_number z) (pos (number_value (take (number_len z) z)), number_len z) n e).1 in
     subst (λ (m : ℤ × ℕ). IsSpelledBy (kind.Number m.0) (take m.1 z)) is refl
 
 within_suc : (z : Bytes) (n : ℕ) (o : Option ℕ) → ((k : ℕ) → o ≡ Some k → k < length z) → option_map suc o ≡ Some n → n < suc (length z)
 within_suc z n None h e = absurd cc
 within_suc z n (Some k) h e = let same : suc k ≡ n = cc in let below : k < length z = h k refl in omega arith
 
-within_unit : (z : Bytes) (n : ℕ) (q : Bool) (o : Option TextUnit) → ((left k : ℕ) → inside_from left z ≡ Some k → k < length z) → cond q (Some 0) (option_and_then (λ u. option_map suc (inside_from (u.0 - 1) z)) o) ≡ Some n → n < suc (length z)
+within_unit : (z : Bytes) (n : ℕ) (q : Bool) (o : Option TextUnit)
+    → ((left k : ℕ) → inside_from left z ≡ Some k → k < length z) → cond q (Some 0) (option_and_then (λ u. option_map suc (inside_from (u.0 - 1) z)) o) ≡ Some n
+    → n < suc (length z)
 within_unit z n true o h e = let same : 0 ≡ n = cc in omega arith
 within_unit z n false None h e = absurd cc
 within_unit z n false (Some u) h e = within_suc z n (inside_from (u.0 - 1) z) (λ k d. h (u.0 - 1) k d) e

@@ -50,19 +50,23 @@ lined_line_end source Inside s here = (tt, tt)
 lined_line_end source Skipped s here = (tt, tt)
 lined_line_end source Note s here = (tt, here)
 
-lined_token : (source : Bytes) (s : Spot) (after : Place) (r : Result Lexeme LexFault) → s.line ≡ line_at source s.at → HashLine source after → Lined source (token_at s after r)
+lined_token : (source : Bytes) (s : Spot) (after : Place) (r : Result Lexeme LexFault)
+    → s.line ≡ line_at source s.at → HashLine source after → Lined source (token_at s after r)
 lined_token source s after (Err fault) here h = tt
 lined_token source s after (Ok t) here h = (h, here)
 
 lined_matter : (source : Bytes) (p : Place) (s : Spot) (z : Bytes) → s.line ≡ line_at source s.at → HashLine source p → Lined source (matter_at p s z)
 lined_matter source (Hash start l) s z here h =
     let word : Bytes = take (name_len z) z in
-    either source (bytes_eq word (codes "include")) (gap (length word) Skipped) (cond (bytes_eq word (codes "pragma")) (gap (length word) (Pragma start l)) (Err (BadByte l))) (tt, tt)
+    either source (bytes_eq word (codes "include")) (gap (length word) Skipped)
+    (cond (bytes_eq word (codes "pragma")) (gap (length word) (Pragma start l)) (Err (BadByte l))) (tt, tt)
     (either source (bytes_eq word (codes "pragma")) (gap (length word) (Pragma start l)) (Err (BadByte l)) (h, tt) tt)
 lined_matter source (Pragma start l) s z here h =
     let word : Bytes = take (name_len z) z in
     either source (bytes_eq word (codes "alter")) _ (gap 1 Skipped) (tt, h) (tt, tt)
-lined_matter source Fresh s z here h = either source (slice_index z 0 == 35) (gap 1 (Hash s.at s.line)) (token_at s Inside (lexeme s.line z)) (here, tt) (lined_token source s Inside (lexeme s.line z) here tt)
+lined_matter source Fresh s z here h =
+    either source (slice_index z 0 == 35) (gap 1 (Hash s.at s.line)) (token_at s Inside (lexeme s.line z)) (here, tt)
+    (lined_token source s Inside (lexeme s.line z) here tt)
 lined_matter source Inside s z here h = lined_token source s Inside (lexeme s.line z) here tt
 lined_matter source Skipped s z here h = (tt, tt)
 lined_matter source Note s z here h = lined_token source s Note (lexeme s.line z) here tt
@@ -79,9 +83,12 @@ feeds_append : (xs ys : Bytes) → line_feeds (xs ++ ys) ≡ line_feeds xs + lin
 feeds_append xs ys = sum_by-append (λ b. cond (b == 10) 1 0) xs ys
 
 -- the line after what stood next
-line_goes : (source z : Bytes) (s : Spot) (len : ℕ) → z ≡ drop s.at source → s.line ≡ line_at source s.at → s.line + line_feeds (take len z) ≡ line_at source (s.at + len)
+line_goes : (source z : Bytes) (s : Spot) (len : ℕ)
+    → z ≡ drop s.at source → s.line ≡ line_at source s.at → s.line + line_feeds (take len z) ≡ line_at source (s.at + len)
 line_goes source z s len is here =
-    let whole : line_feeds (take (s.at + len) source) ≡ line_feeds (take s.at source) + line_feeds (take len (drop s.at source)) = ap line_feeds (take_sum s.at len source) ∙ feeds_append (take s.at source) (take len (drop s.at source)) in
+    let whole : line_feeds (take (s.at + len) source) ≡ line_feeds (take s.at source) + line_feeds (take len (drop s.at source)) = ap line_feeds
+    (take_sum s.at len source)
+    ∙ feeds_append (take s.at source) (take len (drop s.at source)) in
     let part : line_feeds (take len z) ≡ line_feeds (take len (drop s.at source)) = ap (λ y. line_feeds (take len y)) is in
     omega arith
 
@@ -97,11 +104,13 @@ next_lines : (source : Bytes) (o : Option Token) (ts : List Token) → OnLine so
 next_lines source None ts h rest = rest
 next_lines source (Some t) ts h rest = (h, rest)
 
-lines : {s : Spot} {z : Bytes} {ts : List Token} → SpellsFrom s z ts → (source : Bytes) → z ≡ drop s.at source → s.line ≡ line_at source s.at → HashLine source s.place → EachOnItsLine source ts
+lines : {s : Spot} {z : Bytes} {ts : List Token}
+    → SpellsFrom s z ts → (source : Bytes) → z ≡ drop s.at source → s.line ≡ line_at source s.at → HashLine source s.place → EachOnItsLine source ts
 lines (ends {s = s} {ts = ts} e) source is here hash = end_lines source s.place s ts here e
 lines (goes {s = s} {b = b} {z = z} {n = n} {ts = ts} e more) source is here hash =
     let lined = subst (λ r. Lined source r) e (lined_next source s (b ∷ z) here hash) in
-    let rest : drop (n.len - 1) z ≡ drop (s.at + n.len) source = drop-pred n.len b z (next_moves s (b ∷ z) n e) ∙ ap (drop n.len) is ∙ drop_drop n.len s.at source in
+    let rest : drop (n.len - 1) z ≡ drop (s.at + n.len) source = drop-pred n.len b z (next_moves s (b ∷ z) n e) ∙ ap (drop n.len) is
+    ∙ drop_drop n.len s.at source in
     next_lines source n.token ts lined.1 (lines more source rest (line_goes source (b ∷ z) s n.len is here) lined.0)
 
 pub spelled_lines : (source : Bytes) (ts : List Token) → Spells source ts → EachOnItsLine source ts

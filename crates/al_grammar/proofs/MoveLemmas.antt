@@ -45,7 +45,8 @@ moved_number : (line : ℕ) (z : Bytes) (o : Option (ℤ × ℕ)) → is_ascii_d
 unfolding number_at
 moved_number line z None digit e = tt
 moved_number line z (Some n) digit e =
-    let is : (pos (number_value (take (number_len z) z)), number_len z) ≡ n = (cond_some (is_number z) (pos (number_value (take (number_len z) z)), number_len z) n e).1 in
+    let is : (pos (number_value (take (number_len z) z)), number_len z) ≡ n =
+    (cond_some (is_number z) (pos (number_value (take (number_len z) z)), number_len z) n e).1 in
     subst (λ (m : ℤ × ℕ). 1 ≤ m.1) is (omega (arith, digits_move z digit))
 
 moved_quoted : (line : ℕ) (z : Bytes) (o : Option ℕ) → Moved (quoted line z o)

@@ -1,13 +1,11 @@
 -- The parser of items and programs reads what the grammar has, and nothing else.
-use Rattle.std.proofs.Common.{◌≡◌, ℕ, zero, suc, ◌<◌, ◌≤◌, Bool, true, false, List, [], ◌∷◌, ◌++◌, append_assoc, length, Option, Some, None, Ok, Err, refl, sym, ap, subst, ◌∙◌, arith}
-use Rattle.std.specs.Prelude.{pos, negsuc, neg_ℤ, ℤ, ◌&&◌}
+use Rattle.std.proofs.Common.{◌≡◌, ℕ, ◌<◌, ◌≤◌, Bool, true, false, List, [], ◌∷◌, ◌++◌, append_assoc, length, Option, Some, Ok, refl, sym, ap, subst, ◌∙◌, arith}
+use Rattle.std.specs.Prelude.{pos, neg_ℤ, ◌&&◌}
 use Rattle.std.proofs.lemmas.List.{append-nil}
-use Rattle.al_source.specs.declared.tokens.Token.{Token}
 use Rattle.al_source.specs.declared.tokens.TokenKind.{TokenKind}
 use Rattle.al_source.specs.declared.tokens.TokenKind.TheVariants.{Word, Number, Key, Mark}
 use Rattle.al_source.specs.declared.tokens.Mark as the_mark
 use Rattle.al_source.specs.declared.tokens.Mark.TheVariants as m
-use Rattle.al_source.specs.declared.tokens.Key as the_key
 use Rattle.al_source.specs.declared.tokens.Key.TheVariants as key
 use Rattle.al_source.specs.declared.source_tree.CType.{CType}
 use Rattle.al_source.specs.declared.source_tree.CType.TheVariants as type
@@ -17,20 +15,21 @@ use Rattle.al_source.specs.declared.source_tree.Start.TheVariants as start
 use Rattle.al_source.specs.declared.source_tree.Stmt.{Stmt}
 use Rattle.al_source.specs.declared.source_tree.Item.{Item}
 use Rattle.al_source.specs.declared.source_tree.Item.TheVariants as item
-use Rattle.al_source.specs.declared.source_tree.Program.{Program}
+use Rattle.al_source.specs.declared.limits.TheConstants.{DECLARATOR_STARS, STATEMENT_NESTING}
 use Rattle.al_grammar.specs.Phrases.{Tokens, Name, Takes, takes, line_at}
-use Rattle.al_grammar.specs.Types.{max_stars, max_dimensions, Base, Stars, Dimensions, Declarator}
+use Rattle.al_grammar.specs.Types.{Base, Stars, Dimensions, Declarator}
 use Rattle.al_grammar.specs.Types as ty
 use Rattle.al_grammar.specs.Statements.{Inners}
-use Rattle.al_grammar.specs.Programs.{max_nesting, FieldNames, Fields, Starts, global, Globals, ResultBase, Param, ParamList, Params, Items, AllItems}
+use Rattle.al_grammar.specs.Programs.{FieldNames, Fields, Starts, global, Globals, ResultBase, Param, ParamList, Params, Items, AllItems}
 use Rattle.al_grammar.specs.Programs as g
-use Rattle.al_grammar.specs.Steps.{Read, Step, bind, pure, skip, kind_at, mark_in, mark_at, key_in, key_at, tail, same_mark, same_key, is_mark_in, is_mark, is_key_in, is_key, expect, expect_key, word, after_turn, repeat}
+use Rattle.al_source.specs.Steps.{bind, pure}
+use Rattle.al_grammar.specs.Steps.{Read, Step, kind_at, mark_in, mark_at, tail, same_mark, same_key, is_mark_in, is_mark, is_key, expect, expect_key, word, repeat}
 use Rattle.al_grammar.specs.TypeParser.{base, stars, declarator}
 use Rattle.al_grammar.specs.StatementParser.{statement, braced}
 use Rattle.al_grammar.specs.ProgramParser as p
-use Rattle.al_grammar.proofs.StepFacts.{bind_ok, yields, takes_kind, takes_tail, takes_shorter, kind_takes, mark_takes, is_mark_takes, is_key_takes, takes_is_mark, takes_is_key, takes_expect, takes_expect_key, expect_takes, expect_key_takes, takes_word, word_takes, repeat_last, repeat_next, repeat_is, repeat_keeps}
+use Rattle.al_grammar.proofs.StepFacts.{bind_ok, yields, takes_kind, takes_tail, takes_shorter, kind_takes, mark_takes, is_mark_takes, is_key_takes, takes_is_mark, takes_is_key, takes_expect, takes_expect_key, expect_takes, expect_key_takes, takes_word, word_takes, repeat_last, repeat_next, repeat_keeps}
 use Rattle.al_grammar.proofs.TypeFacts.{EndsType, not_mark, not_key, sound_base, sound_stars, sound_declarator, complete_base, complete_stars, complete_declarator, ends_stars, ends_declarator, base_shorter, stars_shorter, declarator_shorter}
-use Rattle.al_grammar.proofs.SoundStatements.{Sep, goes_on, ends, sep_shorter, IsBraced, sound_braced, sound_statement}
+use Rattle.al_grammar.proofs.SoundStatements.{Sep, goes_on, ends, sep_shorter, sound_braced, sound_statement}
 use Rattle.al_grammar.proofs.Shorter.{inners_shorter}
 use Rattle.al_grammar.proofs.CompleteStatements.{complete_inners, FirstBase, by_int, by_long, by_struct, first_base}
 
@@ -56,7 +55,8 @@ field_shorter a b c ts us e = let (f, vs, d, s) = one_field a b ts ((c, false), 
 abbrev FoundFields : CType → List Field → Tokens → List Field → Tokens → Type 0
 FoundFields a xs ts ys us = (zs : List Field) × FieldNames a ts zs us × (ys ≡ xs ++ zs)
 
-fields_last : (a : CType) (xs : List Field) (ts : Tokens) (f : Field) (us : Tokens) (ys : List Field) (vs : Tokens) → Declarator a ts f us → Sep m.Comma m.Semicolon (xs ++ f ∷ []) us ((ys, true), vs) → FoundFields a xs ts ys vs
+fields_last : (a : CType) (xs : List Field) (ts : Tokens) (f : Field) (us : Tokens) (ys : List Field) (vs : Tokens)
+    → Declarator a ts f us → Sep m.Comma m.Semicolon (xs ++ f ∷ []) us ((ys, true), vs) → FoundFields a xs ts ys vs
 fields_last a xs ts f us ys vs d (ends t) = (f ∷ [], g.last d t, refl)
 
 fields_more : (a : CType) (xs : List Field) (ts : Tokens) (f : Field) (us : Tokens) (ys : List Field) (vs : Tokens) (zs : List Field) (ws : Tokens)
@@ -160,14 +160,16 @@ sound_structure : (ts : Tokens) (q : Item × Tokens) → p.structure ts ≡ Ok q
 sound_structure ts q e =
     let (b, db, dk) = bind_ok (p.struct_body ts) (λ b. pure (item.Struct (record { name = b.0; fields = b.1; line = line_at ts }))) e in
     let s = sound_body ts b db in
-    yields (IsItem ts) (item.Struct (record { name = b.0.0; fields = b.0.1; line = line_at ts }), b.1) q (g.structure s.opens s.name s.brace s.fields s.closes s.ends) dk
+    yields (IsItem ts) (item.Struct (record { name = b.0.0; fields = b.0.1; line = line_at ts }), b.1) q
+    (g.structure s.opens s.name s.brace s.fields s.closes s.ends) dk
 
 -- ---- globals
 
 abbrev IsStart : Tokens → Start × Tokens → Type 0
 IsStart ts q = Starts ts q.0 q.1
 
-sound_negative : (ts us vs : Tokens) (q : Start × Tokens) → Takes (Mark m.Assign) ts us → Takes (Mark m.Minus) us vs → p.negative_by (kind_at vs) vs ≡ Ok q → IsStart ts q
+sound_negative : (ts us vs : Tokens) (q : Start × Tokens)
+    → Takes (Mark m.Assign) ts us → Takes (Mark m.Minus) us vs → p.negative_by (kind_at vs) vs ≡ Ok q → IsStart ts q
 sound_negative ts us vs q t u e = by (kind_at vs) refl e
   where
     by : (c : Option TokenKind) → kind_at vs ≡ c → p.negative_by c vs ≡ Ok q → IsStart ts q
@@ -207,11 +209,20 @@ record OneGlobal (line : ℕ) (a : CType) (is : List Item) (ts : Tokens) (q : (L
   starts : Starts named s behind
   sep : Sep m.Comma m.Semicolon (is ++ global line f s ∷ []) behind q
 
-one_global : (line : ℕ) (a : CType) (is : List Item) (ts : Tokens) (q : (List Item × Bool) × Tokens) → p.global_name line a is ts ≡ Ok q → OneGlobal line a is ts q
+one_global : (line : ℕ) (a : CType) (is : List Item) (ts : Tokens) (q : (List Item × Bool) × Tokens)
+    → p.global_name line a is ts ≡ Ok q → OneGlobal line a is ts q
 one_global line a is ts q e =
     let (f, df, dk) = bind_ok (declarator a ts) (λ f us. bind (p.starts us) (λ s vs. p.global_by (is ++ global line f s ∷ []) (mark_at vs) vs)) e in
     let (s, ds, dl) = bind_ok (p.starts f.1) (λ s vs. p.global_by (is ++ global line f.0 s ∷ []) (mark_at vs) vs) dk in
-    record { f = f.0; s = s.0; named = f.1; behind = s.1; declares = sound_declarator a ts f df; starts = sound_starts f.1 s ds; sep = global_sep (is ++ global line f.0 s.0 ∷ []) s.1 q dl }
+    record {
+      f = f.0;
+      s = s.0;
+      named = f.1;
+      behind = s.1;
+      declares = sound_declarator a ts f df;
+      starts = sound_starts f.1 s ds;
+      sep = global_sep (is ++ global line f.0 s.0 ∷ []) s.1 q dl;
+    }
 
 starts_shorter : {ts us : Tokens} {s : Start} → Starts ts s us → length us ≤ length ts
 starts_shorter g.nothing = omega arith
@@ -220,7 +231,12 @@ starts_shorter (g.negative t u v) = let a = takes_shorter t in let b = takes_sho
 starts_shorter (g.null t u) = let a = takes_shorter t in let b = takes_shorter u in omega arith
 
 pub global_shorter : (line : ℕ) (a : CType) (b c : List Item) (ts us : Tokens) → p.global_name line a b ts ≡ Ok ((c, false), us) → length us < length ts
-global_shorter line a b c ts us e = let r = one_global line a b ts ((c, false), us) e in let x = declarator_shorter r.declares in let y = starts_shorter r.starts in let z = sep_shorter r.sep in omega arith
+global_shorter line a b c ts us e =
+    let r = one_global line a b ts ((c, false), us) e in
+    let x = declarator_shorter r.declares in
+    let y = starts_shorter r.starts in
+    let z = sep_shorter r.sep in
+    omega arith
 
 abbrev FoundGlobals : ℕ → CType → List Item → Tokens → List Item → Tokens → Type 0
 FoundGlobals line a xs ts ys us = (zs : List Item) × Globals line a ts zs us × (ys ≡ xs ++ zs)
@@ -229,26 +245,31 @@ globals_last : (line : ℕ) (a : CType) (xs : List Item) (ts : Tokens) (f : Fiel
     → Declarator a ts f us → Starts us s vs → Sep m.Comma m.Semicolon (xs ++ global line f s ∷ []) vs ((ys, true), ws) → FoundGlobals line a xs ts ys ws
 globals_last line a xs ts f s us vs ys ws d i (ends t) = (global line f s ∷ [], g.last d i t, refl)
 
-globals_more : (line : ℕ) (a : CType) (xs : List Item) (ts : Tokens) (f : Field) (s : Start) (us vs : Tokens) (ys : List Item) (ws : Tokens) (zs : List Item) (rs : Tokens)
+globals_more :
+    (line : ℕ) (a : CType) (xs : List Item) (ts : Tokens) (f : Field) (s : Start) (us vs : Tokens) (ys : List Item) (ws : Tokens) (zs : List Item) (rs : Tokens)
     → Declarator a ts f us → Starts us s vs → Sep m.Comma m.Semicolon (xs ++ global line f s ∷ []) vs ((ys, false), ws)
     → FoundGlobals line a ys ws zs rs → FoundGlobals line a xs ts zs rs
-globals_more line a xs ts f s us vs ys ws zs rs d i (goes_on t) (bs, r, is) = (global line f s ∷ bs, g.more d i t r, is ∙ append_assoc xs (global line f s ∷ []) bs)
+globals_more line a xs ts f s us vs ys ws zs rs d i (goes_on t) (bs, r, is) =
+    (global line f s ∷ bs, g.more d i t r, is ∙ append_assoc xs (global line f s ∷ []) bs)
 
-sound_globals : (line : ℕ) (a : CType) (is : List Item) (ts : Tokens) (q : List Item × Tokens) → repeat (p.global_name line a) is ts ≡ Ok q → FoundGlobals line a is ts q.0 q.1
+sound_globals : (line : ℕ) (a : CType) (is : List Item) (ts : Tokens) (q : List Item × Tokens)
+    → repeat (p.global_name line a) is ts ≡ Ok q → FoundGlobals line a is ts q.0 q.1
 sound_globals line a is ts q e =
     repeat_keeps (p.global_name line a) (FoundGlobals line a)
     (λ b c ts us d. let r = one_global line a b ts ((c, true), us) d in globals_last line a b ts r.f r.s r.named r.behind c us r.declares r.starts r.sep)
-    (λ b c h ts us vs d k. let r = one_global line a b ts ((c, false), us) d in globals_more line a b ts r.f r.s r.named r.behind c us h vs r.declares r.starts r.sep k)
+    (λ b c h ts us vs d k.
+    let r = one_global line a b ts ((c, false), us) d in globals_more line a b ts r.f r.s r.named r.behind c us h vs r.declares r.starts r.sep k)
     is ts q e
 
 -- ---- functions
 
 sound_param : (ts : Tokens) (q : Field × Tokens) → p.param ts ≡ Ok q → Param ts q.0 q.1
 sound_param ts q e =
-    let (a, da, dk) = bind_ok (base ts) (λ a us. bind (stars max_stars a us) (λ b vs. bind (word vs) (λ w. pure (record { name = w; ty = b })))) e in
-    let (b, db, dl) = bind_ok (stars max_stars a.0 a.1) (λ b vs. bind (word vs) (λ w. pure (record { name = w; ty = b }))) dk in
+    let (a, da, dk) = bind_ok (base ts) (λ a us. bind (stars DECLARATOR_STARS a us) (λ b vs. bind (word vs) (λ w. pure (record { name = w; ty = b })))) e in
+    let (b, db, dl) = bind_ok (stars DECLARATOR_STARS a.0 a.1) (λ b vs. bind (word vs) (λ w. pure (record { name = w; ty = b }))) dk in
     let (w, dw, dm) = bind_ok (word b.1) (λ w. pure (record { name = w; ty = b.0 })) dl in
-    yields (λ (q : Field × Tokens). Param ts q.0 q.1) (record { name = w.0; ty = b.0 }, w.1) q (g.param (sound_base ts a da) (sound_stars max_stars a.0 a.1 b db) (word_takes b.1 w dw)) dm
+    yields (λ (q : Field × Tokens). Param ts q.0 q.1) (record { name = w.0; ty = b.0 }, w.1) q
+    (g.param (sound_base ts a da) (sound_stars DECLARATOR_STARS a.0 a.1 b db) (word_takes b.1 w dw)) dm
 
 param_sep : (fs : List Field) (ts : Tokens) (q : (List Field × Bool) × Tokens) → p.param_by fs (mark_at ts) ts ≡ Ok q → Sep m.Comma m.RightParen fs ts q
 param_sep fs ts q e = by (mark_at ts) refl e
@@ -258,7 +279,8 @@ param_sep fs ts q e = by (mark_at ts) refl e
     by (Some m.RightParen) d e = yields (Sep m.Comma m.RightParen fs ts) ((fs, true), tail ts) q (ends (mark_takes ts d)) e
     by _ d e = absurd cc
 
-one_param : (fs : List Field) (ts : Tokens) (q : (List Field × Bool) × Tokens) → p.param_turn fs ts ≡ Ok q → (f : Field) × (us : Tokens) × Param ts f us × Sep m.Comma m.RightParen (fs ++ f ∷ []) us q
+one_param : (fs : List Field) (ts : Tokens) (q : (List Field × Bool) × Tokens)
+    → p.param_turn fs ts ≡ Ok q → (f : Field) × (us : Tokens) × Param ts f us × Sep m.Comma m.RightParen (fs ++ f ∷ []) us q
 one_param fs ts q e =
     let (f, df, dk) = bind_ok (p.param ts) (λ f us. p.param_by (fs ++ f ∷ []) (mark_at us) us) e in
     (f.0, f.1, sound_param ts f df, param_sep (fs ++ f.0 ∷ []) f.1 q dk)
@@ -272,7 +294,8 @@ param_turn_shorter b c ts us e = let (f, vs, d, s) = one_param b ts ((c, false),
 abbrev FoundParams : List Field → Tokens → List Field → Tokens → Type 0
 FoundParams xs ts ys us = (zs : List Field) × ParamList ts zs us × (ys ≡ xs ++ zs)
 
-params_last : (xs : List Field) (ts : Tokens) (f : Field) (us : Tokens) (ys : List Field) (vs : Tokens) → Param ts f us → Sep m.Comma m.RightParen (xs ++ f ∷ []) us ((ys, true), vs) → FoundParams xs ts ys vs
+params_last : (xs : List Field) (ts : Tokens) (f : Field) (us : Tokens) (ys : List Field) (vs : Tokens)
+    → Param ts f us → Sep m.Comma m.RightParen (xs ++ f ∷ []) us ((ys, true), vs) → FoundParams xs ts ys vs
 params_last xs ts f us ys vs d (ends t) = (f ∷ [], g.last d t, refl)
 
 params_more : (xs : List Field) (ts : Tokens) (f : Field) (us : Tokens) (ys : List Field) (vs : Tokens) (zs : List Field) (ws : Tokens)
@@ -304,28 +327,30 @@ record IsBody (ts : Tokens) (q : List Stmt × Tokens) : Type 0 where
   inside : Tokens
   close : Tokens
   opens : Takes (Mark m.LeftBrace) ts inside
-  inners : Inners max_nesting inside q.0 close
+  inners : Inners STATEMENT_NESTING inside q.0 close
   closes : Takes (Mark m.RightBrace) close q.1
 
 sound_function_body : (ts : Tokens) (q : List Stmt × Tokens) → p.body ts ≡ Ok q → IsBody ts q
 sound_function_body ts q e =
-    let (o, do', dk) = bind_ok (expect m.LeftBrace ts) (λ _. braced max_nesting (statement max_nesting)) e in
-    let b = sound_braced max_nesting (statement max_nesting) (sound_statement max_nesting) o.1 q dk in
+    let (o, do', dk) = bind_ok (expect m.LeftBrace ts) (λ _. braced STATEMENT_NESTING (statement STATEMENT_NESTING)) e in
+    let b = sound_braced STATEMENT_NESTING (statement STATEMENT_NESTING) (sound_statement STATEMENT_NESTING) o.1 q dk in
     record { inside = o.1; close = b.close; opens = expect_takes m.LeftBrace ts o do'; inners = b.inners; closes = b.closes }
 
 sound_function : (ts us : Tokens) (a : CType) (q : Item × Tokens) → ResultBase ts a us → p.function (line_at ts) a us ≡ Ok q → IsItem ts q
 sound_function ts us a q r e =
-    let made : CType → Name → List Field → List Stmt → Item = λ b w fs ss. item.Func (record { name = w; result = b; params = fs; body = ss; line = line_at ts }) in
+    let made : CType → Name → List Field → List Stmt → Item = λ b w fs ss.
+    item.Func (record { name = w; result = b; params = fs; body = ss; line = line_at ts }) in
     let after_params : CType → Name → List Field → Step Item = λ b w fs vs. bind (p.body vs) (λ ss. pure (made b w fs ss)) in
     let after_name : CType → Name → Step Item = λ b w vs. bind (bind (expect m.LeftParen vs) (λ _. p.params)) (after_params b w) in
-    let (b, db, dk) = bind_ok (stars max_stars a us) (λ b vs. bind (word vs) (after_name b)) e in
+    let (b, db, dk) = bind_ok (stars DECLARATOR_STARS a us) (λ b vs. bind (word vs) (after_name b)) e in
     let (w, dw, dl) = bind_ok (word b.1) (after_name b.0) dk in
     let (fs, df, dm) = bind_ok (bind (expect m.LeftParen w.1) (λ _. p.params)) (after_params b.0 w.0) dl in
     let (o, do', dn) = bind_ok (expect m.LeftParen w.1) (λ _. p.params) df in
     let (ss, ds, dp) = bind_ok (p.body fs.1) (λ ss. pure (made b.0 w.0 fs.0 ss)) dm in
     let body = sound_function_body fs.1 ss ds in
     yields (IsItem ts) (made b.0 w.0 fs.0 ss.0, ss.1) q
-    (g.function r (sound_stars max_stars a us b db) (word_takes b.1 w dw) (expect_takes m.LeftParen w.1 o do') (sound_params o.1 fs dn) body.opens body.inners body.closes) dp
+    (g.function r (sound_stars DECLARATOR_STARS a us b db) (word_takes b.1 w dw) (expect_takes m.LeftParen w.1 o do') (sound_params o.1 fs dn) body.opens
+    body.inners body.closes) dp
 
 -- ---- programs
 
@@ -333,12 +358,14 @@ sound_function ts us a q r e =
 abbrev FoundItems : List Item → Tokens → List Item × Tokens → Type 0
 FoundItems is ts q = (js : List Item) × Items ts js q.1 × (q.0 ≡ is ++ js)
 
-one_item : (is : List Item) (ts : Tokens) (o : Read Item) (q : List Item × Tokens) → ((r : Item × Tokens) → o ≡ Ok r → IsItem ts r) → bind o (λ i. pure (is ++ i ∷ [])) ≡ Ok q → FoundItems is ts q
+one_item : (is : List Item) (ts : Tokens) (o : Read Item) (q : List Item × Tokens)
+    → ((r : Item × Tokens) → o ≡ Ok r → IsItem ts r) → bind o (λ i. pure (is ++ i ∷ [])) ≡ Ok q → FoundItems is ts q
 one_item is ts o q h e =
     let (i, di, dk) = bind_ok o (λ i. pure (is ++ i ∷ [])) e in
     yields (FoundItems is ts) (is ++ i.0 ∷ [], i.1) q (i.0 ∷ [], h i di, refl) dk
 
-sound_declared : (is : List Item) (ts us : Tokens) (a : CType) (q : List Item × Tokens) → Base ts a us → p.declared (line_at ts) a is us ≡ Ok q → FoundItems is ts q
+sound_declared : (is : List Item) (ts us : Tokens) (a : CType) (q : List Item × Tokens)
+    → Base ts a us → p.declared (line_at ts) a is us ≡ Ok q → FoundItems is ts q
 sound_declared is ts us a q b e = by (p.function_next us) e
   where
     by : (c : Bool) → p.declared_by (line_at ts) a is c us ≡ Ok q → FoundItems is ts q
@@ -350,7 +377,9 @@ sound_item is ts q e = by (p.structure_next ts) (is_key key.Void ts) refl e
   where
     by : (b c : Bool) → is_key key.Void ts ≡ c → p.item_by is b c ts ≡ Ok q → FoundItems is ts q
     by true c d e = one_item is ts (p.structure ts) q (λ r k. sound_structure ts r k) e
-    by false true d e = one_item is ts (p.function (line_at ts) type.Void (tail ts)) q (λ r k. sound_function ts (tail ts) type.Void r (g.void (is_key_takes key.Void ts d)) k) e
+    by false true d e =
+        one_item is ts (p.function (line_at ts) type.Void (tail ts)) q (λ r k. sound_function ts (tail ts) type.Void r (g.void (is_key_takes key.Void ts d)) k)
+        e
     by false false d e =
         let (a, da, dk) = bind_ok (base ts) (λ a. p.declared (line_at ts) a is) e in
         sound_declared is ts a.1 a.0 q (sound_base ts a da) dk
@@ -368,7 +397,8 @@ item_turn is (t ∷ ts) q e =
 
 globals_shorter : {line : ℕ} {a : CType} {ts us : Tokens} {is : List Item} → Globals line a ts is us → length us < length ts
 globals_shorter (g.last d s t) = let x = declarator_shorter d in let y = starts_shorter s in let z = takes_shorter t in omega arith
-globals_shorter (g.more d s t r) = let x = declarator_shorter d in let y = starts_shorter s in let z = takes_shorter t in let u = globals_shorter r in omega arith
+globals_shorter (g.more d s t r) =
+    let x = declarator_shorter d in let y = starts_shorter s in let z = takes_shorter t in let u = globals_shorter r in omega arith
 
 fields_shorter : {ts us : Tokens} {fs : List Field} → Fields ts fs us → length us < length ts
 fields_shorter (g.last b r) = let x = base_shorter b in let y = names_shorter r in omega arith
@@ -388,10 +418,25 @@ params_shorter (g.void t u) = let x = takes_shorter t in let y = takes_shorter u
 params_shorter (g.some r) = list_shorter r
 
 pub items_shorter : {ts us : Tokens} {is : List Item} → Items ts is us → length us < length ts
-items_shorter (g.structure a b c d e f) = let x = takes_shorter a in let y = takes_shorter b in let z = takes_shorter c in let u = fields_shorter d in let v = takes_shorter e in let w = takes_shorter f in omega arith
+items_shorter (g.structure a b c d e f) =
+    let x = takes_shorter a in
+    let y = takes_shorter b in
+    let z = takes_shorter c in
+    let u = fields_shorter d in
+    let v = takes_shorter e in
+    let w = takes_shorter f in
+    omega arith
 items_shorter (g.globals b r) = let x = base_shorter b in let y = globals_shorter r in omega arith
 items_shorter (g.function r s t o q b i c) =
-    let x = result_shorter r in let y = stars_shorter s in let z = takes_shorter t in let u = takes_shorter o in let v = params_shorter q in let w = takes_shorter b in let j = inners_shorter i in let k = takes_shorter c in omega arith
+    let x = result_shorter r in
+    let y = stars_shorter s in
+    let z = takes_shorter t in
+    let u = takes_shorter o in
+    let v = params_shorter q in
+    let w = takes_shorter b in
+    let j = inners_shorter i in
+    let k = takes_shorter c in
+    omega arith
 
 pub step_shorter : (is : List Item) (ts : Tokens) (q : List Item × Tokens) → p.items_step is ts ≡ Ok q → length q.1 < length ts
 step_shorter is ts q e = let (js, r, all) = sound_item is ts q e in items_shorter r
@@ -424,12 +469,15 @@ sound_program ts q e =
 takes_mark : {c : the_mark.Mark} {ts us : Tokens} → Takes (Mark c) ts us → mark_at ts ≡ Some c
 takes_mark t = ap mark_in (takes_kind t)
 
-complete_names : {a : CType} {ts us : Tokens} {fs : List Field} (found : List Field) → FieldNames a ts fs us → repeat (p.field_name a) found ts ≡ Ok (found ++ fs, us)
+complete_names : {a : CType} {ts us : Tokens} {fs : List Field} (found : List Field)
+    → FieldNames a ts fs us → repeat (p.field_name a) found ts ≡ Ok (found ++ fs, us)
 unfolding same_mark
 complete_names {a} {ts} {us} found (g.last {f = f} d t) =
-    repeat_last (p.field_name a) (field_shorter a) found (found ++ f ∷ []) ts us (rw (complete_declarator d (not_mark m.LeftBracket t refl), takes_mark t, takes_tail t) refl)
+    repeat_last (p.field_name a) (field_shorter a) found (found ++ f ∷ []) ts us
+    (rw (complete_declarator d (not_mark m.LeftBracket t refl), takes_mark t, takes_tail t) refl)
 complete_names {a} {ts} {us} found (g.more {vs = vs} {f = f} {fs = fs} d t r) =
-    repeat_next (p.field_name a) (field_shorter a) found (found ++ f ∷ []) ts vs (rw (complete_declarator d (not_mark m.LeftBracket t refl), takes_mark t, takes_tail t) refl)
+    repeat_next (p.field_name a) (field_shorter a) found (found ++ f ∷ []) ts vs
+    (rw (complete_declarator d (not_mark m.LeftBracket t refl), takes_mark t, takes_tail t) refl)
     ∙ complete_names (found ++ f ∷ []) r
     ∙ ap (λ l. Ok (l, us)) (append_assoc found (f ∷ []) fs)
 
@@ -437,7 +485,8 @@ ends_names : {a : CType} {ts us : Tokens} {fs : List Field} → FieldNames a ts 
 ends_names (g.last d t) = ends_declarator d
 ends_names (g.more d t r) = ends_declarator d
 
-complete_line : {a : CType} {ts us vs : Tokens} {fs : List Field} (found : List Field) → Base ts a us → FieldNames a us fs vs → p.field_line found ts ≡ Ok (found ++ fs, vs)
+complete_line : {a : CType} {ts us vs : Tokens} {fs : List Field} (found : List Field)
+    → Base ts a us → FieldNames a us fs vs → p.field_line found ts ≡ Ok (found ++ fs, vs)
 complete_line found b r = rw (complete_base b (ends_names r)) (complete_names found r)
 
 base_no_brace : {ts : Tokens} → FirstBase ts → is_mark m.RightBrace ts ≡ false
@@ -449,7 +498,8 @@ fields_no_brace : {ts us : Tokens} {fs : List Field} → Fields ts fs us → is_
 fields_no_brace (g.last b r) = base_no_brace (first_base b)
 fields_no_brace (g.more b r q) = base_no_brace (first_base b)
 
-complete_fields : {ts us vs : Tokens} {fs : List Field} (found : List Field) → Fields ts fs us → Takes (Mark m.RightBrace) us vs → repeat p.field_turn found ts ≡ Ok (found ++ fs, us)
+complete_fields : {ts us vs : Tokens} {fs : List Field} (found : List Field)
+    → Fields ts fs us → Takes (Mark m.RightBrace) us vs → repeat p.field_turn found ts ≡ Ok (found ++ fs, us)
 complete_fields found (g.last {ts = ts} {vs = us} {fs = fs} b r) t =
     repeat_last p.field_turn line_shorter found (found ++ fs) ts us (rw (complete_line found b r, takes_is_mark t) refl)
 complete_fields {us = us} found (g.more {ts = ts} {vs = vs} {fs = fs} {gs = gs} b r q) t =
@@ -457,20 +507,23 @@ complete_fields {us = us} found (g.more {ts = ts} {vs = vs} {fs = fs} {gs = gs} 
     ∙ complete_fields (found ++ fs) q t
     ∙ ap (λ l. Ok (l, us)) (append_assoc found fs gs)
 
-complete_starts : {k : the_mark.Mark} {ts us vs : Tokens} {s : Start} → Starts ts s us → Takes (Mark k) us vs → is_mark_in m.Assign (Some k) ≡ false → p.starts ts ≡ Ok (s, us)
+complete_starts : {k : the_mark.Mark} {ts us vs : Tokens} {s : Start}
+    → Starts ts s us → Takes (Mark k) us vs → is_mark_in m.Assign (Some k) ≡ false → p.starts ts ≡ Ok (s, us)
 complete_starts g.nothing t h = rw (not_mark m.Assign t h) refl
 complete_starts (g.number a b) t h = rw (takes_is_mark a, takes_tail a, takes_kind b, takes_tail b) refl
 complete_starts (g.negative a b c) t h = rw (takes_is_mark a, takes_tail a, takes_kind b, takes_tail b, takes_kind c, takes_tail c) refl
 complete_starts (g.null a b) t h = rw (takes_is_mark a, takes_tail a, takes_kind b, takes_tail b) refl
 
-no_bracket : {k : the_mark.Mark} {ts us vs : Tokens} {s : Start} → Starts ts s us → Takes (Mark k) us vs → is_mark_in m.LeftBracket (Some k) ≡ false → is_mark m.LeftBracket ts ≡ false
+no_bracket : {k : the_mark.Mark} {ts us vs : Tokens} {s : Start}
+    → Starts ts s us → Takes (Mark k) us vs → is_mark_in m.LeftBracket (Some k) ≡ false → is_mark m.LeftBracket ts ≡ false
 unfolding same_mark
 no_bracket g.nothing t h = not_mark m.LeftBracket t h
 no_bracket (g.number a b) t h = not_mark m.LeftBracket a refl
 no_bracket (g.negative a b c) t h = not_mark m.LeftBracket a refl
 no_bracket (g.null a b) t h = not_mark m.LeftBracket a refl
 
-complete_globals : {line : ℕ} {a : CType} {ts us : Tokens} {is : List Item} (found : List Item) → Globals line a ts is us → repeat (p.global_name line a) found ts ≡ Ok (found ++ is, us)
+complete_globals : {line : ℕ} {a : CType} {ts us : Tokens} {is : List Item} (found : List Item)
+    → Globals line a ts is us → repeat (p.global_name line a) found ts ≡ Ok (found ++ is, us)
 unfolding same_mark
 complete_globals {line} {a} {ts} {us} found (g.last {f = f} {s = s} d i t) =
     repeat_last (p.global_name line a) (global_shorter line a) found (found ++ global line f s ∷ []) ts us
@@ -509,11 +562,13 @@ complete_params (g.none t) = rw (takes_kind t, takes_tail t) refl
 complete_params (g.void t u) = rw (takes_kind t, takes_tail t, takes_expect u) refl
 complete_params (g.some r) = params_open (first_list r) ∙ complete_list [] r
 
-complete_body : {ts us vs ws : Tokens} {ss : List Stmt} → Takes (Mark m.LeftBrace) ts us → Inners max_nesting us ss vs → Takes (Mark m.RightBrace) vs ws → p.body ts ≡ Ok (ss, ws)
+complete_body : {ts us vs ws : Tokens} {ss : List Stmt}
+    → Takes (Mark m.LeftBrace) ts us → Inners STATEMENT_NESTING us ss vs → Takes (Mark m.RightBrace) vs ws → p.body ts ≡ Ok (ss, ws)
 complete_body o i c = rw (takes_expect o, complete_inners [] i c, takes_expect c) refl
 
 complete_function : {a b : CType} {w : Name} {t₁ t₂ t₃ t₄ t₅ t₆ t₇ t₈ : Tokens} {fs : List Field} {ss : List Stmt} (line : ℕ)
-    → Stars max_stars a t₁ b t₂ → Takes (Word w) t₂ t₃ → Takes (Mark m.LeftParen) t₃ t₄ → Params t₄ fs t₅ → Takes (Mark m.LeftBrace) t₅ t₆ → Inners max_nesting t₆ ss t₇ → Takes (Mark m.RightBrace) t₇ t₈
+    → Stars DECLARATOR_STARS a t₁ b t₂ → Takes (Word w) t₂ t₃ → Takes (Mark m.LeftParen) t₃ t₄ → Params t₄ fs t₅ → Takes (Mark m.LeftBrace) t₅ t₆
+    → Inners STATEMENT_NESTING t₆ ss t₇ → Takes (Mark m.RightBrace) t₇ t₈
     → p.function line a t₁ ≡ Ok (item.Func (record { name = w; result = b; params = fs; body = ss; line = line }), t₈)
 complete_function line s t o q b i c = rw (complete_stars s (not_mark m.Star t refl), takes_word t, takes_expect o, complete_params q, complete_body b i c) refl
 
@@ -521,9 +576,11 @@ complete_function line s t o q b i c = rw (complete_stars s (not_mark m.Star t r
 
 past_takes : {w : Name} {n : ℕ} {a b : CType} {ts us vs : Tokens} → Stars n a ts b us → Takes (Word w) us vs → p.past_stars ts ≡ us
 past_takes ty.none (takes {t = t} {ts = ts} d) = ap (λ b. p.past_by b (p.past_stars ts) (t ∷ ts)) (not_mark {ts = t ∷ ts} m.Star (takes d) refl)
-past_takes (ty.star (takes {t = t} {ts = ts} d) r) t' = ap (λ b. p.past_by b (p.past_stars ts) (t ∷ ts)) (takes_is_mark {ts = t ∷ ts} (takes d)) ∙ past_takes r t'
+past_takes (ty.star (takes {t = t} {ts = ts} d) r) t' =
+    ap (λ b. p.past_by b (p.past_stars ts) (t ∷ ts)) (takes_is_mark {ts = t ∷ ts} (takes d)) ∙ past_takes r t'
 
-is_function : {w : Name} {n : ℕ} {a b : CType} {ts us vs ws : Tokens} → Stars n a ts b us → Takes (Word w) us vs → Takes (Mark m.LeftParen) vs ws → p.function_next ts ≡ true
+is_function : {w : Name} {n : ℕ} {a b : CType} {ts us vs ws : Tokens}
+    → Stars n a ts b us → Takes (Word w) us vs → Takes (Mark m.LeftParen) vs ws → p.function_next ts ≡ true
 is_function s t o = rw (past_takes s t, takes_tail t) (takes_is_mark o)
 
 dimensions_no_call : {n : ℕ} {a b : CType} {ts us : Tokens} → Dimensions n a ts b us → is_mark m.LeftParen us ≡ false → is_mark m.LeftParen ts ≡ false
@@ -534,7 +591,8 @@ dimensions_no_call (ty.dimension t v low high u r) h = not_mark m.LeftParen t re
 is_global : {a : CType} {ts us : Tokens} {f : Field} → Declarator a ts f us → is_mark m.LeftParen us ≡ false → p.function_next ts ≡ false
 is_global (ty.declarator s t d) h = rw (past_takes s t, takes_tail t) (dimensions_no_call d h)
 
-starts_no_call : {k : the_mark.Mark} {ts us vs : Tokens} {s : Start} → Starts ts s us → Takes (Mark k) us vs → is_mark_in m.LeftParen (Some k) ≡ false → is_mark m.LeftParen ts ≡ false
+starts_no_call : {k : the_mark.Mark} {ts us vs : Tokens} {s : Start}
+    → Starts ts s us → Takes (Mark k) us vs → is_mark_in m.LeftParen (Some k) ≡ false → is_mark m.LeftParen ts ≡ false
 unfolding same_mark
 starts_no_call g.nothing t h = not_mark m.LeftParen t h
 starts_no_call (g.number a b) t h = not_mark m.LeftParen a refl
@@ -575,13 +633,15 @@ no_void (ty.int t) = not_key key.Void t refl
 no_void (ty.long t u v) = not_key key.Void t refl
 no_void (ty.structure t u) = not_key key.Void t refl
 
-by_base : {ts us : Tokens} {a : CType} (is : List Item) → Base ts a us → EndsType us → is_mark m.LeftBrace us ≡ false → p.items_step is ts ≡ p.declared (line_at ts) a is us
+by_base : {ts us : Tokens} {a : CType} (is : List Item)
+    → Base ts a us → EndsType us → is_mark m.LeftBrace us ≡ false → p.items_step is ts ≡ p.declared (line_at ts) a is us
 by_base {ts} {us} {a} is b end h =
     ap (λ c. p.item_by is c (is_key key.Void ts) ts) (no_structure b h)
     ∙ ap (λ c. p.item_by is false c ts) (no_void b)
     ∙ ap (λ o. bind o (λ a. p.declared (line_at ts) a is)) (complete_base b end)
 
-structure_first : {t₀ t₁ t₂ t₃ : Tokens} {w : Name} → Takes (Key key.Struct) t₀ t₁ → Takes (Word w) t₁ t₂ → Takes (Mark m.LeftBrace) t₂ t₃ → p.structure_next t₀ ≡ true
+structure_first : {t₀ t₁ t₂ t₃ : Tokens} {w : Name}
+    → Takes (Key key.Struct) t₀ t₁ → Takes (Word w) t₁ t₂ → Takes (Mark m.LeftBrace) t₂ t₃ → p.structure_next t₀ ≡ true
 structure_first a b c = rw (takes_is_key a, takes_tail a, takes_tail b) (takes_is_mark c)
 
 complete_items : {ts us : Tokens} {js : List Item} (is : List Item) → Items ts js us → p.items_step is ts ≡ Ok (is ++ js, us)
@@ -614,7 +674,8 @@ some_left is {ts} {us} r = by ts us (items_shorter r)
 complete_all : {ts : Tokens} {js : List Item} (found : List Item) → AllItems ts js → repeat p.item_turn found ts ≡ Ok (found ++ js, [])
 complete_all found g.end = repeat_last p.item_turn item_turn_shorter found found [] [] refl ∙ ap (λ l. Ok (l, [])) (sym (append-nil found))
 complete_all found (g.next {ts = ts} {us = us} {is = is} {js = js} r q) =
-    repeat_next p.item_turn item_turn_shorter found (found ++ is) ts us (some_left found r ∙ ap (λ o. bind o (λ all. pure (all, false))) (complete_items found r))
+    repeat_next p.item_turn item_turn_shorter found (found ++ is) ts us
+    (some_left found r ∙ ap (λ o. bind o (λ all. pure (all, false))) (complete_items found r))
     ∙ complete_all (found ++ is) q
     ∙ ap (λ l. Ok (l, [])) (append_assoc found is js)
 

@@ -72,21 +72,27 @@ laid_line_end source at line Inside h = (tt, omega arith)
 laid_line_end source at line Skipped h = (tt, omega arith)
 laid_line_end source at line Note h = (tt, (omega arith, omega arith, omega arith, no_bytes source at))
 
-either : (source : Bytes) (at : ℕ) (place : Place) (b : Bool) (x y : Result Next LexFault) → (b ≡ true → Laid source at place x) → Laid source at place y → Laid source at place (cond b x y)
+either : (source : Bytes) (at : ℕ) (place : Place) (b : Bool) (x y : Result Next LexFault)
+    → (b ≡ true → Laid source at place x) → Laid source at place y → Laid source at place (cond b x y)
 either source at place true x y h k = h refl
 either source at place false x y h k = k
 
 from_here : (at n : ℕ) (source : Bytes) → take n (drop at source) ≡ slice_range source at (at + n)
 from_here at n source = let e : n ≡ at + n - at = omega arith in ap (λ k. take k (drop at source)) e
 
-laid_token_by : (source : Bytes) (at line : ℕ) (place after : Place) (r : Result Lexeme LexFault) → floor place at ≡ at → floor after ≡ (λ k. k) → ((k : ℕ) → HashAt source k after) → ((t : Lexeme) → r ≡ Ok t → IsSpelledBy t.0 (take t.1 (drop at source))) → Laid source at place (token_at (spot at line place) after r)
+laid_token_by : (source : Bytes) (at line : ℕ) (place after : Place) (r : Result Lexeme LexFault)
+    → floor place at ≡ at → floor after ≡ (λ k. k) → ((k : ℕ) → HashAt source k after) → ((t : Lexeme) → r ≡ Ok t → IsSpelledBy t.0 (take t.1 (drop at source)))
+    → Laid source at place (token_at (spot at line place) after r)
 laid_token_by source at line place after (Err fault) low high hash is = tt
 laid_token_by source at line place after (Ok t) low high hash is =
     let top : floor after (at + t.1) ≡ at + t.1 = ap (λ (f : ℕ → ℕ). f (at + t.1)) high in
     (hash (at + t.1), (omega arith, omega arith, omega arith, subst (λ z. IsSpelledBy t.0 z) (from_here at t.1 source) (is t refl)))
 
-laid_token : (source : Bytes) (at line : ℕ) (place after : Place) → floor place at ≡ at → floor after ≡ (λ k. k) → ((k : ℕ) → HashAt source k after) → Laid source at place (token_at (spot at line place) after (lexeme line (drop at source)))
-laid_token source at line place after low high hash = laid_token_by source at line place after (lexeme line (drop at source)) low high hash (λ t e. lexeme_spelled line (drop at source) t e)
+laid_token : (source : Bytes) (at line : ℕ) (place after : Place)
+    → floor place at ≡ at → floor after ≡ (λ k. k) → ((k : ℕ) → HashAt source k after)
+    → Laid source at place (token_at (spot at line place) after (lexeme line (drop at source)))
+laid_token source at line place after low high hash =
+    laid_token_by source at line place after (lexeme line (drop at source)) low high hash (λ t e. lexeme_spelled line (drop at source) t e)
 
 first_byte : (at : ℕ) (source : Bytes) → slice_index (drop at source) 0 ≡ slice_index source at
 first_byte zero source = refl
@@ -114,7 +120,8 @@ drop_drop m (suc n) (x ∷ xs) = let e : suc (n + m) ≡ suc n + m = omega arith
 hash_first : (start : ℕ) (source : Bytes) → slice_index source start ≡ 35 → drop start source ≡ 35 ∷ drop (start + 1) source
 hash_first start [] h = absurd (omega (arith, h))
 hash_first zero (b ∷ source) h = let e : b ≡ 35 = h in ap (λ c. c ∷ source) e
-hash_first (suc start) (b ∷ source) h = let e : suc (start + 1) ≡ suc start + 1 = omega arith in hash_first start source h ∙ ap (λ k. 35 ∷ drop k (b ∷ source)) e
+hash_first (suc start) (b ∷ source) h =
+    let e : suc (start + 1) ≡ suc start + 1 = omega arith in hash_first start source h ∙ ap (λ k. 35 ∷ drop k (b ∷ source)) e
 
 take_len : (n : ℕ) (z : Bytes) → take (length (take n z)) z ≡ take n z
 take_len zero z = refl
@@ -122,7 +129,9 @@ take_len (suc n) [] = refl
 take_len (suc n) (b ∷ z) = ap (λ ys. b ∷ ys) (take_len n z)
 
 -- a hash, what follows it, and a word
-hash_and_word : (source w : Bytes) (start at : ℕ) → start < at → slice_index source start ≡ 35 → take (length w) (drop at source) ≡ w → slice_range source start (at + length w) ≡ (35 ∷ slice_range source (start + 1) at) ++ w
+hash_and_word : (source w : Bytes) (start at : ℕ)
+    → start < at → slice_index source start ≡ 35 → take (length w) (drop at source) ≡ w
+    → slice_range source start (at + length w) ≡ (35 ∷ slice_range source (start + 1) at) ++ w
 hash_and_word source w start at below hash is =
     let k : ℕ = at - (start + 1) in
     let whole : at + length w - start ≡ suc k + length w = omega arith in
@@ -133,7 +142,8 @@ hash_and_word source w start at below hash is =
     ∙ ap (λ xs. (35 ∷ take k (drop (start + 1) source)) ++ take (length w) xs) (drop_drop (suc k) start source ∙ ap (λ n. drop n source) back)
     ∙ ap (λ xs. (35 ∷ take k (drop (start + 1) source)) ++ xs) is
 
-laid_pragma : (source : Bytes) (at line start l : ℕ) → start < at → slice_index source start ≡ 35 → Laid source at (Pragma start l) (pragma start l (spot at line (Pragma start l)) (drop at source))
+laid_pragma : (source : Bytes) (at line start l : ℕ)
+    → start < at → slice_index source start ≡ 35 → Laid source at (Pragma start l) (pragma start l (spot at line (Pragma start l)) (drop at source))
 laid_pragma source at line start l below hash =
     let z = drop at source in
     let word : Bytes = take (name_len z) z in
@@ -141,17 +151,21 @@ laid_pragma source at line start l below hash =
     (λ e.
     let is : word ≡ codes "alter" = (bytes_eq-Decides word (codes "alter")).0 e in
     let middle : Bytes = slice_range source (start + 1) at in
-    let spelled : slice_range source start (at + length word) ≡ codes "#" ++ middle ++ codes "alter" = hash_and_word source word start at below hash (take_len (name_len z) z) ∙ ap (λ w. (35 ∷ middle) ++ w) is in
+    let spelled : slice_range source start (at + length word) ≡ codes "#" ++ middle ++ codes "alter" = hash_and_word source word start at below hash
+    (take_len (name_len z) z)
+    ∙ ap (λ w. (35 ∷ middle) ++ w) is in
     (tt, (omega arith, omega arith, omega arith, (middle, spelled))))
     (tt, omega arith)
 
-laid_directive : (source : Bytes) (at start l : ℕ) (z : Bytes) → start < at → slice_index source start ≡ 35 → Laid source at (Hash start l) (directive start l z)
+laid_directive : (source : Bytes) (at start l : ℕ) (z : Bytes)
+    → start < at → slice_index source start ≡ 35 → Laid source at (Hash start l) (directive start l z)
 laid_directive source at start l z below hash =
     let word : Bytes = take (name_len z) z in
     either source at (Hash start l) (bytes_eq word (codes "include")) _ _ (λ _. (tt, omega arith))
     (either source at (Hash start l) (bytes_eq word (codes "pragma")) _ _ (λ _. ((omega arith, hash), omega arith)) tt)
 
-laid_matter : (source : Bytes) (at line : ℕ) (place : Place) → HashAt source at place → Laid source at place (matter_at place (spot at line place) (drop at source))
+laid_matter : (source : Bytes) (at line : ℕ) (place : Place)
+    → HashAt source at place → Laid source at place (matter_at place (spot at line place) (drop at source))
 laid_matter source at line (Hash start l) h = laid_directive source at start l (drop at source) h.0 h.1
 laid_matter source at line (Pragma start l) h = laid_pragma source at line start l h.0 h.1
 laid_matter source at line Fresh h =
@@ -186,7 +200,8 @@ floor_before source at Note h = omega arith
 no_more : (source : Bytes) (place : Place) (at : ℕ) (ts : List Token) → at ≤ length source → floor place at ≤ at → [] ≡ ts → AreSlices source at place ts
 no_more source place at ts within low is = λ from below. subst (λ us. EachIsItsSlice source us × InOrder from (length source) us) is (tt, omega arith)
 
-end_slices : (source : Bytes) (at line : ℕ) (place : Place) (ts : List Token) → at ≤ length source → HashAt source at place → end_at place (spot at line place) ≡ Ok ts → AreSlices source at place ts
+end_slices : (source : Bytes) (at line : ℕ) (place : Place) (ts : List Token)
+    → at ≤ length source → HashAt source at place → end_at place (spot at line place) ≡ Ok ts → AreSlices source at place ts
 end_slices source at line (Hash start l) ts within hash e = absurd cc
 end_slices source at line (Pragma start l) ts within hash e = no_more source (Pragma start l) at ts within (floor_before source at (Pragma start l) hash) cc
 end_slices source at line Fresh ts within hash e = no_more source Fresh at ts within (omega arith) cc
@@ -196,7 +211,8 @@ end_slices source at line Note ts within hash e = λ from low.
     let is : note_end (spot at line Note) ∷ [] ≡ ts = cc in
     subst (λ us. EachIsItsSlice source us × InOrder from (length source) us) is ((no_bytes source at, tt), (low, omega arith, within))
 
-next_slices : (source : Bytes) (at : ℕ) (place : Place) (n : Next) (o : Option Token) (ts : List Token) → Follows source at place n o → AreSlices source (at + n.len) n.place ts → AreSlices source at place (option_to_list o ++ ts)
+next_slices : (source : Bytes) (at : ℕ) (place : Place) (n : Next) (o : Option Token) (ts : List Token)
+    → Follows source at place n o → AreSlices source (at + n.len) n.place ts → AreSlices source at place (option_to_list o ++ ts)
 next_slices source at place n None ts h rest = λ from low. rest from (omega arith)
 next_slices source at place n (Some t) ts h rest = λ from low.
     let more = rest t.end h.2 in
@@ -207,18 +223,21 @@ drop-pred zero b z h = absurd (omega arith)
 drop-pred (suc n) b z h = let e : suc n - 1 ≡ n = omega arith in ap (λ k. drop k z) e
 
 -- what stands next ends within the source
-next_inside : (source : Bytes) (s : Spot) (b : ℕ) (z : Bytes) (n : Next) → (b ∷ z) ≡ drop s.at source → s.at ≤ length source → next s (b ∷ z) ≡ Ok n → s.at + n.len ≤ length source
+next_inside : (source : Bytes) (s : Spot) (b : ℕ) (z : Bytes) (n : Next)
+    → (b ∷ z) ≡ drop s.at source → s.at ≤ length source → next s (b ∷ z) ≡ Ok n → s.at + n.len ≤ length source
 next_inside source s b z n is within e =
     let len : suc (length z) ≡ length source - s.at = ap length is ∙ length-drop s.at source in
     let some : 1 ≤ length (b ∷ z) = omega arith in
     let less : n.len ≤ suc (length z) = next_within s (b ∷ z) n some e in
     omega arith
 
-slices : {s : Spot} {z : Bytes} {ts : List Token} → SpellsFrom s z ts → (source : Bytes) → z ≡ drop s.at source → s.at ≤ length source → HashAt source s.at s.place → AreSlices source s.at s.place ts
+slices : {s : Spot} {z : Bytes} {ts : List Token}
+    → SpellsFrom s z ts → (source : Bytes) → z ≡ drop s.at source → s.at ≤ length source → HashAt source s.at s.place → AreSlices source s.at s.place ts
 slices (ends {s = s} {ts = ts} e) source is within hash = end_slices source s.at s.line s.place ts within hash e
 slices (goes {s = s} {b = b} {z = z} {n = n} {ts = ts} e more) source is within hash =
     let laid = subst (λ r. Laid source s.at s.place r) (ap (next s) (sym is) ∙ e) (laid_next source s.at s.line s.place hash) in
-    let rest : drop (n.len - 1) z ≡ drop (s.at + n.len) source = drop-pred n.len b z (next_moves s (b ∷ z) n e) ∙ ap (drop n.len) is ∙ drop_drop n.len s.at source in
+    let rest : drop (n.len - 1) z ≡ drop (s.at + n.len) source = drop-pred n.len b z (next_moves s (b ∷ z) n e) ∙ ap (drop n.len) is
+    ∙ drop_drop n.len s.at source in
     next_slices source s.at s.place n n.token ts laid.1 (slices more source rest (next_inside source s b z n is within e) laid.0)
 
 pub spelled_slices : (source : Bytes) (ts : List Token) → Spells source ts → EachIsItsSlice source ts × InOrder 0 (length source) ts

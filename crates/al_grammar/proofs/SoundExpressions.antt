@@ -1,29 +1,30 @@
 -- What the parser of expressions reads is in the grammar.
-use Rattle.std.proofs.Common.{◌≡◌, ℕ, zero, suc, ◌+◌, ◌-◌, ◌*◌, ◌<◌, ◌≤◌, Bool, true, false, nat_lt, nat_eq, if◌then◌else◌, List, [], ◌∷◌, ◌++◌, append_assoc, length, Option, Some, None, Ok, Err, refl, sym, ap, subst, ◌∙◌, arith}
-use Rattle.std.proofs.lemmas.Bool.{ltb-true, lt-ltb, ltb-false, eqb-true, eq-eqb, ne_eqb, le-ltb}
-use Rattle.al_source.specs.declared.tokens.Token.{Token}
+use Rattle.std.proofs.Common.{◌≡◌, ℕ, zero, suc, ◌<◌, ◌≤◌, Bool, true, false, nat_lt, nat_eq, List, [], ◌∷◌, ◌++◌, append_assoc, length, Option, Some, None, Ok, Err, refl, sym, ap, subst, ◌∙◌, arith}
+use Rattle.std.proofs.lemmas.Bool.{ltb-true, ltb-false, eqb-true}
 use Rattle.al_source.specs.declared.tokens.TokenKind.{TokenKind}
 use Rattle.al_source.specs.declared.tokens.TokenKind.TheVariants.{Word, Number, Key, Mark}
 use Rattle.al_source.specs.declared.tokens.Mark as the_mark
 use Rattle.al_source.specs.declared.tokens.Mark.TheVariants as m
 use Rattle.al_source.specs.declared.tokens.Key.TheVariants as key
-use Rattle.al_source.specs.declared.operators.BinOp.{BinOp}
 use Rattle.al_source.specs.declared.source_tree.CType.{CType}
 use Rattle.al_source.specs.declared.source_tree.Expr.{Expr}
 use Rattle.al_source.specs.declared.source_tree.Expr.TheVariants as e
+use Rattle.al_source.specs.declared.limits.TheConstants.{EXPRESSION_OPERATORS}
 use Rattle.al_grammar.specs.declared.operators.Joint.{Joint}
 use Rattle.al_grammar.specs.declared.operators.Prefix.{Prefix}
-use Rattle.al_grammar.specs.Operators.{infix_of, levels, join, prefix_of, apply, update_of, step_of}
-use Rattle.al_grammar.specs.Phrases.{Tokens, Name, Takes, takes, Means, means}
+use Rattle.al_grammar.specs.declared.operators.TheConstants.{LEVELS}
+use Rattle.al_grammar.specs.Operators.{infix_of, join, prefix_of, apply}
+use Rattle.al_grammar.specs.Phrases.{Tokens, Name, Takes, Means, means}
 use Rattle.al_grammar.specs.Types.{SizeOf}
-use Rattle.al_grammar.specs.Expressions.{State, Reads, Arguments, More, Expression, Place, max_operators}
+use Rattle.al_grammar.specs.Expressions.{State, Reads, Arguments, More, Expression, Place}
 use Rattle.al_grammar.specs.Expressions as g
-use Rattle.al_grammar.specs.Steps.{Read, Step, bind, kind_at, mark_in, mark_at, meaning_at, tail, expect, word}
+use Rattle.al_source.specs.Steps.{bind, pure}
+use Rattle.al_grammar.specs.Steps.{kind_at, mark_at, meaning_at, tail, expect, word}
 use Rattle.al_grammar.specs.TypeParser.{operand_type, size_of}
-use Rattle.al_grammar.specs.ExpressionParser.{Outcome, Parser, and_then, keep, lift, spend, spend_two, Job, whole, climb, unary, postfix, primary, suffix, arguments, more, field, sized, element_size, whole_by, joined_by, climb_by, unary_by, named_by, primary_by, indexed, suffix_by, allocated, arguments_by, more_by, step, rank, measure, guard, go, parse, forget, expression, place}
+use Rattle.al_grammar.specs.ExpressionParser.{Outcome, Parser, lift, Job, whole, climb, unary, postfix, primary, suffix, arguments, more, field, sized, element_size, whole_by, joined_by, climb_by, unary_by, named_by, primary_by, indexed, suffix_by, allocated, arguments_by, more_by, step, measure, guard, go, parse, forget, expression, place}
 use Rattle.al_grammar.proofs.StepFacts.{some_same, takes_shorter, kind_takes, mark_takes, means_shorter, at_means, expect_takes, word_takes, bind_ok, yields}
-use Rattle.al_grammar.proofs.TypeFacts.{OperandType, sound_operand, size_from, sound_size, size_shorter}
-use Rattle.al_grammar.proofs.FixedPoint.{then_ok, then_same, lift_ok, guarded, pass, parse_step}
+use Rattle.al_grammar.proofs.TypeFacts.{sound_operand, size_from, sound_size, size_shorter}
+use Rattle.al_grammar.proofs.FixedPoint.{lift_ok, guarded}
 
 abbrev pub Took : Job → State → State → Type 0
 Took (climb l x) s s' = length s'.1 ≤ length s.1
@@ -32,7 +33,7 @@ Took _ s s' = length s'.1 < length s.1
 
 -- what each job reads; those that go on say what they make of what stands before
 abbrev pub Sound : Job → State → Expr → State → Type 0
-Sound (whole l) s y s' = l ≤ levels → Reads (g.level l) s y s'
+Sound (whole l) s y s' = l ≤ LEVELS → Reads (g.level l) s y s'
 Sound (climb l x) s y s' = (s₀ : State) → Reads (g.level l) s₀ x s → Reads (g.level l) s₀ y s'
 Sound unary s y s' = Reads g.unary s y s'
 Sound postfix s y s' = Reads g.postfix s y s'
@@ -51,7 +52,7 @@ gives j s {x} {y} h d = let same : x ≡ y = cc in subst (Good j s) same h
 same_level : {p q : ℕ × Joint} → Some p ≡ Some q → p.0 ≡ q.0
 same_level d = ap (λ v. v.0) (some_same d)
 
-pub infix_level : (k : TokenKind) (l : ℕ) (op : Joint) → infix_of k ≡ Some (l, op) → l < levels
+pub infix_level : (k : TokenKind) (l : ℕ) (op : Joint) → infix_of k ≡ Some (l, op) → l < LEVELS
 infix_level (Mark m.OrOr) l op d = let is : 0 ≡ l = same_level d in omega arith
 infix_level (Mark m.AndAnd) l op d = let is : 1 ≡ l = same_level d in omega arith
 infix_level (Mark m.Pipe) l op d = let is : 2 ≡ l = same_level d in omega arith
@@ -72,7 +73,7 @@ infix_level (Mark m.Slash) l op d = let is : 9 ≡ l = same_level d in omega ari
 infix_level (Mark m.Percent) l op d = let is : 9 ≡ l = same_level d in omega arith
 infix_level _ l op d = absurd cc
 
-means_level : {l : ℕ} {op : Joint} {ts us : Tokens} → Means infix_of (l, op) ts us → l < levels
+means_level : {l : ℕ} {op : Joint} {ts us : Tokens} → Means infix_of (l, op) ts us → l < LEVELS
 means_level {l} {op} (means {t = t} d) = infix_level t.kind l op d
 
 -- ---- steps without operators
@@ -90,10 +91,17 @@ record Element (ts : Tokens) (p : CType × Tokens) : Type 0 where
 
 sound_element : (ts : Tokens) (p : CType × Tokens) → element_size ts ≡ Ok p → Element ts p
 sound_element ts p d =
-    let (c, dc, dk) = bind_ok (expect m.Comma ts) (λ _ us. bind (size_of us) (λ a vs. bind (expect m.RightParen vs) (λ _ ws. Ok (a, ws)))) d in
-    let (a, da, dl) = bind_ok (size_of c.1) (λ a vs. bind (expect m.RightParen vs) (λ _ ws. Ok (a, ws))) dk in
-    let (r, dr, dm) = bind_ok (expect m.RightParen a.1) (λ _ ws. Ok (a.0, ws)) dl in
-    yields (Element ts) (a.0, r.1) p (record { after_comma = c.1; close = a.1; comma = expect_takes m.Comma ts c dc; size = sound_size c.1 a da; closes = expect_takes m.RightParen a.1 r dr }) dm
+    let (a, da, dk) = bind_ok (bind (expect m.Comma ts) (λ _. size_of)) (λ a us. bind (expect m.RightParen us) (λ _. pure a)) d in
+    let (c, dc, dl) = bind_ok (expect m.Comma ts) (λ _. size_of) da in
+    let (r, dr, dm) = bind_ok (expect m.RightParen a.1) (λ _. pure a.0) dk in
+    yields (Element ts) (a.0, r.1) p
+    (record {
+      after_comma = c.1;
+      close = a.1;
+      comma = expect_takes m.Comma ts c dc;
+      size = sound_size c.1 a dl;
+      closes = expect_takes m.RightParen a.1 r dr;
+    }) dm
 
 element_shorter : {ts : Tokens} {p : CType × Tokens} → Element ts p → length p.1 < length ts
 element_shorter q = let a = takes_shorter q.comma in let b = size_shorter q.size in let c = takes_shorter q.closes in omega arith
@@ -112,16 +120,17 @@ pub good_field : (x : Expr) (f : Expr → Name → Expr) (n : ℕ) (ts : Tokens)
     → field f x (n, ts) ≡ Ok y → Extends x (n, ts) y
 good_field x f zero ts y lt rule d = absurd cc
 good_field x f (suc n) ts y lt rule d =
-    let (p, dp, dk) = then_ok (lift word (n, tail ts)) (λ w s. Ok (f x w, s)) d in
+    let (p, dp, dk) = bind_ok (lift word (n, tail ts)) (λ w s. Ok (f x w, s)) d in
     let (q, dq, is) = lift_ok word (n, tail ts) p dp in
     let t = word_takes (tail ts) q dq in
     let shorter = takes_shorter t in
-    extends x (suc n, ts) (f x p.0, p.1) y (subst (λ (p : Name × State). Extends x (suc n, ts) (f x p.0, p.1)) is (record { took = omega arith; sound = λ s₀ r. rule s₀ n q.0 q.1 r t })) dk
+    extends x (suc n, ts) (f x p.0, p.1) y
+    (subst (λ (p : Name × State). Extends x (suc n, ts) (f x p.0, p.1)) is (record { took = omega arith; sound = λ s₀ r. rule s₀ n q.0 q.1 r t })) dk
 
 module _ (N : Job → Parser Expr) (h : (j : Job) (s : State) (y : Expr × State) → N j s ≡ Ok y → Good j s y) where
-  good_whole : (l : ℕ) (s : State) (y : Expr × State) (b : Bool) → nat_lt l levels ≡ b → whole_by N l b s ≡ Ok y → Good (whole l) s y
+  good_whole : (l : ℕ) (s : State) (y : Expr × State) (b : Bool) → nat_lt l LEVELS ≡ b → whole_by N l b s ≡ Ok y → Good (whole l) s y
   good_whole l s y true lt d =
-      let (p, dp, dk) = then_ok (N (whole (suc l)) s) (λ x. N (climb l x)) d in
+      let (p, dp, dk) = bind_ok (N (whole (suc l)) s) (λ x. N (climb l x)) d in
       let first = h (whole (suc l)) s p dp in
       let further = h (climb l p.0) p.1 y dk in
       let shorter = first.took in
@@ -129,13 +138,17 @@ module _ (N : Job → Parser Expr) (h : (j : Job) (s : State) (y : Expr × State
       record { took = omega arith; sound = λ _. further.sound s (g.tighter (ltb-true _ _ lt) (first.sound (ltb-true _ _ lt))) }
   good_whole l s y false ge d =
       let all = h unary s y d in
-      record { took = all.took; sound = λ le. let is : levels ≡ l = omega (arith, ltb-false _ _ ge) in subst (λ k. Reads (g.level k) s y.0 y.1) is (g.operand all.sound) }
+      record {
+        took = all.took;
+        sound = λ le. let is : LEVELS ≡ l = omega (arith, ltb-false _ _ ge) in subst (λ k. Reads (g.level k) s y.0 y.1) is (g.operand all.sound);
+      }
 
-  good_joined : (l : ℕ) (x : Expr) (n : ℕ) (ts : Tokens) (op : Joint) (y : Expr × State) (q : ℕ) (b : Bool) → nat_eq q l ≡ b → Means infix_of (q, op) ts (tail ts) → joined_by N l x op b (n, ts) ≡ Ok y → Good (climb l x) (n, ts) y
+  good_joined : (l : ℕ) (x : Expr) (n : ℕ) (ts : Tokens) (op : Joint) (y : Expr × State) (q : ℕ) (b : Bool)
+      → nat_eq q l ≡ b → Means infix_of (q, op) ts (tail ts) → joined_by N l x op b (n, ts) ≡ Ok y → Good (climb l x) (n, ts) y
   good_joined l x n ts op y q false ne t d = gives (climb l x) (n, ts) (record { took = omega arith; sound = λ s₀ r. r }) d
   good_joined l x zero ts op y q true eq t d = absurd cc
   good_joined l x (suc n) ts op y q true eq t d =
-      let (p, dp, dk) = then_ok (N (whole (suc l)) (n, tail ts)) (λ z. N (climb l (join op x z))) d in
+      let (p, dp, dk) = bind_ok (N (whole (suc l)) (n, tail ts)) (λ z. N (climb l (join op x z))) d in
       let right = h (whole (suc l)) (n, tail ts) p dp in
       let further = h (climb l (join op x p.0)) p.1 y dk in
       let one_less = means_shorter t in
@@ -151,10 +164,11 @@ module _ (N : Job → Parser Expr) (h : (j : Job) (s : State) (y : Expr × State
       by None di k = gives (climb l x) (n, ts) (record { took = omega arith; sound = λ s₀ r. r }) k
       by (Some (q, op)) di k = good_joined l x n ts op y q (nat_eq q l) refl (at_means ts di) k
 
-  good_prefixed : (n : ℕ) (ts : Tokens) (op : Prefix) (y : Expr × State) → Means prefix_of op ts (tail ts) → unary_by N (Some op) (n, ts) ≡ Ok y → Good unary (n, ts) y
+  good_prefixed : (n : ℕ) (ts : Tokens) (op : Prefix) (y : Expr × State)
+      → Means prefix_of op ts (tail ts) → unary_by N (Some op) (n, ts) ≡ Ok y → Good unary (n, ts) y
   good_prefixed zero ts op y t d = absurd cc
   good_prefixed (suc n) ts op y t d =
-      let (p, dp, dk) = then_ok (N unary (n, tail ts)) (λ x s. Ok (apply op x, s)) d in
+      let (p, dp, dk) = bind_ok (N unary (n, tail ts)) (λ x s. Ok (apply op x, s)) d in
       let inner = h unary (n, tail ts) p dp in
       let one_less = means_shorter t in
       let shorter = inner.took in
@@ -169,7 +183,7 @@ module _ (N : Job → Parser Expr) (h : (j : Job) (s : State) (y : Expr × State
 
   good_postfix : (s : State) (y : Expr × State) → step N postfix s ≡ Ok y → Good postfix s y
   good_postfix s y d =
-      let (p, dp, dk) = then_ok (N primary s) (λ x. N (suffix x)) d in
+      let (p, dp, dk) = bind_ok (N primary s) (λ x. N (suffix x)) d in
       let first = h primary s p dp in
       let further = h (suffix p.0) p.1 y dk in
       let shorter = first.took in
@@ -195,35 +209,39 @@ module _ (N : Job → Parser Expr) (h : (j : Job) (s : State) (y : Expr × State
           record { took = omega arith; sound = subst (λ x. Reads g.primary (suc n, ts) x y.1) (sym is) (g.call t u r) }
       by _ du n k = gives primary (n, ts) (record { took = takes_shorter t; sound = g.variable t }) k
 
-  good_group : (n : ℕ) (ts : Tokens) (y : Expr × State) → Takes (Mark m.LeftParen) ts (tail ts) → primary_by N (Some (Mark m.LeftParen)) (n, ts) ≡ Ok y → Good primary (n, ts) y
+  good_group : (n : ℕ) (ts : Tokens) (y : Expr × State)
+      → Takes (Mark m.LeftParen) ts (tail ts) → primary_by N (Some (Mark m.LeftParen)) (n, ts) ≡ Ok y → Good primary (n, ts) y
   good_group zero ts y t d = absurd cc
   good_group (suc n) ts y t d =
-      let (p, dp, dk) = then_ok (N (whole 0) (n, tail ts)) (λ x s. and_then (lift (expect m.RightParen) s) (λ _ s. Ok (x, s))) d in
-      let (q, dq, dl) = then_ok (lift (expect m.RightParen) p.1) (λ _ s. Ok (p.0, s)) dk in
+      let (p, dp, dk) = bind_ok (N (whole 0) (n, tail ts)) (λ x s. bind (lift (expect m.RightParen) s) (λ _ s. Ok (x, s))) d in
+      let (q, dq, dl) = bind_ok (lift (expect m.RightParen) p.1) (λ _ s. Ok (p.0, s)) dk in
       let (us, u, after) = closed m.RightParen p.1 q dq in
       let inner = h (whole 0) (n, tail ts) p dp in
       let a = takes_shorter t in
       let b = takes_shorter u in
       let c = inner.took in
-      gives primary (suc n, ts) (subst (λ (s : State). Good primary (suc n, ts) (p.0, s)) after (record { took = omega arith; sound = g.group t (inner.sound (omega arith)) u })) dl
+      gives primary (suc n, ts)
+      (subst (λ (s : State). Good primary (suc n, ts) (p.0, s)) after (record { took = omega arith; sound = g.group t (inner.sound (omega arith)) u })) dl
 
   good_sized : (n : ℕ) (ts : Tokens) (y : Expr × State) → Takes (Key key.Sizeof) ts (tail ts) → sized (n, ts) ≡ Ok y → Good primary (n, ts) y
   good_sized zero ts y t d = absurd cc
   good_sized (suc n) ts y t d =
-      let (p, dp, dk) = then_ok (lift operand_type (n, tail ts)) (λ a s. Ok (e.SizeOf a, s)) d in
+      let (p, dp, dk) = bind_ok (lift operand_type (n, tail ts)) (λ a s. Ok (e.SizeOf a, s)) d in
       let (q, dq, is) = lift_ok operand_type (n, tail ts) p dp in
       let size = size_from q t (sound_operand (tail ts) q dq) in
-      gives primary (suc n, ts) (subst (λ (p : CType × State). Good primary (suc n, ts) (e.SizeOf p.0, p.1)) is (record { took = size_shorter size; sound = g.size size })) dk
+      gives primary (suc n, ts)
+      (subst (λ (p : CType × State). Good primary (suc n, ts) (e.SizeOf p.0, p.1)) is (record { took = size_shorter size; sound = g.size size })) dk
 
   good_allocated : (n : ℕ) (ts : Tokens) (y : Expr × State) → Takes (Key key.Calloc) ts (tail ts) → allocated N (n, ts) ≡ Ok y → Good primary (n, ts) y
   good_allocated zero ts y t d = absurd cc
   good_allocated (suc zero) ts y t d = absurd cc
   good_allocated (suc (suc n)) ts y t d =
-      let (p, dp, dk) = then_ok (and_then (lift (expect m.LeftParen) (n, tail ts)) (λ _. N (whole 0))) (λ x s. and_then (lift element_size s) (λ a s. Ok (e.Calloc x a, s))) d in
-      let (o, do', dj) = then_ok (lift (expect m.LeftParen) (n, tail ts)) (λ _. N (whole 0)) dp in
+      let (p, dp, dk) = bind_ok (bind (lift (expect m.LeftParen) (n, tail ts)) (λ _. N (whole 0)))
+      (λ x s. bind (lift element_size s) (λ a s. Ok (e.Calloc x a, s))) d in
+      let (o, do', dj) = bind_ok (lift (expect m.LeftParen) (n, tail ts)) (λ _. N (whole 0)) dp in
       let (us, u, after) = closed m.LeftParen (n, tail ts) o do' in
       let inner = h (whole 0) (n, us) p (subst (λ s. N (whole 0) s ≡ Ok p) (sym after) dj) in
-      let (q, dq, dl) = then_ok (lift element_size p.1) (λ a s. Ok (e.Calloc p.0 a, s)) dk in
+      let (q, dq, dl) = bind_ok (lift element_size p.1) (λ a s. Ok (e.Calloc p.0 a, s)) dk in
       let (r, dr, is) = lift_ok element_size p.1 q dq in
       let last = sound_element p.1.1 r dr in
       let a = takes_shorter t in
@@ -245,11 +263,12 @@ module _ (N : Job → Parser Expr) (h : (j : Job) (s : State) (y : Expr × State
       by (Some (Key key.Calloc)) dt k = good_allocated n ts y (kind_takes ts dt) k
       by _ dt k = absurd cc
 
-  pub good_indexed : (x : Expr) (n : ℕ) (ts : Tokens) (y : Expr × State) → Takes (Mark m.LeftBracket) ts (tail ts) → indexed N x (n, ts) ≡ Ok y → Extends x (n, ts) y
+  pub good_indexed : (x : Expr) (n : ℕ) (ts : Tokens) (y : Expr × State)
+      → Takes (Mark m.LeftBracket) ts (tail ts) → indexed N x (n, ts) ≡ Ok y → Extends x (n, ts) y
   good_indexed x zero ts y t d = absurd cc
   good_indexed x (suc n) ts y t d =
-      let (p, dp, dk) = then_ok (N (whole 0) (n, tail ts)) (λ i s. and_then (lift (expect m.RightBracket) s) (λ _ s. Ok (e.Index x i, s))) d in
-      let (q, dq, dl) = then_ok (lift (expect m.RightBracket) p.1) (λ _ s. Ok (e.Index x p.0, s)) dk in
+      let (p, dp, dk) = bind_ok (N (whole 0) (n, tail ts)) (λ i s. bind (lift (expect m.RightBracket) s) (λ _ s. Ok (e.Index x i, s))) d in
+      let (q, dq, dl) = bind_ok (lift (expect m.RightBracket) p.1) (λ _ s. Ok (e.Index x p.0, s)) dk in
       let (us, u, after) = closed m.RightBracket p.1 q dq in
       let inner = h (whole 0) (n, tail ts) p dp in
       let a = takes_shorter t in
@@ -258,9 +277,10 @@ module _ (N : Job → Parser Expr) (h : (j : Job) (s : State) (y : Expr × State
       extends x (suc n, ts) (e.Index x p.0, q.1) y (subst (λ (s : State). Extends x (suc n, ts) (e.Index x p.0, s)) after
       (record { took = omega arith; sound = λ s₀ r. g.index r t (inner.sound (omega arith)) u })) dl
 
-  good_extended : (x : Expr) (s : State) (o : Outcome Expr) (y : Expr × State) → ((p : Expr × State) → o ≡ Ok p → Extends x s p) → and_then o (λ z. N (suffix z)) ≡ Ok y → Good (suffix x) s y
+  good_extended : (x : Expr) (s : State) (o : Outcome Expr) (y : Expr × State)
+      → ((p : Expr × State) → o ≡ Ok p → Extends x s p) → bind o (λ z. N (suffix z)) ≡ Ok y → Good (suffix x) s y
   good_extended x s o y f d =
-      let (p, dp, dk) = then_ok o (λ z. N (suffix z)) d in
+      let (p, dp, dk) = bind_ok o (λ z. N (suffix z)) d in
       let one = f p dp in
       let further = h (suffix p.0) p.1 y dk in
       let shorter = one.took in
@@ -272,8 +292,12 @@ module _ (N : Job → Parser Expr) (h : (j : Job) (s : State) (y : Expr × State
     where
       by : (k : Option the_mark.Mark) → mark_at ts ≡ k → suffix_by N x k (n, ts) ≡ Ok y → Good (suffix x) (n, ts) y
       by (Some m.LeftBracket) dt k = good_extended x (n, ts) (indexed N x (n, ts)) y (λ p. good_indexed x n ts p (mark_takes ts dt)) k
-      by (Some m.Dot) dt k = good_extended x (n, ts) (field e.Dot x (n, ts)) y (λ p. good_field x e.Dot n ts p (takes_shorter (mark_takes ts dt)) (λ s k w us r u. g.dot r (mark_takes ts dt) u)) k
-      by (Some m.Arrow) dt k = good_extended x (n, ts) (field e.Arrow x (n, ts)) y (λ p. good_field x e.Arrow n ts p (takes_shorter (mark_takes ts dt)) (λ s k w us r u. g.arrow r (mark_takes ts dt) u)) k
+      by (Some m.Dot) dt k =
+          good_extended x (n, ts) (field e.Dot x (n, ts)) y
+          (λ p. good_field x e.Dot n ts p (takes_shorter (mark_takes ts dt)) (λ s k w us r u. g.dot r (mark_takes ts dt) u)) k
+      by (Some m.Arrow) dt k =
+          good_extended x (n, ts) (field e.Arrow x (n, ts)) y
+          (λ p. good_field x e.Arrow n ts p (takes_shorter (mark_takes ts dt)) (λ s k w us r u. g.arrow r (mark_takes ts dt) u)) k
       by _ dt k = gives (suffix x) (n, ts) (record { took = omega arith; sound = λ s₀ r. r }) k
 
   good_some : (w : Name) (s : State) (y : Expr × State) → N (more w []) s ≡ Ok y → Good (arguments w) s y
@@ -290,7 +314,8 @@ module _ (N : Job → Parser Expr) (h : (j : Job) (s : State) (y : Expr × State
       by _ dt k = good_some w (n, ts) y k
 
   -- after an argument
-  good_next : (w : Name) (xs : List Expr) (s : State) (x : Expr) (n : ℕ) (ts : Tokens) (y : Expr × State) → length ts < length s.1 → Reads (g.level 0) s x (n, ts) → more_by N w (xs ++ x ∷ []) (mark_at ts) (n, ts) ≡ Ok y → Good (more w xs) s y
+  good_next : (w : Name) (xs : List Expr) (s : State) (x : Expr) (n : ℕ) (ts : Tokens) (y : Expr × State)
+      → length ts < length s.1 → Reads (g.level 0) s x (n, ts) → more_by N w (xs ++ x ∷ []) (mark_at ts) (n, ts) ≡ Ok y → Good (more w xs) s y
   good_next w xs s x n ts y lt r d = by (mark_at ts) refl d
     where
       by : (k : Option the_mark.Mark) → mark_at ts ≡ k → more_by N w (xs ++ x ∷ []) k (n, ts) ≡ Ok y → Good (more w xs) s y
@@ -309,12 +334,12 @@ module _ (N : Job → Parser Expr) (h : (j : Job) (s : State) (y : Expr × State
 
   good_more : (w : Name) (xs : List Expr) (s : State) (y : Expr × State) → step N (more w xs) s ≡ Ok y → Good (more w xs) s y
   good_more w xs s y d =
-      let (p, dp, dk) = then_ok (N (whole 0) s) (λ x s. more_by N w (xs ++ x ∷ []) (mark_at s.1) s) d in
+      let (p, dp, dk) = bind_ok (N (whole 0) s) (λ x s. more_by N w (xs ++ x ∷ []) (mark_at s.1) s) d in
       let first = h (whole 0) s p dp in
       good_next w xs s p.0 p.1.0 p.1.1 y first.took (first.sound (omega arith)) dk
 
   good_step : (j : Job) (s : State) (y : Expr × State) → step N j s ≡ Ok y → Good j s y
-  good_step (whole l) s y d = good_whole l s y (nat_lt l levels) refl d
+  good_step (whole l) s y d = good_whole l s y (nat_lt l LEVELS) refl d
   good_step (climb l x) s y d = good_climb l x s.0 s.1 y d
   good_step unary s y d = good_unary s.0 s.1 y d
   good_step postfix s y d = good_postfix s y d
@@ -339,10 +364,11 @@ forgotten (Err a) p e = absurd cc
 
 pub sound_expression : (ts : Tokens) (p : Expr × Tokens) → expression ts ≡ Ok p → Expression ts p.0 p.1
 sound_expression ts p d =
-    let (q, dq, is) = forgotten (parse (whole 0) (max_operators, ts)) p d in
-    subst (λ (p : Expr × Tokens). Expression ts p.0 p.1) is (record { left = q.1.0; reads = (good (whole 0) (max_operators, ts) q dq).sound (omega arith) })
+    let (q, dq, is) = forgotten (parse (whole 0) (EXPRESSION_OPERATORS, ts)) p d in
+    subst (λ (p : Expr × Tokens). Expression ts p.0 p.1) is
+    (record { left = q.1.0; reads = (good (whole 0) (EXPRESSION_OPERATORS, ts) q dq).sound (omega arith) })
 
 pub sound_place : (ts : Tokens) (p : Expr × Tokens) → place ts ≡ Ok p → Place ts p.0 p.1
 sound_place ts p d =
-    let (q, dq, is) = forgotten (parse unary (max_operators, ts)) p d in
-    subst (λ (p : Expr × Tokens). Place ts p.0 p.1) is (record { left = q.1.0; reads = (good unary (max_operators, ts) q dq).sound })
+    let (q, dq, is) = forgotten (parse unary (EXPRESSION_OPERATORS, ts)) p d in
+    subst (λ (p : Expr × Tokens). Place ts p.0 p.1) is (record { left = q.1.0; reads = (good unary (EXPRESSION_OPERATORS, ts) q dq).sound })

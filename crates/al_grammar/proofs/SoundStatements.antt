@@ -1,12 +1,10 @@
 -- What the parser of statements reads is in the grammar.
 use Rattle.std.proofs.Common.{◌≡◌, ℕ, zero, suc, ◌<◌, ◌≤◌, Bool, true, false, List, [], ◌∷◌, ◌++◌, append_assoc, length, Option, Some, None, Ok, Err, refl, sym, ap, subst, ◌∙◌, arith}
 use Rattle.std.proofs.lemmas.List.{append-nil}
-use Rattle.al_source.specs.declared.tokens.Token.{Token}
 use Rattle.al_source.specs.declared.tokens.TokenKind.{TokenKind}
 use Rattle.al_source.specs.declared.tokens.TokenKind.TheVariants.{Word, Text, Key, Mark, Alter, EndAlter}
 use Rattle.al_source.specs.declared.tokens.Mark as the_mark
 use Rattle.al_source.specs.declared.tokens.Mark.TheVariants as m
-use Rattle.al_source.specs.declared.tokens.Key as the_key
 use Rattle.al_source.specs.declared.tokens.Key.TheVariants as key
 use Rattle.al_source.specs.declared.texts.Piece.{Piece}
 use Rattle.al_source.specs.declared.operators.BinOp.{BinOp}
@@ -26,16 +24,18 @@ use Rattle.al_source.specs.declared.source_tree.StmtKind.TheVariants as kind
 use Rattle.al_grammar.specs.declared.operators.NoteWord.{NoteWord}
 use Rattle.al_grammar.specs.declared.operators.NoteWord.TheVariants as note
 use Rattle.al_grammar.specs.Operators.{update_of, step_of, note_word_of}
-use Rattle.al_grammar.specs.Phrases.{Tokens, Name, Takes, takes, Means, means, line_at}
+use Rattle.al_grammar.specs.Words.{key_text}
+use Rattle.al_grammar.specs.Phrases.{Tokens, Name, Takes, takes, Means, line_at}
 use Rattle.al_grammar.specs.Types.{Declarator}
 use Rattle.al_grammar.specs.Expressions.{Expression, Place}
-use Rattle.al_grammar.specs.Statements.{statement_of, at, one, reduced, is_else, else_next, Values, CallValues, PrintValues, Simple, NotePolicy, NoteOrder, Reduced, Reductions, Note, Maybe, First, Third, Head, Condition, Initializer, Locals, Statement, Inner, Inners}
+use Rattle.al_grammar.specs.Statements.{statement_of, at, one, reduced, is_else, else_next, Values, CallValues, PrintValues, Simple, NotePolicy, NoteOrder, Reduced, Reductions, Note, Maybe, First, Third, Head, Parenthesized, Initializer, Locals, Statement, Inner, Inners}
 use Rattle.al_grammar.specs.Statements as g
-use Rattle.al_grammar.specs.Steps.{Read, Step, bind, pure, skip, kind_at, mark_in, mark_at, key_at, meaning_at, tail, is_mark, expect, expect_key, word, repeat}
+use Rattle.al_source.specs.Steps.{bind, pure}
+use Rattle.al_grammar.specs.Steps.{Read, Step, skip, kind_at, mark_at, key_at, meaning_at, tail, is_mark, expect, expect_key, word, repeat}
 use Rattle.al_grammar.specs.TypeParser.{base, declarator}
 use Rattle.al_grammar.specs.ExpressionParser.{expression, place}
 use Rattle.al_grammar.specs.StatementParser as p
-use Rattle.al_grammar.proofs.StepFacts.{bind_ok, yields, some_same, takes_shorter, means_shorter, kind_takes, mark_takes, key_takes, at_means, is_mark_takes, expect_takes, expect_key_takes, word_takes, repeat_keeps}
+use Rattle.al_grammar.proofs.StepFacts.{bind_ok, yields, takes_shorter, means_shorter, kind_takes, mark_takes, at_means, is_mark_takes, expect_takes, expect_key_takes, word_takes, repeat_keeps}
 use Rattle.al_grammar.proofs.TypeFacts.{sound_base, sound_declarator, declarator_shorter}
 use Rattle.al_grammar.proofs.SoundExpressions.{sound_expression, sound_place}
 use Rattle.al_grammar.proofs.Wider.{expression_shorter}
@@ -47,7 +47,8 @@ pub data Sep {A : Type 0} (between behind : the_mark.Mark) (a : A) (ts : Tokens)
   goes_on : {us : Tokens} → Takes (Mark between) ts us → Sep between behind a ts ((a, false), us)
   ends : {us : Tokens} → Takes (Mark behind) ts us → Sep between behind a ts ((a, true), us)
 
-pub sep_shorter : {A : Type 0} {between behind : the_mark.Mark} {a b : A} {c : Bool} {ts us : Tokens} → Sep between behind a ts ((b, c), us) → length us < length ts
+pub sep_shorter : {A : Type 0} {between behind : the_mark.Mark} {a b : A} {c : Bool} {ts us : Tokens}
+    → Sep between behind a ts ((b, c), us) → length us < length ts
 sep_shorter (goes_on t) = takes_shorter t
 sep_shorter (ends t) = takes_shorter t
 
@@ -65,14 +66,16 @@ value_sep xs ts q e = by (mark_at ts) refl e
 abbrev FoundValues : List Expr → Tokens → List Expr → Tokens → Type 0
 FoundValues xs ts ys us = (zs : List Expr) × Values ts zs us × (ys ≡ xs ++ zs)
 
-values_last : (xs : List Expr) (ts : Tokens) (x : Expr) (us : Tokens) (ys : List Expr) (vs : Tokens) → Expression ts x us → Sep m.Comma m.RightParen (xs ++ x ∷ []) us ((ys, true), vs) → FoundValues xs ts ys vs
+values_last : (xs : List Expr) (ts : Tokens) (x : Expr) (us : Tokens) (ys : List Expr) (vs : Tokens)
+    → Expression ts x us → Sep m.Comma m.RightParen (xs ++ x ∷ []) us ((ys, true), vs) → FoundValues xs ts ys vs
 values_last xs ts x us ys vs e (ends t) = (x ∷ [], g.last e t, refl)
 
 values_more : (xs : List Expr) (ts : Tokens) (x : Expr) (us : Tokens) (ys : List Expr) (vs : Tokens) (zs : List Expr) (ws : Tokens)
     → Expression ts x us → Sep m.Comma m.RightParen (xs ++ x ∷ []) us ((ys, false), vs) → FoundValues ys vs zs ws → FoundValues xs ts zs ws
 values_more xs ts x us ys vs zs ws e (goes_on t) (bs, r, is) = (x ∷ bs, g.more e t r, is ∙ append_assoc xs (x ∷ []) bs)
 
-one_value : (xs : List Expr) (ts : Tokens) (q : (List Expr × Bool) × Tokens) → p.value xs ts ≡ Ok q → (x : Expr) × (us : Tokens) × Expression ts x us × Sep m.Comma m.RightParen (xs ++ x ∷ []) us q
+one_value : (xs : List Expr) (ts : Tokens) (q : (List Expr × Bool) × Tokens)
+    → p.value xs ts ≡ Ok q → (x : Expr) × (us : Tokens) × Expression ts x us × Sep m.Comma m.RightParen (xs ++ x ∷ []) us q
 one_value xs ts q e =
     let (x, dx, dk) = bind_ok (expression ts) (λ x us. p.value_by (xs ++ x ∷ []) (mark_at us) us) e in
     (x.0, x.1, sound_expression ts x dx, value_sep (xs ++ x.0 ∷ []) x.1 q dk)
@@ -119,6 +122,19 @@ sound_print ts us q t e =
     let (o, do', dj) = bind_ok (expect m.LeftParen us) (λ _. p.text) df in
     let (x, dx, dl) = bind_ok (p.print_values f.1) (λ xs. pure (kind.Print f.0 xs)) dk in
     yields (IsSimple ts) (kind.Print f.0 x.0, x.1) q (g.print t (expect_takes m.LeftParen us o do') (text_takes o.1 f dj) (sound_print_values f.1 x dx)) dl
+
+sound_parenthesized : (ts : Tokens) (q : Expr × Tokens) → p.parenthesized ts ≡ Ok q → Parenthesized ts q.0 q.1
+sound_parenthesized ts q e =
+    let (x, dx, dk) = bind_ok (bind (expect m.LeftParen ts) (λ _. expression)) (λ c us. bind (expect m.RightParen us) (λ _. pure c)) e in
+    let (r, dr, dl) = bind_ok (expect m.LeftParen ts) (λ _. expression) dx in
+    let (s, ds, dm) = bind_ok (expect m.RightParen x.1) (λ _. pure x.0) dk in
+    yields (λ (q : Expr × Tokens). Parenthesized ts q.0 q.1) (x.0, s.1) q
+    (g.parenthesized (expect_takes m.LeftParen ts r dr) (sound_expression r.1 x dl) (expect_takes m.RightParen x.1 s ds)) dm
+
+sound_free : (ts us : Tokens) (q : StmtKind × Tokens) → Takes (Key key.Free) ts us → p.free us ≡ Ok q → IsSimple ts q
+sound_free ts us q t e =
+    let (x, dx, dk) = bind_ok (p.parenthesized us) (λ x. pure (kind.Call (key_text key.Free) (x ∷ []))) e in
+    yields (IsSimple ts) (kind.Call (key_text key.Free) (x.0 ∷ []), x.1) q (g.free t (sound_parenthesized us x dx)) dk
 
 -- what a call is made of
 pub record IsCall (w : Name) (ts : Tokens) (q : StmtKind × Tokens) : Type 0 where
@@ -197,6 +213,7 @@ sound_simple ts q e = by (kind_at ts) refl e
     by : (c : Option TokenKind) → kind_at ts ≡ c → p.simple_by c ts ≡ Ok q → IsSimple ts q
     by (Some (Word w)) d e = sound_word w ts q (kind_takes ts d) e
     by (Some (Key key.Printf)) d e = sound_print ts (tail ts) q (kind_takes ts d) e
+    by (Some (Key key.Free)) d e = sound_free ts (tail ts) q (kind_takes ts d) e
     by _ d e = sound_before ts q e
 
 -- ---- annotations
@@ -225,7 +242,8 @@ operator_means ts q e = by (meaning_at note_word_of ts) refl e
     by (Some (note.Operator op)) d e = yields (λ (q : RedOp × Tokens). Means note_word_of (note.Operator q.0) ts q.1) (op, tail ts) q (at_means ts d) e
     by _ d e = absurd cc
 
-reduced_sep : (rs : List NamedRed) (ts : Tokens) (q : (List NamedRed × Bool) × Tokens) → p.reduced_by rs (mark_at ts) ts ≡ Ok q → Sep m.Comma m.RightParen rs ts q
+reduced_sep : (rs : List NamedRed) (ts : Tokens) (q : (List NamedRed × Bool) × Tokens)
+    → p.reduced_by rs (mark_at ts) ts ≡ Ok q → Sep m.Comma m.RightParen rs ts q
 reduced_sep rs ts q e = by (mark_at ts) refl e
   where
     by : (c : Option the_mark.Mark) → mark_at ts ≡ c → p.reduced_by rs c ts ≡ Ok q → Sep m.Comma m.RightParen rs ts q
@@ -240,7 +258,8 @@ one_variable op rs ts q e =
     (w.0, w.1, word_takes ts w dw, reduced_sep (rs ++ reduced op w.0 ∷ []) w.1 q dk)
 
 pub variable_shorter : (op : RedOp) (a b : List NamedRed) (ts us : Tokens) → p.variable op a ts ≡ Ok ((b, false), us) → length us < length ts
-variable_shorter op a b ts us e = let (w, vs, t, s) = one_variable op a ts ((b, false), us) e in let lt = takes_shorter t in let le = sep_shorter s in omega arith
+variable_shorter op a b ts us e =
+    let (w, vs, t, s) = one_variable op a ts ((b, false), us) e in let lt = takes_shorter t in let le = sep_shorter s in omega arith
 
 abbrev FoundReduced : RedOp → List NamedRed → Tokens → List NamedRed → Tokens → Type 0
 FoundReduced op xs ts ys us = (zs : List NamedRed) × Reduced op ts zs us × (ys ≡ xs ++ zs)
@@ -253,7 +272,8 @@ reduced_more : (op : RedOp) (xs : List NamedRed) (ts : Tokens) (w : Name) (us : 
     → Takes (Word w) ts us → Sep m.Comma m.RightParen (xs ++ reduced op w ∷ []) us ((ys, false), vs) → FoundReduced op ys vs zs ws → FoundReduced op xs ts zs ws
 reduced_more op xs ts w us ys vs zs ws t (goes_on u) (bs, r, is) = (reduced op w ∷ bs, g.more t u r, is ∙ append_assoc xs (reduced op w ∷ []) bs)
 
-sound_reduced : (op : RedOp) (rs : List NamedRed) (ts : Tokens) (q : List NamedRed × Tokens) → repeat (p.variable op) rs ts ≡ Ok q → FoundReduced op rs ts q.0 q.1
+sound_reduced : (op : RedOp) (rs : List NamedRed) (ts : Tokens) (q : List NamedRed × Tokens)
+    → repeat (p.variable op) rs ts ≡ Ok q → FoundReduced op rs ts q.0 q.1
 sound_reduced op rs ts q e =
     repeat_keeps (p.variable op) (FoundReduced op)
     (λ a b ts us d. let (w, vs, t, s) = one_variable op a ts ((b, true), us) d in reduced_last op a ts w vs b us t s)
@@ -279,7 +299,18 @@ sound_reduction rs ts q e =
     let (o, do', dj) = bind_ok (expect m.LeftParen ts) (λ _. p.operator) dop in
     let (c, dc, dl) = bind_ok (expect m.Colon op.1) (λ _. repeat (p.variable op.0) rs) dk in
     let (ns, r, is) = sound_reduced op.0 rs c.1 q dl in
-    record { op = op.0; names = ns; opened = o.1; behind = op.1; inside = c.1; opens = expect_takes m.LeftParen ts o do'; operator = operator_means o.1 op dj; colon = expect_takes m.Colon op.1 c dc; reads = r; is = is }
+    record {
+      op = op.0;
+      names = ns;
+      opened = o.1;
+      behind = op.1;
+      inside = c.1;
+      opens = expect_takes m.LeftParen ts o do';
+      operator = operator_means o.1 op dj;
+      colon = expect_takes m.Colon op.1 c dc;
+      reads = r;
+      is = is;
+    }
 
 pub data ReduceTurn (rs : List NamedRed) (ts : Tokens) : (List NamedRed × Bool) × Tokens → Type 0 where
   no_more : ReduceTurn rs ts ((rs, true), ts)
@@ -299,7 +330,13 @@ reduced_shorter (g.last t u) = let a = takes_shorter t in let b = takes_shorter 
 reduced_shorter (g.more t u r) = let a = takes_shorter t in let b = takes_shorter u in let c = reduced_shorter r in omega arith
 
 turn_takes : (a b : List NamedRed) (ts us : Tokens) → ReduceTurn a ts ((b, false), us) → length us < length ts
-turn_takes a b ts us (again t r) = let x = means_shorter t in let y = takes_shorter r.opens in let z = means_shorter r.operator in let u = takes_shorter r.colon in let v = reduced_shorter r.reads in omega arith
+turn_takes a b ts us (again t r) =
+    let x = means_shorter t in
+    let y = takes_shorter r.opens in
+    let z = means_shorter r.operator in
+    let u = takes_shorter r.colon in
+    let v = reduced_shorter r.reads in
+    omega arith
 
 pub reduce_shorter : (a b : List NamedRed) (ts us : Tokens) → p.reduce_turn a ts ≡ Ok ((b, false), us) → length us < length ts
 reduce_shorter a b ts us e = turn_takes a b ts us (reduce_turn a ts ((b, false), us) e)
@@ -323,10 +360,13 @@ sound_reductions ts q e =
 
 sound_note : (ts : Tokens) (q : LoopNote × Tokens) → p.loop_note ts ≡ Ok q → Note ts q.0 q.1
 sound_note ts q e =
-    let (a, da, dk) = bind_ok (p.note_policy ts) (λ a us. bind (p.note_order us) (λ o vs. bind (repeat p.reduce_turn [] vs) (λ rs. pure (record { policy = a; order = o; reduce = rs })))) e in
-    let (o, do', dl) = bind_ok (p.note_order a.1) (λ o vs. bind (repeat p.reduce_turn [] vs) (λ rs. pure (record { policy = a.0; order = o; reduce = rs }))) dk in
+    let (a, da, dk) = bind_ok (p.note_policy ts)
+    (λ a us. bind (p.note_order us) (λ o vs. bind (repeat p.reduce_turn [] vs) (λ rs. pure (record { policy = a; order = o; reduce = rs })))) e in
+    let (o, do', dl) = bind_ok (p.note_order a.1) (λ o vs. bind (repeat p.reduce_turn [] vs) (λ rs. pure (record { policy = a.0; order = o; reduce = rs })))
+    dk in
     let (r, dr, dm) = bind_ok (repeat p.reduce_turn [] o.1) (λ rs. pure (record { policy = a.0; order = o.0; reduce = rs })) dl in
-    yields (λ (q : LoopNote × Tokens). Note ts q.0 q.1) (record { policy = a.0; order = o.0; reduce = r.0 }, r.1) q (g.note (sound_policy ts a da) (sound_order a.1 o do') (sound_reductions o.1 r dr)) dm
+    yields (λ (q : LoopNote × Tokens). Note ts q.0 q.1) (record { policy = a.0; order = o.0; reduce = r.0 }, r.1) q
+    (g.note (sound_policy ts a da) (sound_order a.1 o do') (sound_reductions o.1 r dr)) dm
 
 -- ---- the parts of a loop's head
 
@@ -343,8 +383,10 @@ sound_maybe ts q e = by (mark_at ts) e
 
 sound_first_declaration : (ts : Tokens) (q : StmtKind × Tokens) → p.first_declaration ts ≡ Ok q → First ts (Some (at ts q.0)) q.1
 sound_first_declaration ts q e =
-    let (a, da, dk) = bind_ok (base ts) (λ a us. bind (declarator a us) (λ f vs. bind (bind (expect m.Assign vs) (λ _. expression)) (λ x. pure (kind.Declare f.ty f.name (Some x))))) e in
-    let (f, df, dl) = bind_ok (declarator a.0 a.1) (λ f vs. bind (bind (expect m.Assign vs) (λ _. expression)) (λ x. pure (kind.Declare f.ty f.name (Some x)))) dk in
+    let (a, da, dk) = bind_ok (base ts)
+    (λ a us. bind (declarator a us) (λ f vs. bind (bind (expect m.Assign vs) (λ _. expression)) (λ x. pure (kind.Declare f.ty f.name (Some x))))) e in
+    let (f, df, dl) = bind_ok (declarator a.0 a.1)
+    (λ f vs. bind (bind (expect m.Assign vs) (λ _. expression)) (λ x. pure (kind.Declare f.ty f.name (Some x)))) dk in
     let (x, dx, dm) = bind_ok (bind (expect m.Assign f.1) (λ _. expression)) (λ x. pure (kind.Declare f.0.ty f.0.name (Some x))) dl in
     let (r, dr, dn) = bind_ok (expect m.Assign f.1) (λ _. expression) dx in
     yields (λ (q : StmtKind × Tokens). First ts (Some (at ts q.0)) q.1) (kind.Declare f.0.ty f.0.name (Some x.0), x.1) q
@@ -391,7 +433,8 @@ IsHead ts q = Head ts q.0.0 q.0.1 q.0.2 q.1
 
 sound_head : (ts : Tokens) (q : p.Head × Tokens) → p.head ts ≡ Ok q → IsHead ts q
 sound_head ts q e =
-    let after_test : Option Stmt → Option Expr → Step p.Head = λ a b us. bind (bind (expect m.Semicolon us) (λ _. p.third_part)) (λ c vs. bind (expect m.RightParen vs) (λ _. pure (a, b, c))) in
+    let after_test : Option Stmt → Option Expr → Step p.Head = λ a b us.
+    bind (bind (expect m.Semicolon us) (λ _. p.third_part)) (λ c vs. bind (expect m.RightParen vs) (λ _. pure (a, b, c))) in
     let after_first : Option Stmt → Step p.Head = λ a us. bind (bind (expect m.Semicolon us) (λ _. p.maybe)) (after_test a) in
     let (a, da, dk) = bind_ok (bind (bind (expect_key key.For ts) (λ _. expect m.LeftParen)) (λ _. p.first_part)) after_first e in
     let (o, do', dj) = bind_ok (bind (expect_key key.For ts) (λ _. expect m.LeftParen)) (λ _. p.first_part) da in
@@ -405,13 +448,6 @@ sound_head ts q e =
     (g.head (expect_key_takes key.For ts f df) (expect_takes m.LeftParen f.1 o dh) (sound_first o.1 a dj) (expect_takes m.Semicolon a.1 s ds)
     (sound_maybe s.1 b dm) (expect_takes m.Semicolon b.1 u du) (sound_third u.1 c dp) (expect_takes m.RightParen c.1 r dr)) dq
 
-sound_condition : (ts : Tokens) (q : Expr × Tokens) → p.condition ts ≡ Ok q → Condition ts q.0 q.1
-sound_condition ts q e =
-    let (x, dx, dk) = bind_ok (bind (expect m.LeftParen ts) (λ _. expression)) (λ c us. bind (expect m.RightParen us) (λ _. pure c)) e in
-    let (r, dr, dl) = bind_ok (expect m.LeftParen ts) (λ _. expression) dx in
-    let (s, ds, dm) = bind_ok (expect m.RightParen x.1) (λ _. pure x.0) dk in
-    yields (λ (q : Expr × Tokens). Condition ts q.0 q.1) (x.0, s.1) q (g.condition (expect_takes m.LeftParen ts r dr) (sound_expression r.1 x dl) (expect_takes m.RightParen x.1 s ds)) dm
-
 -- ---- declarations
 
 sound_initializer : (ts : Tokens) (q : Option Expr × Tokens) → p.initializer ts ≡ Ok q → Initializer ts q.0 q.1
@@ -420,7 +456,8 @@ sound_initializer ts q e = by (is_mark m.Assign ts) refl e
     by : (b : Bool) → is_mark m.Assign ts ≡ b → p.initializer_by b ts ≡ Ok q → Initializer ts q.0 q.1
     by true d e =
         let (x, dx, dk) = bind_ok (expression (tail ts)) (λ x. pure (Some x)) e in
-        yields (λ (q : Option Expr × Tokens). Initializer ts q.0 q.1) (Some x.0, x.1) q (g.just (is_mark_takes m.Assign ts d) (sound_expression (tail ts) x dx)) dk
+        yields (λ (q : Option Expr × Tokens). Initializer ts q.0 q.1) (Some x.0, x.1) q (g.just (is_mark_takes m.Assign ts d) (sound_expression (tail ts) x dx))
+        dk
     by false d e = yields (λ (q : Option Expr × Tokens). Initializer ts q.0 q.1) (None, ts) q g.nothing e
 
 local_sep : (ss : List Stmt) (ts : Tokens) (q : (List Stmt × Bool) × Tokens) → p.local_by ss (mark_at ts) ts ≡ Ok q → Sep m.Comma m.Semicolon ss ts q
@@ -443,35 +480,54 @@ record OneLocal (line : ℕ) (a : CType) (ss : List Stmt) (ts : Tokens) (q : (Li
 
 one_local : (line : ℕ) (a : CType) (ss : List Stmt) (ts : Tokens) (q : (List Stmt × Bool) × Tokens) → p.local line a ss ts ≡ Ok q → OneLocal line a ss ts q
 one_local line a ss ts q e =
-    let (f, df, dk) = bind_ok (declarator a ts) (λ f us. bind (p.initializer us) (λ x vs. p.local_by (ss ++ statement_of line (kind.Declare f.ty f.name x) ∷ []) (mark_at vs) vs)) e in
+    let (f, df, dk) = bind_ok (declarator a ts)
+    (λ f us. bind (p.initializer us) (λ x vs. p.local_by (ss ++ statement_of line (kind.Declare f.ty f.name x) ∷ []) (mark_at vs) vs)) e in
     let (x, dx, dl) = bind_ok (p.initializer f.1) (λ x vs. p.local_by (ss ++ statement_of line (kind.Declare f.0.ty f.0.name x) ∷ []) (mark_at vs) vs) dk in
-    record { f = f.0; x = x.0; named = f.1; behind = x.1; declares = sound_declarator a ts f df; begins = sound_initializer f.1 x dx; sep = local_sep (ss ++ statement_of line (kind.Declare f.0.ty f.0.name x.0) ∷ []) x.1 q dl }
+    record {
+      f = f.0;
+      x = x.0;
+      named = f.1;
+      behind = x.1;
+      declares = sound_declarator a ts f df;
+      begins = sound_initializer f.1 x dx;
+      sep = local_sep (ss ++ statement_of line (kind.Declare f.0.ty f.0.name x.0) ∷ []) x.1 q dl;
+    }
 
 pub initializer_shorter : {ts us : Tokens} {x : Option Expr} → Initializer ts x us → length us ≤ length ts
 initializer_shorter g.nothing = omega arith
 initializer_shorter (g.just t x) = let a = takes_shorter t in let b = expression_shorter x in omega arith
 
 pub local_shorter : (line : ℕ) (a : CType) (b c : List Stmt) (ts us : Tokens) → p.local line a b ts ≡ Ok ((c, false), us) → length us < length ts
-local_shorter line a b c ts us e = let r = one_local line a b ts ((c, false), us) e in let x = declarator_shorter r.declares in let y = initializer_shorter r.begins in let z = sep_shorter r.sep in omega arith
+local_shorter line a b c ts us e =
+    let r = one_local line a b ts ((c, false), us) e in
+    let x = declarator_shorter r.declares in
+    let y = initializer_shorter r.begins in
+    let z = sep_shorter r.sep in
+    omega arith
 
 abbrev FoundLocals : ℕ → CType → List Stmt → Tokens → List Stmt → Tokens → Type 0
 FoundLocals line a xs ts ys us = (zs : List Stmt) × Locals line a ts zs us × (ys ≡ xs ++ zs)
 
 locals_last : (line : ℕ) (a : CType) (xs : List Stmt) (ts : Tokens) (f : Field) (x : Option Expr) (us vs : Tokens) (ys : List Stmt) (ws : Tokens)
-    → Declarator a ts f us → Initializer us x vs → Sep m.Comma m.Semicolon (xs ++ statement_of line (kind.Declare f.ty f.name x) ∷ []) vs ((ys, true), ws) → FoundLocals line a xs ts ys ws
+    → Declarator a ts f us → Initializer us x vs → Sep m.Comma m.Semicolon (xs ++ statement_of line (kind.Declare f.ty f.name x) ∷ []) vs ((ys, true), ws)
+    → FoundLocals line a xs ts ys ws
 locals_last line a xs ts f x us vs ys ws d i (ends t) = (statement_of line (kind.Declare f.ty f.name x) ∷ [], g.last d i t, refl)
 
-locals_more : (line : ℕ) (a : CType) (xs : List Stmt) (ts : Tokens) (f : Field) (x : Option Expr) (us vs : Tokens) (ys : List Stmt) (ws : Tokens) (zs : List Stmt) (rs : Tokens)
+locals_more :
+    (line : ℕ) (a : CType) (xs : List Stmt) (ts : Tokens) (f : Field) (x : Option Expr) (us vs : Tokens) (ys : List Stmt) (ws : Tokens) (zs : List Stmt)
+    (rs : Tokens)
     → Declarator a ts f us → Initializer us x vs → Sep m.Comma m.Semicolon (xs ++ statement_of line (kind.Declare f.ty f.name x) ∷ []) vs ((ys, false), ws)
     → FoundLocals line a ys ws zs rs → FoundLocals line a xs ts zs rs
 locals_more line a xs ts f x us vs ys ws zs rs d i (goes_on t) (bs, r, is) =
     (statement_of line (kind.Declare f.ty f.name x) ∷ bs, g.more d i t r, is ∙ append_assoc xs (statement_of line (kind.Declare f.ty f.name x) ∷ []) bs)
 
-sound_locals : (line : ℕ) (a : CType) (ss : List Stmt) (ts : Tokens) (q : List Stmt × Tokens) → repeat (p.local line a) ss ts ≡ Ok q → FoundLocals line a ss ts q.0 q.1
+sound_locals : (line : ℕ) (a : CType) (ss : List Stmt) (ts : Tokens) (q : List Stmt × Tokens)
+    → repeat (p.local line a) ss ts ≡ Ok q → FoundLocals line a ss ts q.0 q.1
 sound_locals line a ss ts q e =
     repeat_keeps (p.local line a) (FoundLocals line a)
     (λ b c ts us d. let r = one_local line a b ts ((c, true), us) d in locals_last line a b ts r.f r.x r.named r.behind c us r.declares r.begins r.sep)
-    (λ b c h ts us vs d k. let r = one_local line a b ts ((c, false), us) d in locals_more line a b ts r.f r.x r.named r.behind c us h vs r.declares r.begins r.sep k)
+    (λ b c h ts us vs d k.
+    let r = one_local line a b ts ((c, false), us) d in locals_more line a b ts r.f r.x r.named r.behind c us h vs r.declares r.begins r.sep k)
     ss ts q e
 
 -- ---- statements
@@ -484,7 +540,8 @@ gated zero r ts q e = absurd cc
 gated (suc n) r ts q e = (n, refl, e)
 
 -- statements that end with a `;`
-sound_ended : (d : ℕ) (ts us : Tokens) (k : StmtKind) (q : StmtKind × Tokens) → ((vs : Tokens) → Takes (Mark m.Semicolon) us vs → Kind d ts (k, vs)) → p.ended k us ≡ Ok q → Kind d ts q
+sound_ended : (d : ℕ) (ts us : Tokens) (k : StmtKind) (q : StmtKind × Tokens)
+    → ((vs : Tokens) → Takes (Mark m.Semicolon) us vs → Kind d ts (k, vs)) → p.ended k us ≡ Ok q → Kind d ts q
 sound_ended d ts us k q rule e =
     let (s, ds, dk) = bind_ok (expect m.Semicolon us) (λ _. pure k) e in
     yields (Kind d ts) (k, s.1) q (rule s.1 (expect_takes m.Semicolon us s ds)) dk
@@ -509,7 +566,8 @@ end_takes ts q e = by (kind_at ts) refl e
 skipped : (d : ℕ) (ts : Tokens) (q : Unit {0} × Tokens) → bind (p.gate d ts) (λ _. skip) ≡ Ok q → tail ts ≡ q.1
 skipped d ts q e = let (n, is, c) = gated d skip ts q e in ap (λ q. q.1) (let same : ◌≡◌ {A = Unit {0} × Tokens} (tt, tail ts) q = cc in same)
 
-sound_declaration : (d : ℕ) (ss : List Stmt) (ts : Tokens) (q : List Stmt × Tokens) → p.declaration ss ts ≡ Ok q → (rs : List Stmt) × Inner (suc d) ts rs q.1 × (q.0 ≡ ss ++ rs)
+sound_declaration : (d : ℕ) (ss : List Stmt) (ts : Tokens) (q : List Stmt × Tokens)
+    → p.declaration ss ts ≡ Ok q → (rs : List Stmt) × Inner (suc d) ts rs q.1 × (q.0 ≡ ss ++ rs)
 sound_declaration d ss ts q e =
     let (a, da, dk) = bind_ok (base ts) (λ a. repeat (p.local (line_at ts) a) ss) e in
     let (zs, r, is) = sound_locals (line_at ts) a.0 ss a.1 q dk in
@@ -565,9 +623,11 @@ module _ (d : ℕ) (nested : Step Stmt) (h : (ts : Tokens) (q : Stmt × Tokens) 
       let (zs, k, is) = repeat_keeps (p.inner_turn d nested) FoundInners
       (λ a b ts us e. inners_last a b ts us (inner_turn a ts ((b, true), us) e))
       (λ a b c ts us vs e k. inners_next a b c ts us vs (inner_turn a ts ((b, false), us) e) k) [] ts s ds in
-      yields (IsBraced ts) (s.0, r.1) q (record { close = s.1; inners = subst (λ l. Inners d ts l s.1) (sym is) k; closes = expect_takes m.RightBrace s.1 r dr }) dl
+      yields (IsBraced ts) (s.0, r.1) q
+      (record { close = s.1; inners = subst (λ l. Inners d ts l s.1) (sym is) k; closes = expect_takes m.RightBrace s.1 r dr }) dl
 
-  sound_else : (ts us vs : Tokens) (c : Expr) (x : Stmt) (q : StmtKind × Tokens) → Takes (Key key.If) ts (tail ts) → Condition (tail ts) c us → Statement d us x vs
+  sound_else : (ts us vs : Tokens) (c : Expr) (x : Stmt) (q : StmtKind × Tokens)
+      → Takes (Key key.If) ts (tail ts) → Parenthesized (tail ts) c us → Statement d us x vs
       → p.else_by d nested c x (else_next vs) vs ≡ Ok q → Kind d ts q
   sound_else ts us [] c x q t a b e = yields (Kind d ts) (kind.If c x None, []) q (g.if_only t a b refl) e
   sound_else ts us (v ∷ vs) c x q t a b e = by v.kind refl e
@@ -583,17 +643,19 @@ module _ (d : ℕ) (nested : Step Stmt) (h : (ts : Tokens) (q : Stmt × Tokens) 
 
   sound_branch : (ts : Tokens) (q : StmtKind × Tokens) → Takes (Key key.If) ts (tail ts) → p.branch d nested ts ≡ Ok q → Kind d ts q
   sound_branch ts q t e =
-      let (c, dc, dk) = bind_ok (bind (bind (p.gate d ts) (λ _. skip)) (λ _. p.condition)) (λ c us. bind (nested us) (λ x vs. p.else_by d nested c x (else_next vs) vs)) e in
-      let (r, dr, dl) = bind_ok (bind (p.gate d ts) (λ _. skip)) (λ _. p.condition) dc in
+      let (c, dc, dk) = bind_ok (bind (bind (p.gate d ts) (λ _. skip)) (λ _. p.parenthesized))
+      (λ c us. bind (nested us) (λ x vs. p.else_by d nested c x (else_next vs) vs)) e in
+      let (r, dr, dl) = bind_ok (bind (p.gate d ts) (λ _. skip)) (λ _. p.parenthesized) dc in
       let (s, ds, dm) = bind_ok (nested c.1) (λ x vs. p.else_by d nested c.0 x (else_next vs) vs) dk in
-      sound_else ts c.1 s.1 c.0 s.0 q t (subst (λ us. Condition us c.0 c.1) (sym (skipped d ts r dr)) (sound_condition r.1 c dl)) (h c.1 s ds) dm
+      sound_else ts c.1 s.1 c.0 s.0 q t (subst (λ us. Parenthesized us c.0 c.1) (sym (skipped d ts r dr)) (sound_parenthesized r.1 c dl)) (h c.1 s ds) dm
 
   sound_while : (ts : Tokens) (q : StmtKind × Tokens) → Takes (Key key.While) ts (tail ts) → p.while_loop d nested ts ≡ Ok q → Kind d ts q
   sound_while ts q t e =
-      let (c, dc, dk) = bind_ok (bind (bind (p.gate d ts) (λ _. skip)) (λ _. p.condition)) (λ c us. bind (nested us) (λ x. pure (kind.While c x))) e in
-      let (r, dr, dl) = bind_ok (bind (p.gate d ts) (λ _. skip)) (λ _. p.condition) dc in
+      let (c, dc, dk) = bind_ok (bind (bind (p.gate d ts) (λ _. skip)) (λ _. p.parenthesized)) (λ c us. bind (nested us) (λ x. pure (kind.While c x))) e in
+      let (r, dr, dl) = bind_ok (bind (p.gate d ts) (λ _. skip)) (λ _. p.parenthesized) dc in
       let (s, ds, dm) = bind_ok (nested c.1) (λ x. pure (kind.While c.0 x)) dk in
-      yields (Kind d ts) (kind.While c.0 s.0, s.1) q (g.while_loop t (subst (λ us. Condition us c.0 c.1) (sym (skipped d ts r dr)) (sound_condition r.1 c dl)) (h c.1 s ds)) dm
+      yields (Kind d ts) (kind.While c.0 s.0, s.1) q
+      (g.while_loop t (subst (λ us. Parenthesized us c.0 c.1) (sym (skipped d ts r dr)) (sound_parenthesized r.1 c dl)) (h c.1 s ds)) dm
 
   -- a loop with the parts that its head has
   record IsFor (n : Option LoopNote) (ts : Tokens) (q : StmtKind × Tokens) : Type 0 where
@@ -631,7 +693,8 @@ module _ (d : ℕ) (nested : Step Stmt) (h : (ts : Tokens) (q : Stmt × Tokens) 
       (subst (λ (c : StmtKind). Statement (suc d) ts (at s.1 c) k.1) f.is
       (g.noted_loop t (subst (λ us. Note us n.0 n.1) (sym (skipped d ts r dr)) (sound_note r.1 n dl)) (end_takes n.1 s ds) f.head f.reads)) do'
 
-  sound_block : (ts : Tokens) (q : StmtKind × Tokens) → Takes (Mark m.LeftBrace) ts (tail ts) → bind (p.braced d nested (tail ts)) (λ ss. pure (kind.Block ss)) ≡ Ok q → Kind d ts q
+  sound_block : (ts : Tokens) (q : StmtKind × Tokens)
+      → Takes (Mark m.LeftBrace) ts (tail ts) → bind (p.braced d nested (tail ts)) (λ ss. pure (kind.Block ss)) ≡ Ok q → Kind d ts q
   sound_block ts q t e =
       let (s, ds, dk) = bind_ok (p.braced d nested (tail ts)) (λ ss. pure (kind.Block ss)) e in
       let b = sound_braced (tail ts) s ds in
@@ -648,7 +711,8 @@ module _ (d : ℕ) (nested : Step Stmt) (h : (ts : Tokens) (q : Stmt × Tokens) 
   sound_kind (Some (Key key.Continue)) ts q dt e = sound_ended d ts (tail ts) kind.Continue q (λ vs u. g.continue_loop (kind_takes ts dt) u) e
   sound_kind _ ts q dt e = sound_plain d ts q e
 
-  sound_lined : (c : Option TokenKind) (ts : Tokens) (q : Stmt × Tokens) → kind_at ts ≡ c → p.lined (p.kind_by d nested c) ts ≡ Ok q → Statement (suc d) ts q.0 q.1
+  sound_lined : (c : Option TokenKind) (ts : Tokens) (q : Stmt × Tokens)
+      → kind_at ts ≡ c → p.lined (p.kind_by d nested c) ts ≡ Ok q → Statement (suc d) ts q.0 q.1
   sound_lined c ts q dt e =
       let (k, dk, dl) = bind_ok (p.kind_by d nested c ts) (λ k. pure (at ts k)) e in
       yields (λ (q : Stmt × Tokens). Statement (suc d) ts q.0 q.1) (at ts k.0, k.1) q (sound_kind c ts k dt dk) dl

@@ -1,20 +1,21 @@
 -- The small steps of the parser: what each takes, and the loops.
-use Rattle.std.proofs.Common.{◌≡◌, ℕ, zero, suc, ◌<◌, ◌≤◌, Bool, true, false, List, [], ◌∷◌, length, Option, Some, None, Ok, Err, refl, sym, ap, subst, ◌∙◌, arith}
+use Rattle.std.proofs.Common.{◌≡◌, ℕ, zero, suc, ◌<◌, Bool, true, false, [], ◌∷◌, length, Option, Some, None, Result, Ok, Err, refl, ap, subst, ◌∙◌, arith}
 use denote.Enum.Bare.{same_true}
 use Rattle.al_source.specs.contracts.tokens.Mark.{the_type}
 use Rattle.al_source.specs.contracts.tokens.Key as the_key_type
-use Rattle.al_source.specs.declared.tokens.Token.{Token}
 use Rattle.al_source.specs.declared.tokens.TokenKind.{TokenKind}
 use Rattle.al_source.specs.declared.tokens.TokenKind.TheVariants.{Word, Key, Mark}
 use Rattle.al_source.specs.declared.tokens.Mark as the_mark
 use Rattle.al_source.specs.declared.tokens.Mark.TheVariants as m
 use Rattle.al_source.specs.declared.tokens.Key as the_key
 use Rattle.al_source.specs.declared.tokens.Key.TheVariants as key
-use Rattle.al_grammar.specs.Phrases.{Tokens, Name, Takes, takes, Means, means, Optional}
-use Rattle.al_grammar.specs.Phrases as g
-use Rattle.al_grammar.specs.Steps.{Read, Step, bind, skip, kind_at, mark_in, mark_at, key_in, key_at, meaning_in, meaning_at, tail, same_mark, same_key, is_mark_in, is_mark, is_key_in, is_key, expect_by, expect, expect_key, word_by, word, skip_if, after_turn, loop, repeat}
+use Rattle.al_grammar.specs.Phrases.{Tokens, Name, Takes, takes, Means, means}
+use Rattle.al_source.specs.Steps.{bind}
+use Rattle.al_grammar.specs.Steps.{Read, Step, kind_at, mark_in, mark_at, key_in, key_at, meaning_at, tail, same_mark, same_key, is_mark_in, is_mark, is_key_in, is_key, expect_by, expect, expect_key, word_by, word, after_turn, loop, repeat}
 
-pub bind_ok : {A B : Type 0} {y : B × Tokens} → (r : Read A) (k : A → Step B) → bind r k ≡ Ok y → (p : A × Tokens) × (r ≡ Ok p) × (k p.0 p.1 ≡ Ok y)
+-- what a step begins with, where it gives an answer
+pub bind_ok : {A B S F : Type 0} {y : B × S} → (r : Result (A × S) F) (k : A → S → Result (B × S) F) → bind r k ≡ Ok y
+    → (p : A × S) × (r ≡ Ok p) × (k p.0 p.1 ≡ Ok y)
 bind_ok (Ok p) k e = (p, refl, e)
 bind_ok (Err d) k e = cc
 
@@ -141,7 +142,9 @@ module _ {A : Type 0} (turn : A → Step (A × Bool)) (takes_one : (a b : A) (ts
   stable (suc f) zero a ts h h' = absurd (omega arith)
   stable (suc f) (suc f') a ts h h' = by (turn a ts) refl (λ b us lt. stable f f' b us (omega arith) (omega arith))
     where
-      by : (o : Read (A × Bool)) → turn a ts ≡ o → ((b : A) (us : Tokens) → length us < length ts → loop turn f b us ≡ loop turn f' b us) → bind o (λ r. after_turn (loop turn f) r.0 r.1) ≡ bind o (λ r. after_turn (loop turn f') r.0 r.1)
+      by : (o : Read (A × Bool))
+          → turn a ts ≡ o → ((b : A) (us : Tokens) → length us < length ts → loop turn f b us ≡ loop turn f' b us)
+          → bind o (λ r. after_turn (loop turn f) r.0 r.1) ≡ bind o (λ r. after_turn (loop turn f') r.0 r.1)
       by (Err e) d ih = refl
       by (Ok ((b, true), us)) d ih = refl
       by (Ok ((b, false), us)) d ih = ih b us (takes_one a b ts us d)

@@ -23,7 +23,8 @@ after_fault s b z (Err fault) = Some fault
 after_fault s b z (Ok n) = fault_from (n.len - 1) (spot_after s (b ∷ z) n) z
 
 -- what is read at a byte where something stands
-pub reading_from-goes : (s : Spot) (b : ℕ) (z : Bytes) (n : Next) → next s (b ∷ z) ≡ Ok n → reading_from 0 s (b ∷ z) ≡ with_front (option_to_list n.token) (reading_from 0 (spot_after s (b ∷ z) n) (drop (n.len - 1) z))
+pub reading_from-goes : (s : Spot) (b : ℕ) (z : Bytes) (n : Next)
+    → next s (b ∷ z) ≡ Ok n → reading_from 0 s (b ∷ z) ≡ with_front (option_to_list n.token) (reading_from 0 (spot_after s (b ∷ z) n) (drop (n.len - 1) z))
 reading_from-goes s b z n e = ap (after_next s b z) e ∙ ap (with_front (option_to_list n.token)) (reading_from-drop (n.len - 1) (spot_after s (b ∷ z) n) z)
 
 -- what is read at a byte where a fault stands
@@ -35,11 +36,14 @@ spelled (ends e) = e
 spelled (goes {s = s} {b = b} {z = z} {n = n} e rest) = reading_from-goes s b z n e ∙ ap (with_front (option_to_list n.token)) (spelled rest)
 
 -- the tokens after the front
-front_ok : (front : List Token) (r : Result (List Token) LexFault) (ts : List Token) → with_front front r ≡ Ok ts → (us : List Token) × (r ≡ Ok us) × (front ++ us ≡ ts)
+front_ok : (front : List Token) (r : Result (List Token) LexFault) (ts : List Token)
+    → with_front front r ≡ Ok ts → (us : List Token) × (r ≡ Ok us) × (front ++ us ≡ ts)
 front_ok front (Ok us) ts e = (us, refl, cc)
 front_ok front (Err fault) ts e = absurd cc
 
-spells_next : (s : Spot) (b : ℕ) (z : Bytes) (ts : List Token) → ((left : ℕ) (t : Spot) (us : List Token) → reading_from left t z ≡ Ok us → SpellsFrom t (drop left z) us) → (r : Result Next LexFault) → next s (b ∷ z) ≡ r → after_next s b z r ≡ Ok ts → SpellsFrom s (b ∷ z) ts
+spells_next : (s : Spot) (b : ℕ) (z : Bytes) (ts : List Token)
+    → ((left : ℕ) (t : Spot) (us : List Token) → reading_from left t z ≡ Ok us → SpellsFrom t (drop left z) us) → (r : Result Next LexFault)
+    → next s (b ∷ z) ≡ r → after_next s b z r ≡ Ok ts → SpellsFrom s (b ∷ z) ts
 spells_next s b z ts rest (Err fault) is e = absurd cc
 spells_next s b z ts rest (Ok n) is e =
     let parts = front_ok (option_to_list n.token) (reading_from (n.len - 1) (spot_after s (b ∷ z) n) z) ts e in
@@ -55,9 +59,12 @@ fault_of-front : (front : List Token) (r : Result (List Token) LexFault) → fau
 fault_of-front front (Ok ts) = refl
 fault_of-front front (Err fault) = refl
 
-faults_next : (s : Spot) (b : ℕ) (z : Bytes) → ((left : ℕ) (t : Spot) → fault_from left t z ≡ fault_of (reading_from left t z)) → (r : Result Next LexFault) → after_fault s b z r ≡ fault_of (after_next s b z r)
+faults_next : (s : Spot) (b : ℕ) (z : Bytes)
+    → ((left : ℕ) (t : Spot) → fault_from left t z ≡ fault_of (reading_from left t z)) → (r : Result Next LexFault)
+    → after_fault s b z r ≡ fault_of (after_next s b z r)
 faults_next s b z rest (Err fault) = refl
-faults_next s b z rest (Ok n) = rest (n.len - 1) (spot_after s (b ∷ z) n) ∙ fault_of-front (option_to_list n.token) (reading_from (n.len - 1) (spot_after s (b ∷ z) n) z)
+faults_next s b z rest (Ok n) =
+    rest (n.len - 1) (spot_after s (b ∷ z) n) ∙ fault_of-front (option_to_list n.token) (reading_from (n.len - 1) (spot_after s (b ∷ z) n) z)
 
 pub faults : (left : ℕ) (s : Spot) (z : Bytes) → fault_from left s z ≡ fault_of (reading_from left s z)
 faults left s [] = refl
@@ -78,7 +85,8 @@ pub fault_reading : (source : Bytes) → first_lexical_fault source ≡ fault_of
 unfolding first_lexical_fault reading
 fault_reading source = faults 0 first_spot source
 
-by_reading : (source : Bytes) (r : Result (List Token) LexFault) → reading source ≡ r → ((ts : List Token) × Spells source ts) ⊎ ((fault : LexFault) × (first_lexical_fault source ≡ Some fault))
+by_reading : (source : Bytes) (r : Result (List Token) LexFault)
+    → reading source ≡ r → ((ts : List Token) × Spells source ts) ⊎ ((fault : LexFault) × (first_lexical_fault source ≡ Some fault))
 by_reading source (Ok ts) e = inl (ts, reading_spells source ts e)
 by_reading source (Err fault) e = inr (fault, fault_reading source ∙ ap fault_of e)
 

@@ -1,10 +1,10 @@
 -- The parser of types and declared names reads what the grammar has, and nothing else.
-use Rattle.std.proofs.Common.{◌≡◌, ℕ, zero, suc, ◌<◌, ◌≤◌, Bool, true, false, nat_lt, List, [], ◌∷◌, length, Option, Some, None, Ok, Err, refl, sym, ap, subst, ◌∙◌, arith}
-use Rattle.std.specs.Prelude.{pos, ◌&&◌}
-use Rattle.std.proofs.lemmas.Bool.{ltb-true, lt-ltb}
-use Rattle.al_source.specs.declared.tokens.Token.{Token}
+use Rattle.std.proofs.Common.{◌≡◌, ℕ, zero, suc, ◌<◌, ◌≤◌, Bool, true, false, [], ◌∷◌, length, Option, Some, None, Ok, refl, ap, subst, ◌∙◌, arith}
+use Rattle.std.specs.Prelude.{ℤ, pos, ◌&&◌, nat_le, int_le, ◌≤ℤ◌}
+use Rattle.std.proofs.lemmas.Bool.{leb-true, le-leb, and_parts}
+use Rattle.std.proofs.lemmas.Int.{ints}
 use Rattle.al_source.specs.declared.tokens.TokenKind.{TokenKind}
-use Rattle.al_source.specs.declared.tokens.TokenKind.TheVariants.{Word, Number, Key, Mark}
+use Rattle.al_source.specs.declared.tokens.TokenKind.TheVariants.{Number, Key, Mark}
 use Rattle.al_source.specs.declared.tokens.Mark as the_mark
 use Rattle.al_source.specs.declared.tokens.Mark.TheVariants as m
 use Rattle.al_source.specs.declared.tokens.Key as the_key
@@ -12,11 +12,13 @@ use Rattle.al_source.specs.declared.tokens.Key.TheVariants as key
 use Rattle.al_source.specs.declared.source_tree.CType.{CType}
 use Rattle.al_source.specs.declared.source_tree.CType.TheVariants as type
 use Rattle.al_source.specs.declared.source_tree.Field.{Field}
+use Rattle.al_source.specs.declared.limits.TheConstants.{DECLARATOR_STARS, DECLARATOR_DIMENSIONS, DIMENSION_LENGTH}
 use Rattle.al_grammar.specs.Phrases.{Tokens, Name, Takes, takes, Optional}
 use Rattle.al_grammar.specs.Phrases as ph
-use Rattle.al_grammar.specs.Types.{max_stars, max_dimensions, max_length, Base, Stars, Dimensions, Declarator, SizeOf}
+use Rattle.al_grammar.specs.Types.{Base, Stars, Dimensions, Declarator, SizeOf}
 use Rattle.al_grammar.specs.Types as g
-use Rattle.al_grammar.specs.Steps.{Read, Step, bind, pure, skip, skip_if, kind_at, key_in, key_at, mark_in, mark_at, meaning_in, meaning_at, tail, same_mark, same_key, is_mark_in, is_mark, is_key, is_key_in, expect, expect_key, word}
+use Rattle.al_source.specs.Steps.{bind, pure}
+use Rattle.al_grammar.specs.Steps.{skip_if, key_in, key_at, mark_in, tail, same_mark, same_key, is_mark_in, is_mark, is_key, is_key_in, expect, expect_key, word}
 use Rattle.al_grammar.specs.TypeParser.{optional, base_by, base, star_by, stars, length_by, length_of, take_length_by, take_length, dimension_by, dimensions, declarator, operand_type, size_of}
 use Rattle.al_grammar.proofs.StepFacts.{bind_ok, yields, some_same, takes_kind, takes_tail, takes_shorter, key_takes, is_mark_takes, is_key_takes, takes_is_mark, takes_is_key, takes_expect, takes_expect_key, expect_takes, expect_key_takes, takes_word, word_takes}
 
@@ -48,7 +50,9 @@ unfolding stars
 sound_stars zero a ts p e = yields (λ p. Stars zero a ts p.0 p.1) (a, ts) p g.none e
 sound_stars (suc n) a ts p e = by (is_mark m.Star ts) refl e (λ b. sound_stars n (type.Ptr a) b p)
   where
-    by : (b : Bool) → is_mark m.Star ts ≡ b → star_by (stars n) a b ts ≡ Ok p → ((us : Tokens) → stars n (type.Ptr a) us ≡ Ok p → Stars n (type.Ptr a) us p.0 p.1) → Stars (suc n) a ts p.0 p.1
+    by : (b : Bool)
+        → is_mark m.Star ts ≡ b → star_by (stars n) a b ts ≡ Ok p → ((us : Tokens) → stars n (type.Ptr a) us ≡ Ok p → Stars n (type.Ptr a) us p.0 p.1)
+        → Stars (suc n) a ts p.0 p.1
     by true d e ih = g.star (is_mark_takes m.Star ts d) (ih (tail ts) e)
     by false d e ih = yields (λ p. Stars (suc n) a ts p.0 p.1) (a, ts) p g.none e
 
@@ -56,29 +60,28 @@ sound_stars (suc n) a ts p e = by (is_mark m.Star ts) refl e (λ b. sound_stars 
 record IsLength (k : TokenKind) (l : ℕ) : Type 0 where
   is : k ≡ Number (pos l)
   above : 1 ≤ l
-  below : l ≤ max_length
+  below : pos l ≤ℤ DIMENSION_LENGTH
 
-both_true : (a b : Bool) → (a && b) ≡ true → (a ≡ true) × (b ≡ true)
-both_true true true e = (refl, refl)
-both_true true false e = absurd cc
-both_true false b e = absurd cc
+is_within : (a b : ℤ) → int_le a b ≡ true → a ≤ℤ b
+is_within a b e = grind (arith, ints)
+
+within_is : (a b : ℤ) → a ≤ℤ b → int_le a b ≡ true
+within_is a b h = grind (arith, ints)
 
 length_is : (k : TokenKind) (l : ℕ) → length_of k ≡ Some l → IsLength k l
-length_is (Number (pos n)) l e = by (nat_lt 0 n && nat_lt n (suc max_length)) refl e
+length_is (Number (pos n)) l e = by (nat_le 1 n && int_le (pos n) DIMENSION_LENGTH) refl e
   where
-    by : (b : Bool) → (nat_lt 0 n && nat_lt n (suc max_length)) ≡ b → length_by n b ≡ Some l → IsLength (Number (pos n)) l
+    by : (b : Bool) → (nat_le 1 n && int_le (pos n) DIMENSION_LENGTH) ≡ b → length_by n b ≡ Some l → IsLength (Number (pos n)) l
     by true d e =
-        let (low, high) = both_true (nat_lt 0 n) (nat_lt n (suc max_length)) d in
-        let a : 0 < n = ltb-true _ _ low in
-        let b : n < suc max_length = ltb-true _ _ high in
-        subst (IsLength (Number (pos n))) (some_same e) (record { is = refl; above = omega arith; below = omega arith })
+        let (low, high) = and_parts (nat_le 1 n) (int_le (pos n) DIMENSION_LENGTH) d in
+        subst (IsLength (Number (pos n))) (some_same e) (record { is = refl; above = leb-true _ _ low; below = is_within _ _ high })
     by false d e = absurd cc
 length_is _ l e = absurd cc
 
 record HasLength (ts : Tokens) (p : ℕ × Tokens) : Type 0 where
   takes : Takes (Number (pos p.0)) ts p.1
   above : 1 ≤ p.0
-  below : p.0 ≤ max_length
+  below : pos p.0 ≤ℤ DIMENSION_LENGTH
 
 sound_length : (ts : Tokens) (p : ℕ × Tokens) → take_length ts ≡ Ok p → HasLength ts p
 sound_length [] p e = absurd cc
@@ -96,7 +99,8 @@ sound_dimensions (suc n) a ts p e = by (is_mark m.LeftBracket ts) refl e (λ us 
     by : (b : Bool) → is_mark m.LeftBracket ts ≡ b → dimension_by (dimensions n) a b ts ≡ Ok p
         → ((us : Tokens) (q : CType × Tokens) → dimensions n a us ≡ Ok q → Dimensions n a us q.0 q.1) → Dimensions (suc n) a ts p.0 p.1
     by true d e ih =
-        let (l, dl, dk) = bind_ok (take_length (tail ts)) (λ l us. bind (bind (expect m.RightBracket us) (λ _. dimensions n a)) (λ b. pure (type.Array b l))) e in
+        let (l, dl, dk) = bind_ok (take_length (tail ts)) (λ l us. bind (bind (expect m.RightBracket us) (λ _. dimensions n a)) (λ b. pure (type.Array b l)))
+        e in
         let (q, dq, dm) = bind_ok (bind (expect m.RightBracket l.1) (λ _. dimensions n a)) (λ b. pure (type.Array b l.0)) dk in
         let (r, dr, dn) = bind_ok (expect m.RightBracket l.1) (λ _. dimensions n a) dq in
         let h = sound_length (tail ts) l dl in
@@ -106,11 +110,12 @@ sound_dimensions (suc n) a ts p e = by (is_mark m.LeftBracket ts) refl e (λ us 
 
 pub sound_declarator : (a : CType) (ts : Tokens) (p : Field × Tokens) → declarator a ts ≡ Ok p → Declarator a ts p.0 p.1
 sound_declarator a ts p e =
-    let (b, db, dk) = bind_ok (stars max_stars a ts) (λ b us. bind (word us) (λ w vs. bind (dimensions max_dimensions b vs) (λ c. pure (record { name = w; ty = c })))) e in
-    let (w, dw, dl) = bind_ok (word b.1) (λ w vs. bind (dimensions max_dimensions b.0 vs) (λ c. pure (record { name = w; ty = c }))) dk in
-    let (c, dc, dm) = bind_ok (dimensions max_dimensions b.0 w.1) (λ c. pure (record { name = w.0; ty = c })) dl in
+    let (b, db, dk) = bind_ok (stars DECLARATOR_STARS a ts)
+    (λ b us. bind (word us) (λ w vs. bind (dimensions DECLARATOR_DIMENSIONS b vs) (λ c. pure (record { name = w; ty = c })))) e in
+    let (w, dw, dl) = bind_ok (word b.1) (λ w vs. bind (dimensions DECLARATOR_DIMENSIONS b.0 vs) (λ c. pure (record { name = w; ty = c }))) dk in
+    let (c, dc, dm) = bind_ok (dimensions DECLARATOR_DIMENSIONS b.0 w.1) (λ c. pure (record { name = w.0; ty = c })) dl in
     yields (λ (p : Field × Tokens). Declarator a ts p.0 p.1) (record { name = w.0; ty = c.0 }, c.1) p
-    (g.declarator (sound_stars max_stars a ts b db) (word_takes b.1 w dw) (sound_dimensions max_dimensions b.0 w.1 c dc)) dm
+    (g.declarator (sound_stars DECLARATOR_STARS a ts b db) (word_takes b.1 w dw) (sound_dimensions DECLARATOR_DIMENSIONS b.0 w.1 c dc)) dm
 
 -- `( base * )`
 pub record OperandType (ts : Tokens) (p : CType × Tokens) : Type 0 where
@@ -120,17 +125,27 @@ pub record OperandType (ts : Tokens) (p : CType × Tokens) : Type 0 where
   pub close : Tokens
   pub opens : Takes (Mark m.LeftParen) ts opened
   pub base : Base opened base_type base_end
-  pub stars : Stars max_stars base_type base_end p.0 close
+  pub stars : Stars DECLARATOR_STARS base_type base_end p.0 close
   pub closes : Takes (Mark m.RightParen) close p.1
 
 pub sound_operand : (ts : Tokens) (p : CType × Tokens) → operand_type ts ≡ Ok p → OperandType ts p
 sound_operand ts p e =
-    let (a, da, dk) = bind_ok (bind (expect m.LeftParen ts) (λ _. base)) (λ a us. bind (stars max_stars a us) (λ b vs. bind (expect m.RightParen vs) (λ _. pure b))) e in
+    let (a, da, dk) = bind_ok (bind (expect m.LeftParen ts) (λ _. base))
+    (λ a us. bind (stars DECLARATOR_STARS a us) (λ b vs. bind (expect m.RightParen vs) (λ _. pure b))) e in
     let (o, do', dj) = bind_ok (expect m.LeftParen ts) (λ _. base) da in
-    let (b, db, dl) = bind_ok (stars max_stars a.0 a.1) (λ b vs. bind (expect m.RightParen vs) (λ _. pure b)) dk in
+    let (b, db, dl) = bind_ok (stars DECLARATOR_STARS a.0 a.1) (λ b vs. bind (expect m.RightParen vs) (λ _. pure b)) dk in
     let (c, dc, dm) = bind_ok (expect m.RightParen b.1) (λ _. pure b.0) dl in
     yields (OperandType ts) (b.0, c.1) p
-    (record { base_type = a.0; opened = o.1; base_end = a.1; close = b.1; opens = expect_takes m.LeftParen ts o do'; base = sound_base o.1 a dj; stars = sound_stars max_stars a.0 a.1 b db; closes = expect_takes m.RightParen b.1 c dc }) dm
+    (record {
+      base_type = a.0;
+      opened = o.1;
+      base_end = a.1;
+      close = b.1;
+      opens = expect_takes m.LeftParen ts o do';
+      base = sound_base o.1 a dj;
+      stars = sound_stars DECLARATOR_STARS a.0 a.1 b db;
+      closes = expect_takes m.RightParen b.1 c dc;
+    }) dm
 
 pub size_from : {ts us : Tokens} (p : CType × Tokens) → Takes (Key key.Sizeof) ts us → OperandType us p → SizeOf ts p.0 p.1
 size_from p t o = g.size_of t o.opens o.base o.stars o.closes
@@ -158,7 +173,8 @@ optional_is (ph.left_out) h = rw h refl
 optional_is (ph.written t) h = rw (takes_is_key t, takes_tail t) refl
 
 -- a key that is not the optional one is seen past it
-past_optional : {k : the_key.Key} {ts us : Tokens} (c : the_key.Key) → Optional (Key k) ts us → is_key c us ≡ false → is_key_in c (Some k) ≡ false → is_key c ts ≡ false
+past_optional : {k : the_key.Key} {ts us : Tokens} (c : the_key.Key)
+    → Optional (Key k) ts us → is_key c us ≡ false → is_key_in c (Some k) ≡ false → is_key c ts ≡ false
 past_optional c ph.left_out h e = h
 past_optional c (ph.written t) h e = not_key c t e
 
@@ -184,10 +200,10 @@ pub ends_stars : {n : ℕ} {k : TokenKind} {a b : CType} {ts us vs : Tokens} →
 ends_stars g.none t l i = record { long = not_key key.Long t l; int = not_key key.Int t i }
 ends_stars (g.star s r) t l i = record { long = not_key key.Long s refl; int = not_key key.Int s refl }
 
-length_fits : (l : ℕ) → 1 ≤ l → l ≤ max_length → length_of (Number (pos l)) ≡ Some l
-length_fits l low high = rw (lt-ltb 0 l (omega arith), lt-ltb l (suc max_length) (omega arith)) refl
+length_fits : (l : ℕ) → 1 ≤ l → pos l ≤ℤ DIMENSION_LENGTH → length_of (Number (pos l)) ≡ Some l
+length_fits l low high = rw (le-leb 1 l low, within_is _ _ high) refl
 
-takes_length : {l : ℕ} {ts us : Tokens} → Takes (Number (pos l)) ts us → 1 ≤ l → l ≤ max_length → take_length ts ≡ Ok (l, us)
+takes_length : {l : ℕ} {ts us : Tokens} → Takes (Number (pos l)) ts us → 1 ≤ l → pos l ≤ℤ DIMENSION_LENGTH → take_length ts ≡ Ok (l, us)
 takes_length {l} t low high = rw (takes_kind t, length_fits l low high, takes_tail t) refl
 
 dimensions_end : (n : ℕ) (a : CType) (ts : Tokens) → is_mark m.LeftBracket ts ≡ false → dimensions n a ts ≡ Ok (a, ts)
@@ -210,7 +226,8 @@ ends_declarator (g.declarator s t d) = ends_stars s t refl refl
 -- after the `sizeof`
 pub complete_operand : {ts us : Tokens} {a : CType} → SizeOf ts a us → operand_type (tail ts) ≡ Ok (a, us)
 unfolding same_mark
-complete_operand (g.size_of t u b s v) = rw (takes_tail t, takes_expect u, complete_base b (ends_stars s v refl refl), complete_stars s (not_mark m.Star v refl), takes_expect v) refl
+complete_operand (g.size_of t u b s v) =
+    rw (takes_tail t, takes_expect u, complete_base b (ends_stars s v refl refl), complete_stars s (not_mark m.Star v refl), takes_expect v) refl
 
 pub size_key : {ts us : Tokens} {a : CType} → SizeOf ts a us → Takes (Key key.Sizeof) ts (tail ts)
 size_key (g.size_of (takes d) u b s v) = takes d
@@ -235,10 +252,12 @@ stars_shorter (g.star t r) = let a = takes_shorter t in let b = stars_shorter r 
 
 pub dimensions_shorter : {n : ℕ} {a b : CType} {ts us : Tokens} → Dimensions n a ts b us → length us ≤ length ts
 dimensions_shorter g.none = omega arith
-dimensions_shorter (g.dimension t v low high u r) = let a = takes_shorter t in let b = takes_shorter v in let c = takes_shorter u in let d = dimensions_shorter r in omega arith
+dimensions_shorter (g.dimension t v low high u r) =
+    let a = takes_shorter t in let b = takes_shorter v in let c = takes_shorter u in let d = dimensions_shorter r in omega arith
 
 pub declarator_shorter : {a : CType} {ts us : Tokens} {f : Field} → Declarator a ts f us → length us < length ts
 declarator_shorter (g.declarator s t d) = let a = stars_shorter s in let b = takes_shorter t in let c = dimensions_shorter d in omega arith
 
 pub size_shorter : {ts us : Tokens} {a : CType} → SizeOf ts a us → length us < length ts
-size_shorter (g.size_of t u b s v) = let a = takes_shorter t in let c = takes_shorter u in let d = base_shorter b in let e = stars_shorter s in let f = takes_shorter v in omega arith
+size_shorter (g.size_of t u b s v) =
+    let a = takes_shorter t in let c = takes_shorter u in let d = base_shorter b in let e = stars_shorter s in let f = takes_shorter v in omega arith

@@ -1,26 +1,9 @@
 -- More room for operators does no harm, and each expression takes tokens.
-use Rattle.std.proofs.Common.{◌≡◌, ℕ, zero, suc, ◌+◌, ◌-◌, ◌*◌, ◌<◌, ◌≤◌, Bool, true, false, nat_lt, nat_eq, if◌then◌else◌, List, [], ◌∷◌, ◌++◌, append_assoc, length, Option, Some, None, Ok, Err, refl, sym, ap, subst, ◌∙◌, arith}
-use Rattle.std.proofs.lemmas.Bool.{ltb-true, lt-ltb, ltb-false, eqb-true, eq-eqb, ne_eqb, le-ltb}
-use Rattle.al_source.specs.declared.tokens.Token.{Token}
-use Rattle.al_source.specs.declared.tokens.TokenKind.{TokenKind}
-use Rattle.al_source.specs.declared.tokens.TokenKind.TheVariants.{Word, Number, Key, Mark}
-use Rattle.al_source.specs.declared.tokens.Mark as the_mark
-use Rattle.al_source.specs.declared.tokens.Mark.TheVariants as m
-use Rattle.al_source.specs.declared.tokens.Key.TheVariants as key
-use Rattle.al_source.specs.declared.operators.BinOp.{BinOp}
-use Rattle.al_source.specs.declared.source_tree.CType.{CType}
+use Rattle.std.proofs.Common.{◌≡◌, ℕ, zero, suc, ◌+◌, ◌<◌, List, length, ap, subst, ◌∙◌, arith}
 use Rattle.al_source.specs.declared.source_tree.Expr.{Expr}
-use Rattle.al_source.specs.declared.source_tree.Expr.TheVariants as e
-use Rattle.al_grammar.specs.declared.operators.Joint.{Joint}
-use Rattle.al_grammar.specs.declared.operators.Prefix.{Prefix}
-use Rattle.al_grammar.specs.Operators.{infix_of, levels, join, prefix_of, apply, update_of, step_of}
-use Rattle.al_grammar.specs.Phrases.{Tokens, Name, Takes, takes, Means, means}
-use Rattle.al_grammar.specs.Types.{SizeOf}
-use Rattle.al_grammar.specs.Expressions.{State, Reads, Arguments, More, Expression, Place, max_operators}
+use Rattle.al_grammar.specs.Phrases.{Tokens}
+use Rattle.al_grammar.specs.Expressions.{State, Reads, Arguments, More, Expression, Place}
 use Rattle.al_grammar.specs.Expressions as g
-use Rattle.al_grammar.specs.Steps.{Read, Step, bind, kind_at, mark_in, mark_at, meaning_at, tail, expect, word}
-use Rattle.al_grammar.specs.TypeParser.{operand_type, size_of}
-use Rattle.al_grammar.specs.ExpressionParser.{Outcome, Parser, and_then, keep, lift, spend, spend_two, Job, whole, climb, unary, postfix, primary, suffix, arguments, more, field, sized, element_size, whole_by, joined_by, climb_by, unary_by, named_by, primary_by, indexed, suffix_by, allocated, arguments_by, more_by, step, rank, measure, guard, go, parse, forget, expression, place}
 use Rattle.al_grammar.proofs.StepFacts.{takes_shorter, means_shorter}
 use Rattle.al_grammar.proofs.TypeFacts.{size_shorter}
 
@@ -72,10 +55,12 @@ widen_is zero k ts = let e : k ≡ 0 + k = omega arith in ap (λ q. (q, ts)) e
 widen_is (suc n) k ts = let e : suc (n + k) ≡ suc n + k = omega arith in ap wide (widen_is n k ts) ∙ ap (λ q. (q, ts)) e
 
 pub roomier : {j : g.Sort} {k l : ℕ} {ts us : Tokens} {x : Expr} (n : ℕ) → Reads j (k, ts) x (l, us) → Reads j (n + k, ts) x (n + l, us)
-roomier {j} {k} {l} {ts} {us} {x} n r = subst (λ s. Reads j s x (n + l, us)) (widen_is n k ts) (subst (λ s. Reads j (widen n (k, ts)) x s) (widen_is n l us) (widens n r))
+roomier {j} {k} {l} {ts} {us} {x} n r =
+    subst (λ s. Reads j s x (n + l, us)) (widen_is n k ts) (subst (λ s. Reads j (widen n (k, ts)) x s) (widen_is n l us) (widens n r))
 
 pub roomier_more : {k l : ℕ} {ts us : Tokens} {xs : List Expr} (n : ℕ) → More (k, ts) xs (l, us) → More (n + k, ts) xs (n + l, us)
-roomier_more {k} {l} {ts} {us} {xs} n r = subst (λ s. More s xs (n + l, us)) (widen_is n k ts) (subst (λ s. More (widen n (k, ts)) xs s) (widen_is n l us) (widens_more n r))
+roomier_more {k} {l} {ts} {us} {xs} n r =
+    subst (λ s. More s xs (n + l, us)) (widen_is n k ts) (subst (λ s. More (widen n (k, ts)) xs s) (widen_is n l us) (widens_more n r))
 
 -- ---- each expression takes tokens
 
@@ -97,7 +82,13 @@ mutual
   reads_shorter (g.group t r u) = let a = reads_shorter r in let c = takes_shorter t in let d = takes_shorter u in omega arith
   reads_shorter (g.size z) = size_shorter z
   reads_shorter (g.allocation t u r c z v) =
-      let a = takes_shorter t in let b = takes_shorter u in let d = reads_shorter r in let e = takes_shorter c in let f = size_shorter z in let h = takes_shorter v in omega arith
+      let a = takes_shorter t in
+      let b = takes_shorter u in
+      let d = reads_shorter r in
+      let e = takes_shorter c in
+      let f = size_shorter z in
+      let h = takes_shorter v in
+      omega arith
 
   arguments_shorter : {s s' : State} {xs : List Expr} → Arguments s xs s' → length s'.1 < length s.1
   arguments_shorter (g.none t) = takes_shorter t

@@ -48,7 +48,9 @@ block_some : (z : Bytes) (n : ℕ) (o : Option ℕ) → ((k : ℕ) → o ≡ Som
 block_some z n None h e = absurd cc
 block_some z n (Some k) h e = let same : suc k ≡ n = cc in let within : k ≤ length z = h k refl in omega arith
 
-block_next : (z : Bytes) (n : ℕ) (star slash : Bool) → (slash ≡ true → 1 ≤ length z) → ((k : ℕ) → block_len z ≡ Some k → k ≤ length z) → cond (star && slash) (Some 2) (option_map suc (block_len z)) ≡ Some n → n ≤ suc (length z)
+block_next : (z : Bytes) (n : ℕ) (star slash : Bool)
+    → (slash ≡ true → 1 ≤ length z) → ((k : ℕ) → block_len z ≡ Some k → k ≤ length z) → cond (star && slash) (Some 2) (option_map suc (block_len z)) ≡ Some n
+    → n ≤ suc (length z)
 block_next z n true true one rest e = let same : 2 ≡ n = cc in let some : 1 ≤ length z = one refl in omega arith
 block_next z n true false one rest e = block_some z n (block_len z) rest e
 block_next z n false slash one rest e = block_some z n (block_len z) rest e
@@ -71,7 +73,10 @@ digits_within z = by (is_hexadecimal z) refl
     by true e = run_after_two is_ascii_hexdigit z (second (both_true (slice_index z 0 == 48) (slice_index z 1 == 120 || slice_index z 1 == 88) e).1)
       where
         second : (slice_index z 1 == 120 || slice_index z 1 == 88) ≡ true → 2 ≤ length z
-        second h = let there : 1 < length z = byte_there 1 z (λ none. let zero_byte = ap (λ b. b == 120 || b == 88) none in let no : false ≡ true = sym zero_byte ∙ h in absurd cc) in omega arith
+        second h =
+            let there : 1 < length z = byte_there 1 z
+            (λ none. let zero_byte = ap (λ b. b == 120 || b == 88) none in let no : false ≡ true = sym zero_byte ∙ h in absurd cc) in
+            omega arith
     by false e = prefix_len-le-length is_ascii_digit z
 
 suffix_within : (z : Bytes) (end : ℕ) → end ≤ length z → end + suffix_len (slice_index z end) (slice_index z (end + 1)) ≤ length z
@@ -83,7 +88,8 @@ suffix_within z end within = by (slice_index z end) (slice_index z (end + 1)) (�
         at : (x : Bool) → (a == 108 || a == 76) ≡ x → (y : Bool) → (b == a) ≡ y → end + cond x (cond y 2 1) 0 ≤ length z
         at false e y f = omega arith
         at true e true f =
-            let there : end + 1 < length z = two (λ none. let same = eqb-true b a f in let no : false ≡ true = ap (λ c. c == 108 || c == 76) (sym none ∙ same) ∙ e in absurd cc) in
+            let there : end + 1 < length z = two
+            (λ none. let same = eqb-true b a f in let no : false ≡ true = ap (λ c. c == 108 || c == 76) (sym none ∙ same) ∙ e in absurd cc) in
             omega arith
         at true e false f =
             let there : end < length z = one (λ none. let no : false ≡ true = ap (λ c. c == 108 || c == 76) (sym none) ∙ e in absurd cc) in
@@ -96,7 +102,8 @@ within_number : (line : ℕ) (z : Bytes) (o : Option (ℤ × ℕ)) → number_at
 unfolding number_at
 within_number line z None e = tt
 within_number line z (Some n) e =
-    let is : (pos (number_value (take (number_len z) z)), number_len z) ≡ n = (cond_some (is_number z) (pos (number_value (take (number_len z) z)), number_len z) n e).1 in
+    let is : (pos (number_value (take (number_len z) z)), number_len z) ≡ n =
+    (cond_some (is_number z) (pos (number_value (take (number_len z) z)), number_len z) n e).1 in
     subst (λ (m : ℤ × ℕ). m.1 ≤ length z) is (number_within z)
 
 within_text : (line : ℕ) (z : Bytes) (o : Option ℕ) → inside_len (drop 1 z) ≡ o → Within (length z) (quoted line z o)
@@ -158,7 +165,8 @@ within_pragma start l s z some =
 within_matter : (p : Place) (s : Spot) (z : Bytes) → 1 ≤ length z → NextWithin (length z) (matter_at p s z)
 within_matter (Hash start l) s z some = within_directive start l z
 within_matter (Pragma start l) s z some = within_pragma start l s z some
-within_matter Fresh s z some = either (length z) (slice_index z 0 == 35) _ _ (λ _. some) (within_token (length z) s Inside (lexeme s.line z) (within_lexeme s.line z))
+within_matter Fresh s z some =
+    either (length z) (slice_index z 0 == 35) _ _ (λ _. some) (within_token (length z) s Inside (lexeme s.line z) (within_lexeme s.line z))
 within_matter Inside s z some = within_token (length z) s Inside (lexeme s.line z) (within_lexeme s.line z)
 within_matter Skipped s z some = some
 within_matter Note s z some = within_token (length z) s Note (lexeme s.line z) (within_lexeme s.line z)
@@ -169,7 +177,8 @@ within_next s z some =
     either (length z) (slice_index z 0 == 10) _ _ (λ _. within_line_end (length z) s.place s some)
     (either (length z) (is_blank (slice_index z 0)) _ _ (λ _. some)
     (either (length z) (begins_line_comment z) _ _ (λ e. run_after_two is_on_line z (two_bytes z 47 47 (omega arith) e))
-    (either (length z) (begins_block_comment z) _ _ (λ e. within_closed z s (block_len (drop 2 z)) (two_bytes z 47 42 (omega arith) e) refl) (within_matter s.place s z some))))
+    (either (length z) (begins_block_comment z) _ _ (λ e. within_closed z s (block_len (drop 2 z)) (two_bytes z 47 42 (omega arith) e) refl)
+    (within_matter s.place s z some))))
 
 pub next_within : (s : Spot) (z : Bytes) (n : Next) → 1 ≤ length z → next s z ≡ Ok n → n.len ≤ length z
 next_within s z n some e = subst (λ r. NextWithin (length z) r) e (within_next s z some)

@@ -10,10 +10,14 @@ use Rattle.al_source.specs.declared.source_tree.Expr.{Expr}
 use Rattle.al_source.specs.declared.source_tree.Expr.TheVariants as e
 use Rattle.al_grammar.specs.declared.operators.Joint.{Joint}
 use Rattle.al_grammar.specs.declared.operators.Prefix.{Prefix}
-use Rattle.al_grammar.specs.Operators.{infix_of, levels, join, prefix_of, apply}
+use Rattle.al_source.specs.declared.limits.TheConstants.{EXPRESSION_OPERATORS}
+use Rattle.al_grammar.specs.declared.operators.TheConstants.{LEVELS}
+use Rattle.al_grammar.specs.Operators.{infix_of, join, prefix_of, apply}
 use Rattle.al_grammar.specs.Phrases.{Tokens, Name}
-use Rattle.al_grammar.specs.Expressions.{State, max_operators}
-use Rattle.al_grammar.specs.Steps.{Read, Step, bind, kind_at, mark_at, meaning_at, tail, expect, word}
+use Rattle.al_grammar.specs.Expressions.{State}
+use Rattle.al_source.specs.Steps.{pure}
+use Rattle.al_grammar.specs.Steps
+use Rattle.al_grammar.specs.Steps.{Read, Step, ◌>>=◌, ◌>>◌, skip, kind_at, mark_at, meaning_at, tail, expect, word}
 use Rattle.al_grammar.specs.TypeParser.{operand_type, size_of}
 
 -- What was read and the state after it, or the tokens from the first bad one on.
@@ -22,24 +26,6 @@ Outcome A = Result (A × State) Tokens
 
 abbrev pub Parser : Type 0 → Type 0
 Parser A = State → Outcome A
-
-abbrev pub and_then : {A B : Type 0} → Outcome A → (A → Parser B) → Outcome B
-and_then (Ok p) f = f p.0 p.1
-and_then (Err e) f = Err e
-
-infixl 10 ◌>>=◌
-abbrev pub ◌>>=◌ : {A B : Type 0} → Parser A → (A → Parser B) → Parser B
-p >>= f = λ s. and_then (p s) f
-
-infixl 10 ◌>>◌
-abbrev pub ◌>>◌ : {A B : Type 0} → Parser A → Parser B → Parser B
-p >> q = p >>= (λ _. q)
-
-abbrev pub pure : {A : Type 0} → A → Parser A
-pure x = λ s. Ok (x, s)
-
-abbrev pub refuse : {A : Type 0} → Parser A
-refuse = λ s. Err s.1
 
 abbrev pub keep : {A : Type 0} → ℕ → Read A → Outcome A
 keep n (Ok p) = Ok (p.0, (n, p.1))
@@ -51,7 +37,10 @@ lift p = λ s. keep s.0 (p s.1)
 
 -- takes the next token
 abbrev pub advance : Parser (Unit {0})
-advance = λ s. Ok (tt, (s.0, tail s.1))
+advance = lift skip
+
+abbrev pub refuse : {A : Type 0} → Parser A
+refuse = lift Steps.refuse
 
 abbrev pub spend_by : ℕ → Tokens → Outcome (Unit {0})
 spend_by zero ts = Err ts
@@ -89,7 +78,7 @@ sized = spend >> lift operand_type >>= λ a. pure (e.SizeOf a)
 
 -- the second argument of `calloc`, with the `,` before and the `)` behind
 abbrev pub element_size : Step CType
-element_size = λ ts. bind (expect m.Comma ts) (λ _ us. bind (size_of us) (λ a vs. bind (expect m.RightParen vs) (λ _ ws. Ok (a, ws))))
+element_size = expect m.Comma >> size_of >>= λ a. expect m.RightParen >> pure a
 
 -- The steps, where N reads what nests.
 module _ (N : Job → Parser Expr) where
@@ -122,7 +111,10 @@ module _ (N : Job → Parser Expr) where
   grouped = spend >> N (whole 0) >>= λ x. lift (expect m.RightParen) >> pure x
 
   abbrev pub allocated : Parser Expr
-  allocated = spend_two >> lift (expect m.LeftParen) >> N (whole 0) >>= λ x. lift element_size >>= λ a. pure (e.Calloc x a)
+  allocated =
+      spend_two >> lift (expect m.LeftParen) >> N (whole 0) >>= λ x.
+      lift element_size >>= λ a.
+      pure (e.Calloc x a)
 
   abbrev pub primary_by : Option TokenKind → Parser Expr
   primary_by (Some (Number v)) = advance >> pure (e.Number v)
@@ -152,7 +144,7 @@ module _ (N : Job → Parser Expr) where
   more_by w xs _ = refuse
 
   abbrev pub step : Job → Parser Expr
-  step (whole l) = whole_by l (nat_lt l levels)
+  step (whole l) = whole_by l (nat_lt l LEVELS)
   step (climb l x) = λ s. climb_by l x (meaning_at infix_of s.1) s
   step unary = λ s. unary_by (meaning_at prefix_of s.1) s
   step postfix = N primary >>= λ x. N (suffix x)
@@ -165,7 +157,7 @@ module _ (N : Job → Parser Expr) where
 abbrev pub rank : Job → ℕ
 rank (arguments w) = 15
 rank (more w xs) = 14
-rank (whole l) = 3 + (levels - l)
+rank (whole l) = 3 + (LEVELS - l)
 rank unary = 2
 rank postfix = 1
 rank primary = 0
@@ -194,7 +186,7 @@ forget (Ok p) = Ok (p.0, p.1.1)
 forget (Err e) = Err e
 
 abbrev pub expression : Step Expr
-expression = λ ts. forget (parse (whole 0) (max_operators, ts))
+expression = λ ts. forget (parse (whole 0) (EXPRESSION_OPERATORS, ts))
 
 abbrev pub place : Step Expr
-place = λ ts. forget (parse unary (max_operators, ts))
+place = λ ts. forget (parse unary (EXPRESSION_OPERATORS, ts))

@@ -66,7 +66,10 @@ number_len z = let end = digits_end z in end + suffix_len (slice_index z end) (s
 
 -- the value of a number's bytes
 abbrev pub number_value : Bytes → ℕ
-number_value z = if is_hexadecimal z then value_in 16 (slice_range z 2 (digits_end z)) else value_in 10 (slice_range z 0 (digits_end z))
+number_value z =
+    if is_hexadecimal z
+    then value_in 16 (slice_range z 2 (digits_end z))
+    else value_in 10 (slice_range z 0 (digits_end z))
 
 -- `0x` with a digit, or decimal digits of which the first is 0 only where it is the last
 abbrev pub has_digits : Bytes → Bool
@@ -77,7 +80,10 @@ abbrev pub spoils_number : ℕ → Bool
 spoils_number b = is_word b || b == 46
 
 abbrev pub is_number : Bytes → Bool
-is_number z = has_digits z && not (spoils_number (slice_index z (number_len z))) && nat_le (number_value (take (number_len z) z)) 9223372036854775807
+is_number z =
+    has_digits z
+    && not (spoils_number (slice_index z (number_len z)))
+    && nat_le (number_value (take (number_len z) z)) 9223372036854775807
 
 -- the number at the front, if it is one of the language, and its length
 unfoldable pub number_at : Bytes → Option (ℤ × ℕ)
@@ -86,16 +92,26 @@ number_at z = if is_number z then Some (pos (number_value (take (number_len z) z
 -- ---- texts
 
 abbrev pub escaped : ℕ → Option ℕ
-escaped b = if b == 110 then Some 10 else (if b == 116 then Some 9 else (if b == 92 then Some 92 else (if b == 34 then Some 34 else None)))
+escaped b =
+    if b == 110 then Some 10 else
+    if b == 116 then Some 9 else
+    if b == 92 then Some 92 else
+    if b == 34 then Some 34 else
+    None
 
--- What stands at the front of a text's inside: its length, and the byte that it means, or None where an argument is printed.
+-- What stands at the front of a text's inside: its length, and the byte that it means, or None where an argument is
+-- printed.
 abbrev pub TextUnit : Type 0
 TextUnit = ℕ × Option ℕ
 
 -- `%%`, `%d`, `%ld` or `%lld`, by the three bytes after the `%`
 abbrev pub conversion : ℕ → ℕ → ℕ → Option TextUnit
-conversion a b c = if a == 37 then Some (2, Some 37) else (if a == 100 then Some (2, None)
-    else (if a == 108 && b == 100 then Some (3, None) else (if a == 108 && b == 108 && c == 100 then Some (4, None) else None)))
+conversion a b c =
+    if a == 37 then Some (2, Some 37) else
+    if a == 100 then Some (2, None) else
+    if a == 108 && b == 100 then Some (3, None) else
+    if a == 108 && b == 108 && c == 100 then Some (4, None) else
+    None
 
 abbrev pub escape_unit : Option ℕ → Option TextUnit
 escape_unit None = None
@@ -104,9 +120,10 @@ escape_unit (Some b) = Some (2, Some b)
 unfoldable pub unit_at : Bytes → Option TextUnit
 unit_at z =
     let b = slice_index z 0 in
-    if b == 92 then escape_unit (escaped (slice_index z 1))
-    else (if b == 37 then conversion (slice_index z 1) (slice_index z 2) (slice_index z 3)
-    else (if is_plain b then Some (1, Some b) else None))
+    if b == 92 then escape_unit (escaped (slice_index z 1)) else
+    if b == 37 then conversion (slice_index z 1) (slice_index z 2) (slice_index z 3) else
+    if is_plain b then Some (1, Some b) else
+    None
 
 -- The length of a text's inside, up to the closing quote. The number counts the bytes that are left of a unit.
 abbrev pub inside_from : ℕ → Bytes → Option ℕ
@@ -132,7 +149,11 @@ before_unit (Some b) ps = before_byte b ps
 abbrev pub format_from : ℕ → Bytes → List Piece
 format_from left [] = []
 format_from (suc left) (b ∷ z) = format_from left z
-format_from zero (b ∷ z) = elim (unit_at (b ∷ z)) [ None ↦ format_from 0 z | Some u ↦ before_unit u.1 (format_from (u.0 - 1) z) ]
+format_from zero (b ∷ z) =
+    elim (unit_at (b ∷ z)) [
+      | None ↦ format_from 0 z
+      | Some u ↦ before_unit u.1 (format_from (u.0 - 1) z)
+    ]
 
 unfoldable pub format_of : Bytes → List Piece
 format_of = format_from 0
@@ -168,4 +189,7 @@ marked line (Some m) = Ok (kind.Mark m, length (mark_text m))
 unfoldable pub lexeme : ℕ → Bytes → Result Lexeme LexFault
 lexeme line z =
     let b = slice_index z 0 in
-    if is_letter b then Ok (name z) else (if is_ascii_digit b then number line z else (if b == 34 then text line z else marked line (mark_at z)))
+    if is_letter b then Ok (name z) else
+    if is_ascii_digit b then number line z else
+    if b == 34 then text line z else
+    marked line (mark_at z)

@@ -1,5 +1,5 @@
 -- What a single token says in an expression, a statement or an annotation.
-use Rattle.std.specs.Prelude.{ℕ, Bool, true, false, List, Option, Some, None, if◌then◌else◌, codes}
+use Rattle.std.specs.Prelude.{ℕ, List, Option, Some, None, if◌then◌else◌, codes}
 use Rattle.std.specs.Str.{bytes_eq}
 use Rattle.al_source.specs.declared.tokens.TokenKind.{TokenKind}
 use Rattle.al_source.specs.declared.tokens.TokenKind.TheVariants.{Word, Mark}
@@ -18,10 +18,6 @@ use Rattle.al_grammar.specs.declared.operators.Prefix.{Prefix}
 use Rattle.al_grammar.specs.declared.operators.Prefix.TheVariants as prefix
 use Rattle.al_grammar.specs.declared.operators.NoteWord.{NoteWord}
 use Rattle.al_grammar.specs.declared.operators.NoteWord.TheVariants as note
-
--- how many levels of binary operators there are
-abbrev pub levels : ℕ
-levels = 10
 
 -- a binary operator's level, from 0, the loosest, and what it makes of its operands (C99 6.5.5 to 6.5.14)
 abbrev pub infix_of : TokenKind → Option (ℕ × Joint)

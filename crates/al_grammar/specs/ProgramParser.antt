@@ -1,11 +1,9 @@
 -- The parser of items and of programs, as a function on lists.
-use Rattle.std.specs.Prelude.{ℕ, pos, neg_ℤ, ℤ, Bool, true, false, ◌&&◌, List, [], ◌∷◌, ◌++◌, Option, Some, None, Ok}
-use Rattle.al_source.specs.declared.tokens.Token.{Token}
+use Rattle.std.specs.Prelude.{ℕ, pos, neg_ℤ, Bool, true, false, ◌&&◌, List, [], ◌∷◌, ◌++◌, Option, Some, Ok}
 use Rattle.al_source.specs.declared.tokens.TokenKind.{TokenKind}
 use Rattle.al_source.specs.declared.tokens.TokenKind.TheVariants.{Number, Key, Mark}
 use Rattle.al_source.specs.declared.tokens.Mark as the_mark
 use Rattle.al_source.specs.declared.tokens.Mark.TheVariants as m
-use Rattle.al_source.specs.declared.tokens.Key as the_key
 use Rattle.al_source.specs.declared.tokens.Key.TheVariants as key
 use Rattle.al_source.specs.declared.source_tree.CType.{CType}
 use Rattle.al_source.specs.declared.source_tree.CType.TheVariants as type
@@ -16,9 +14,10 @@ use Rattle.al_source.specs.declared.source_tree.Stmt.{Stmt}
 use Rattle.al_source.specs.declared.source_tree.Item.{Item}
 use Rattle.al_source.specs.declared.source_tree.Item.TheVariants as item
 use Rattle.al_grammar.specs.Phrases.{Tokens, Name, line_at}
-use Rattle.al_grammar.specs.Types.{max_stars}
-use Rattle.al_grammar.specs.Programs.{max_nesting, global}
-use Rattle.al_grammar.specs.Steps.{Read, Step, bind, ◌>>=◌, ◌>>◌, pure, refuse, skip, kind_at, mark_at, key_at, is_mark, is_key, tail, expect, expect_key, word, repeat}
+use Rattle.al_source.specs.declared.limits.TheConstants.{DECLARATOR_STARS, STATEMENT_NESTING}
+use Rattle.al_source.specs.Steps.{bind, pure}
+use Rattle.al_grammar.specs.Programs.{global}
+use Rattle.al_grammar.specs.Steps.{Step, ◌>>=◌, ◌>>◌, refuse, skip, kind_at, mark_at, is_mark, is_key, tail, expect, expect_key, word, repeat}
 use Rattle.al_grammar.specs.TypeParser.{base, stars, declarator}
 use Rattle.al_grammar.specs.StatementParser.{braced, statement}
 
@@ -41,10 +40,14 @@ abbrev pub field_turn : List Field → Step (List Field × Bool)
 field_turn fs = field_line fs >>= λ all. λ ts. pure (all, is_mark m.RightBrace ts) ts
 
 abbrev pub struct_body : Step (Name × List Field)
-struct_body = expect_key key.Struct >> word >>= λ w. expect m.LeftBrace >> repeat field_turn [] >>= λ fs. expect m.RightBrace >> expect m.Semicolon >> pure (w, fs)
+struct_body =
+    expect_key key.Struct >> word >>= λ w.
+    expect m.LeftBrace >> repeat field_turn [] >>= λ fs.
+    expect m.RightBrace >> expect m.Semicolon >> pure (w, fs)
 
 abbrev pub structure : Step Item
-structure = λ ts. bind (struct_body ts) (λ p. pure (item.Struct (record { name = p.0; fields = p.1; line = line_at ts })))
+structure =
+    λ ts. bind (struct_body ts) (λ p. pure (item.Struct (record { name = p.0; fields = p.1; line = line_at ts })))
 
 -- ---- globals
 
@@ -72,12 +75,15 @@ global_by is _ = refuse
 
 -- one declared name, with the mark behind it
 abbrev pub global_name : ℕ → CType → List Item → Step (List Item × Bool)
-global_name line a is = declarator a >>= λ f. starts >>= λ s. λ ts. global_by (is ++ global line f s ∷ []) (mark_at ts) ts
+global_name line a is =
+    declarator a >>= λ f.
+    starts >>= λ s.
+    λ ts. global_by (is ++ global line f s ∷ []) (mark_at ts) ts
 
 -- ---- functions
 
 abbrev pub param : Step Field
-param = base >>= λ a. stars max_stars a >>= λ b. word >>= λ w. pure (record { name = w; ty = b })
+param = base >>= λ a. stars DECLARATOR_STARS a >>= λ b. word >>= λ w. pure (record { name = w; ty = b })
 
 abbrev pub param_by : List Field → Option the_mark.Mark → Step (List Field × Bool)
 param_by fs (Some m.Comma) = skip >> pure (fs, false)
@@ -96,11 +102,16 @@ abbrev pub params : Step (List Field)
 params = λ ts. params_by (kind_at ts) ts
 
 abbrev pub body : Step (List Stmt)
-body = expect m.LeftBrace >> braced max_nesting (statement max_nesting)
+body = expect m.LeftBrace >> braced STATEMENT_NESTING (statement STATEMENT_NESTING)
 
 -- after the result's type without stars
 abbrev pub function : ℕ → CType → Step Item
-function line a = stars max_stars a >>= λ b. word >>= λ w. expect m.LeftParen >> params >>= λ fs. body >>= λ ss. pure (item.Func (record { name = w; result = b; params = fs; body = ss; line = line }))
+function line a =
+    stars DECLARATOR_STARS a >>= λ b.
+    word >>= λ w.
+    expect m.LeftParen >> params >>= λ fs.
+    body >>= λ ss.
+    pure (item.Func (record { name = w; result = b; params = fs; body = ss; line = line }))
 
 abbrev pub past_by : Bool → Tokens → Tokens → Tokens
 past_by true past here = past

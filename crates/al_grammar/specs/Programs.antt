@@ -13,18 +13,16 @@ use Rattle.al_source.specs.declared.source_tree.Item.{Item}
 use Rattle.al_source.specs.declared.source_tree.Item.TheVariants as item
 use Rattle.al_source.specs.declared.source_tree.Program.{Program}
 use Rattle.al_grammar.specs.Phrases.{Tokens, Name, Takes, line_at}
-use Rattle.al_grammar.specs.Types.{Base, Stars, max_stars, Declarator}
+use Rattle.al_source.specs.declared.limits.TheConstants.{DECLARATOR_STARS, STATEMENT_NESTING}
+use Rattle.al_grammar.specs.Types.{Base, Stars, Declarator}
 use Rattle.al_grammar.specs.Statements.{Inners}
-
--- how deep the statements of a function may nest
-abbrev pub max_nesting : ℕ
-max_nesting = 128
 
 -- ---- structs
 
 -- the names of one field line, to its `;`
 pub data FieldNames (a : CType) : Tokens → List Field → Tokens → Type 0 where
-  last : {ts us vs : Tokens} {f : Field} → Declarator a ts f us → Takes (Mark m.Semicolon) us vs → FieldNames a ts (f ∷ []) vs
+  last : {ts us vs : Tokens} {f : Field}
+      → Declarator a ts f us → Takes (Mark m.Semicolon) us vs → FieldNames a ts (f ∷ []) vs
   more : {ts us vs ws : Tokens} {f : Field} {fs : List Field}
       → Declarator a ts f us → Takes (Mark m.Comma) us vs → FieldNames a vs fs ws → FieldNames a ts (f ∷ fs) ws
 
@@ -39,9 +37,11 @@ pub data Fields : Tokens → List Field → Tokens → Type 0 where
 -- gdecl: what is behind the declared name. The number of a token is not negative.
 pub data Starts : Tokens → Start → Tokens → Type 0 where
   nothing : {ts : Tokens} → Starts ts start.Zero ts
-  number : {ts us vs : Tokens} {v : ℤ} → Takes (Mark m.Assign) ts us → Takes (Number v) us vs → Starts ts (start.Number v) vs
+  number : {ts us vs : Tokens} {v : ℤ}
+      → Takes (Mark m.Assign) ts us → Takes (Number v) us vs → Starts ts (start.Number v) vs
   negative : {ts us vs ws : Tokens} {n : ℕ}
-      → Takes (Mark m.Assign) ts us → Takes (Mark m.Minus) us vs → Takes (Number (pos n)) vs ws → Starts ts (start.Number (neg_ℤ (pos n))) ws
+      → Takes (Mark m.Assign) ts us → Takes (Mark m.Minus) us vs → Takes (Number (pos n)) vs ws
+      → Starts ts (start.Number (neg_ℤ (pos n))) ws
   null : {ts us vs : Tokens} → Takes (Mark m.Assign) ts us → Takes (Key key.Null) us vs → Starts ts start.Null vs
 
 -- the global of this line
@@ -51,9 +51,11 @@ global line f s = item.Global (record { name = f.name; ty = f.ty; start = s; lin
 -- the declared names, to the `;`: a global for each, of one line
 pub data Globals (line : ℕ) (a : CType) : Tokens → List Item → Tokens → Type 0 where
   last : {ts us vs ws : Tokens} {f : Field} {s : Start}
-      → Declarator a ts f us → Starts us s vs → Takes (Mark m.Semicolon) vs ws → Globals line a ts (global line f s ∷ []) ws
+      → Declarator a ts f us → Starts us s vs → Takes (Mark m.Semicolon) vs ws
+      → Globals line a ts (global line f s ∷ []) ws
   more : {ts us vs ws zs : Tokens} {f : Field} {s : Start} {is : List Item}
-      → Declarator a ts f us → Starts us s vs → Takes (Mark m.Comma) vs ws → Globals line a ws is zs → Globals line a ts (global line f s ∷ is) zs
+      → Declarator a ts f us → Starts us s vs → Takes (Mark m.Comma) vs ws → Globals line a ws is zs
+      → Globals line a ts (global line f s ∷ is) zs
 
 -- ---- functions
 
@@ -64,7 +66,8 @@ pub data ResultBase : Tokens → CType → Tokens → Type 0 where
 
 pub data Param : Tokens → Field → Tokens → Type 0 where
   param : {ts us vs ws : Tokens} {a b : CType} {w : Name}
-      → Base ts a us → Stars max_stars a us b vs → Takes (Word w) vs ws → Param ts (record { name = w; ty = b }) ws
+      → Base ts a us → Stars DECLARATOR_STARS a us b vs → Takes (Word w) vs ws
+      → Param ts (record { name = w; ty = b }) ws
 
 -- at least one parameter, to the `)`
 pub data ParamList : Tokens → List Field → Tokens → Type 0 where
@@ -86,10 +89,12 @@ pub data Items : Tokens → List Item → Tokens → Type 0 where
       → Takes (Key key.Struct) t₀ t₁ → Takes (Word w) t₁ t₂ → Takes (Mark m.LeftBrace) t₂ t₃ → Fields t₃ fs t₄
       → Takes (Mark m.RightBrace) t₄ t₅ → Takes (Mark m.Semicolon) t₅ t₆
       → Items t₀ (item.Struct (record { name = w; fields = fs; line = line_at t₀ }) ∷ []) t₆
-  globals : {ts us vs : Tokens} {a : CType} {is : List Item} → Base ts a us → Globals (line_at ts) a us is vs → Items ts is vs
+  globals : {ts us vs : Tokens} {a : CType} {is : List Item}
+      → Base ts a us → Globals (line_at ts) a us is vs → Items ts is vs
   function : {t₀ t₁ t₂ t₃ t₄ t₅ t₆ t₇ t₈ : Tokens} {a b : CType} {w : Name} {fs : List Field} {ss : List Stmt}
-      → ResultBase t₀ a t₁ → Stars max_stars a t₁ b t₂ → Takes (Word w) t₂ t₃ → Takes (Mark m.LeftParen) t₃ t₄ → Params t₄ fs t₅
-      → Takes (Mark m.LeftBrace) t₅ t₆ → Inners max_nesting t₆ ss t₇ → Takes (Mark m.RightBrace) t₇ t₈
+      → ResultBase t₀ a t₁ → Stars DECLARATOR_STARS a t₁ b t₂ → Takes (Word w) t₂ t₃ → Takes (Mark m.LeftParen) t₃ t₄
+      → Params t₄ fs t₅
+      → Takes (Mark m.LeftBrace) t₅ t₆ → Inners STATEMENT_NESTING t₆ ss t₇ → Takes (Mark m.RightBrace) t₇ t₈
       → Items t₀ (item.Func (record { name = w; result = b; params = fs; body = ss; line = line_at t₀ }) ∷ []) t₈
 
 pub data AllItems : Tokens → List Item → Type 0 where

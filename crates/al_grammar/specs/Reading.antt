@@ -16,7 +16,10 @@ abbrev pub reading_from : ℕ → Spot → Bytes → Result (List Token) LexFaul
 reading_from left s [] = end_at s.place s
 reading_from (suc left) s (b ∷ z) = reading_from left s z
 reading_from zero s (b ∷ z) =
-    elim (next s (b ∷ z)) [ Err fault ↦ Err fault | Ok n ↦ with_front (option_to_list n.token) (reading_from (n.len - 1) (spot_after s (b ∷ z) n) z) ]
+    elim (next s (b ∷ z)) [
+      | Err fault ↦ Err fault
+      | Ok n ↦ with_front (option_to_list n.token) (reading_from (n.len - 1) (spot_after s (b ∷ z) n) z)
+    ]
 
 unfoldable pub reading : Bytes → Result (List Token) LexFault
 reading = reading_from 0 first_spot

@@ -49,21 +49,24 @@ closed s (Some len) = gap len s.place
 abbrev pub directive : ℕ → ℕ → Bytes → Result Next LexFault
 directive start line z =
     let word = take (name_len z) z in
-    if bytes_eq word (codes "include") then gap (length word) Skipped
-    else (if bytes_eq word (codes "pragma") then gap (length word) (Pragma start line) else Err (BadByte line))
+    if bytes_eq word (codes "include") then gap (length word) Skipped else
+    if bytes_eq word (codes "pragma") then gap (length word) (Pragma start line) else
+    Err (BadByte line)
 
 -- `alter` begins an annotation, and anything else after `pragma` skips the line.
 abbrev pub pragma : ℕ → ℕ → Spot → Bytes → Result Next LexFault
 pragma start line s z =
     let word = take (name_len z) z in
-    if bytes_eq word (codes "alter") then Ok (record { len = length word; token = Some (token_from start line (s.at + length word) kind.Alter); place = Note })
-    else gap 1 Skipped
+    let front = token_from start line (s.at + length word) kind.Alter in
+    if bytes_eq word (codes "alter") then Ok (record { len = length word; token = Some front; place = Note }) else
+    gap 1 Skipped
 
 -- ---- tokens
 
 abbrev pub token_at : Spot → Place → Result Lexeme LexFault → Result Next LexFault
 token_at s place (Err fault) = Err fault
-token_at s place (Ok t) = Ok (record { len = t.1; token = Some (token_from s.at s.line (s.at + t.1) t.0); place = place })
+token_at s place (Ok t) =
+    Ok (record { len = t.1; token = Some (token_from s.at s.line (s.at + t.1) t.0); place = place })
 
 -- what stands next where no blank and no comment does
 abbrev pub matter_at : Place → Spot → Bytes → Result Next LexFault
@@ -80,9 +83,11 @@ matter_at Note s z = token_at s Note (lexeme s.line z)
 unfoldable pub next : Spot → Bytes → Result Next LexFault
 next s z =
     let b = slice_index z 0 in
-    if b == 10 then line_end_at s.place s else (if is_blank b then gap 1 s.place
-    else (if begins_line_comment z then gap (line_comment_len z) s.place
-    else (if begins_block_comment z then closed s (block_comment_len z) else matter_at s.place s z)))
+    if b == 10 then line_end_at s.place s else
+    if is_blank b then gap 1 s.place else
+    if begins_line_comment z then gap (line_comment_len z) s.place else
+    if begins_block_comment z then closed s (block_comment_len z) else
+    matter_at s.place s z
 
 -- the spot after what stood next
 abbrev pub spot_after : Spot → Bytes → Next → Spot
@@ -91,7 +96,9 @@ spot_after s z n = record { at = s.at + n.len; line = s.line + line_feeds (take 
 -- From a spot on, these bytes spell the tokens: at each turn what stands next is taken, which is a byte at least.
 pub data SpellsFrom : Spot → Bytes → List Token → Type 0 where
   ends : {s : Spot} {ts : List Token} → end_at s.place s ≡ Ok ts → SpellsFrom s [] ts
-  goes : {s : Spot} {b : ℕ} {z : Bytes} {n : Next} {ts : List Token} → next s (b ∷ z) ≡ Ok n → SpellsFrom (spot_after s (b ∷ z) n) (drop (n.len - 1) z) ts → SpellsFrom s (b ∷ z) (option_to_list n.token ++ ts)
+  goes : {s : Spot} {b : ℕ} {z : Bytes} {n : Next} {ts : List Token}
+      → next s (b ∷ z) ≡ Ok n → SpellsFrom (spot_after s (b ∷ z) n) (drop (n.len - 1) z) ts
+      → SpellsFrom s (b ∷ z) (option_to_list n.token ++ ts)
 
 abbrev pub first_spot : Spot
 first_spot = record { at = 0; line = 1; place = Fresh }
@@ -107,7 +114,11 @@ fault_of (Err fault) = Some fault
 abbrev pub fault_from : ℕ → Spot → Bytes → Option LexFault
 fault_from left s [] = fault_of (end_at s.place s)
 fault_from (suc left) s (b ∷ z) = fault_from left s z
-fault_from zero s (b ∷ z) = elim (next s (b ∷ z)) [ Err fault ↦ Some fault | Ok n ↦ fault_from (n.len - 1) (spot_after s (b ∷ z) n) z ]
+fault_from zero s (b ∷ z) =
+    elim (next s (b ∷ z)) [
+      | Err fault ↦ Some fault
+      | Ok n ↦ fault_from (n.len - 1) (spot_after s (b ∷ z) n) z
+    ]
 
 -- The first fault of a source that spells no tokens.
 unfoldable pub first_lexical_fault : Bytes → Option LexFault

@@ -25,7 +25,9 @@ use Rattle.al_grammar.specs.declared.operators.NoteWord.TheVariants as note
 use Rattle.al_grammar.specs.Operators.{update_of, step_of, note_word_of}
 use Rattle.al_grammar.specs.Phrases.{Tokens, Name, line_at}
 use Rattle.al_grammar.specs.Statements.{statement_of, at, one, reduced, else_next}
-use Rattle.al_grammar.specs.Steps.{Read, Step, bind, ◌>>=◌, ◌>>◌, pure, refuse, skip, kind_at, mark_at, key_at, meaning_at, is_mark, expect, expect_key, word, repeat}
+use Rattle.al_source.specs.Steps.{bind, pure}
+use Rattle.al_grammar.specs.Words.{key_text}
+use Rattle.al_grammar.specs.Steps.{Read, Step, ◌>>=◌, ◌>>◌, refuse, skip, kind_at, mark_at, key_at, meaning_at, is_mark, expect, expect_key, word, repeat}
 use Rattle.al_grammar.specs.TypeParser.{base, declarator}
 use Rattle.al_grammar.specs.ExpressionParser.{expression, place}
 
@@ -68,6 +70,14 @@ text = λ ts. text_by (kind_at ts) ts
 -- after the `printf`
 abbrev pub print : Step StmtKind
 print = expect m.LeftParen >> text >>= λ f. print_values >>= λ xs. pure (kind.Print f xs)
+
+-- an expression in parentheses
+abbrev pub parenthesized : Step Expr
+parenthesized = expect m.LeftParen >> expression >>= λ x. expect m.RightParen >> pure x
+
+-- after the `free`
+abbrev pub free : Step StmtKind
+free = parenthesized >>= λ x. pure (kind.Call (key_text key.Free) (x ∷ []))
 
 abbrev pub call_end_by : StmtKind → Option the_mark.Mark → Step StmtKind
 call_end_by k (Some m.Semicolon) = pure k
@@ -125,6 +135,7 @@ before_by None = placed
 abbrev pub simple_by : Option TokenKind → Step StmtKind
 simple_by (Some (Word w)) = or_else (call w) placed
 simple_by (Some (Key key.Printf)) = skip >> print
+simple_by (Some (Key key.Free)) = skip >> free
 simple_by _ = λ ts. before_by (meaning_at step_of ts) ts
 
 abbrev pub simple : Step StmtKind
@@ -174,7 +185,11 @@ abbrev pub reduce_turn : List NamedRed → Step (List NamedRed × Bool)
 reduce_turn rs = λ ts. reduce_by rs (meaning_at note_word_of ts) ts
 
 abbrev pub loop_note : Step LoopNote
-loop_note = note_policy >>= λ p. note_order >>= λ o. repeat reduce_turn [] >>= λ rs. pure (record { policy = p; order = o; reduce = rs })
+loop_note =
+    note_policy >>= λ p.
+    note_order >>= λ o.
+    repeat reduce_turn [] >>= λ rs.
+    pure (record { policy = p; order = o; reduce = rs })
 
 abbrev pub end_note_by : Option TokenKind → Step (Unit {0})
 end_note_by (Some EndAlter) = skip
@@ -204,7 +219,11 @@ begins_base (Some key.Struct) = true
 begins_base _ = false
 
 abbrev pub first_declaration : Step StmtKind
-first_declaration = base >>= λ a. declarator a >>= λ f. expect m.Assign >> expression >>= λ x. pure (kind.Declare f.ty f.name (Some x))
+first_declaration =
+    base >>= λ a.
+    declarator a >>= λ f.
+    expect m.Assign >> expression >>= λ x.
+    pure (kind.Declare f.ty f.name (Some x))
 
 abbrev pub first_kind : Bool → Step StmtKind
 first_kind true = first_declaration
@@ -229,10 +248,11 @@ Head = Option Stmt × Option Expr × Option Stmt
 
 -- from the `for` to the `)`
 abbrev pub head : Step Head
-head = expect_key key.For >> expect m.LeftParen >> first_part >>= λ a. expect m.Semicolon >> maybe >>= λ b. expect m.Semicolon >> third_part >>= λ c. expect m.RightParen >> pure (a, b, c)
-
-abbrev pub condition : Step Expr
-condition = expect m.LeftParen >> expression >>= λ x. expect m.RightParen >> pure x
+head =
+    expect_key key.For >> expect m.LeftParen >> first_part >>= λ a.
+    expect m.Semicolon >> maybe >>= λ b.
+    expect m.Semicolon >> third_part >>= λ c.
+    expect m.RightParen >> pure (a, b, c)
 
 -- ---- declarations
 
@@ -250,7 +270,10 @@ local_by ss _ = refuse
 
 -- one declared name, with the mark behind it
 abbrev pub local : ℕ → CType → List Stmt → Step (List Stmt × Bool)
-local line a ss = declarator a >>= λ f. initializer >>= λ x. λ ts. local_by (ss ++ statement_of line (kind.Declare f.ty f.name x) ∷ []) (mark_at ts) ts
+local line a ss =
+    declarator a >>= λ f.
+    initializer >>= λ x.
+    λ ts. local_by (ss ++ statement_of line (kind.Declare f.ty f.name x) ∷ []) (mark_at ts) ts
 
 -- a whole declaration, behind those that were read before
 abbrev pub declaration : List Stmt → Step (List Stmt)
@@ -294,10 +317,10 @@ module _ (d : ℕ) (nested : Step Stmt) where
   else_by c x false = pure (kind.If c x None)
 
   abbrev pub branch : Step StmtKind
-  branch = gate d >> skip >> condition >>= λ c. nested >>= λ x. λ ts. else_by c x (else_next ts) ts
+  branch = gate d >> skip >> parenthesized >>= λ c. nested >>= λ x. λ ts. else_by c x (else_next ts) ts
 
   abbrev pub while_loop : Step StmtKind
-  while_loop = gate d >> skip >> condition >>= λ c. nested >>= λ x. pure (kind.While c x)
+  while_loop = gate d >> skip >> parenthesized >>= λ c. nested >>= λ x. pure (kind.While c x)
 
   -- from the `for` on
   abbrev pub for_loop : Option LoopNote → Step StmtKind

@@ -23,6 +23,7 @@ use Rattle.al_source.specs.declared.source_tree.StmtKind.TheVariants as kind
 use Rattle.al_grammar.specs.declared.operators.NoteWord.TheVariants as word
 use Rattle.al_grammar.specs.Operators.{update_of, step_of, note_word_of}
 use Rattle.al_grammar.specs.Phrases.{Tokens, Name, Takes, Means, line_at}
+use Rattle.al_grammar.specs.Words.{key_text}
 use Rattle.al_grammar.specs.Types.{Base, Declarator}
 use Rattle.al_grammar.specs.Expressions.{Expression, Place}
 
@@ -56,6 +57,11 @@ pub data PrintValues : Tokens → List Expr → Tokens → Type 0 where
   none : {ts us : Tokens} → Takes (Mark m.RightParen) ts us → PrintValues ts [] us
   some : {ts us vs : Tokens} {xs : List Expr} → Takes (Mark m.Comma) ts us → Values us xs vs → PrintValues ts xs vs
 
+-- an expression in parentheses
+pub data Parenthesized : Tokens → Expr → Tokens → Type 0 where
+  parenthesized : {ts us vs ws : Tokens} {x : Expr}
+      → Takes (Mark m.LeftParen) ts us → Expression us x vs → Takes (Mark m.RightParen) vs ws → Parenthesized ts x ws
+
 -- ---- simple: a statement without its `;`
 
 pub data Simple : Tokens → StmtKind → Tokens → Type 0 where
@@ -63,12 +69,18 @@ pub data Simple : Tokens → StmtKind → Tokens → Type 0 where
       → Place ts x us → Takes (Mark m.Assign) us vs → Expression vs y ws → Simple ts (kind.Assign x y) ws
   update : {ts us vs ws : Tokens} {x y : Expr} {op : BinOp}
       → Place ts x us → Means update_of op us vs → Expression vs y ws → Simple ts (kind.Update op x y) ws
-  step_after : {ts us vs : Tokens} {x : Expr} {op : BinOp} → Place ts x us → Means step_of op us vs → Simple ts (kind.Update op x one) vs
-  step_before : {ts us vs : Tokens} {x : Expr} {op : BinOp} → Means step_of op ts us → Place us x vs → Simple ts (kind.Update op x one) vs
+  step_after : {ts us vs : Tokens} {x : Expr} {op : BinOp}
+      → Place ts x us → Means step_of op us vs → Simple ts (kind.Update op x one) vs
+  step_before : {ts us vs : Tokens} {x : Expr} {op : BinOp}
+      → Means step_of op ts us → Place us x vs → Simple ts (kind.Update op x one) vs
   call : {ts us vs ws : Tokens} {w : Name} {xs : List Expr}
       → Takes (Word w) ts us → Takes (Mark m.LeftParen) us vs → CallValues vs xs ws → Simple ts (kind.Call w xs) ws
   print : {ts us vs ws zs : Tokens} {f : List Piece} {xs : List Expr}
-      → Takes (Key key.Printf) ts us → Takes (Mark m.LeftParen) us vs → Takes (Text f) vs ws → PrintValues ws xs zs → Simple ts (kind.Print f xs) zs
+      → Takes (Key key.Printf) ts us → Takes (Mark m.LeftParen) us vs → Takes (Text f) vs ws → PrintValues ws xs zs
+      → Simple ts (kind.Print f xs) zs
+  -- in the tree a call of the name `free`, which no function can have
+  free : {ts us vs : Tokens} {x : Expr}
+      → Takes (Key key.Free) ts us → Parenthesized us x vs → Simple ts (kind.Call (key_text key.Free) (x ∷ [])) vs
 
 -- ---- note: what stands between the ends of an annotation
 
@@ -86,21 +98,24 @@ reduced op w = record { op = op; name = w }
 
 -- the variables of one `reduce`, to its `)`
 pub data Reduced (op : RedOp) : Tokens → List NamedRed → Tokens → Type 0 where
-  last : {ts us vs : Tokens} {w : Name} → Takes (Word w) ts us → Takes (Mark m.RightParen) us vs → Reduced op ts (reduced op w ∷ []) vs
+  last : {ts us vs : Tokens} {w : Name}
+      → Takes (Word w) ts us → Takes (Mark m.RightParen) us vs → Reduced op ts (reduced op w ∷ []) vs
   more : {ts us vs ws : Tokens} {w : Name} {xs : List NamedRed}
       → Takes (Word w) ts us → Takes (Mark m.Comma) us vs → Reduced op vs xs ws → Reduced op ts (reduced op w ∷ xs) ws
 
 pub data Reductions : Tokens → List NamedRed → Tokens → Type 0 where
   none : {ts : Tokens} → Reductions ts [] ts
   reduce : {ts us vs ws xs ys zs : Tokens} {op : RedOp} {ns rs : List NamedRed}
-      → Means note_word_of word.Reduce ts us → Takes (Mark m.LeftParen) us vs → Means note_word_of (word.Operator op) vs ws → Takes (Mark m.Colon) ws xs
+      → Means note_word_of word.Reduce ts us → Takes (Mark m.LeftParen) us vs
+      → Means note_word_of (word.Operator op) vs ws → Takes (Mark m.Colon) ws xs
       → Reduced op xs ns ys → Reductions ys rs zs → Reductions ts (ns ++ rs) zs
 
 pub data Note : Tokens → LoopNote → Tokens → Type 0 where
   note : {ts us vs ws : Tokens} {p : Policy} {o : CommitOrder} {rs : List NamedRed}
-      → NotePolicy ts p us → NoteOrder us o vs → Reductions vs rs ws → Note ts (record { policy = p; order = o; reduce = rs }) ws
+      → NotePolicy ts p us → NoteOrder us o vs → Reductions vs rs ws
+      → Note ts (record { policy = p; order = o; reduce = rs }) ws
 
--- ---- the head of a `for`, and of an `if` or `while`
+-- ---- the head of a `for`
 
 pub data Maybe : Tokens → Option Expr → Tokens → Type 0 where
   nothing : {ts : Tokens} → Maybe ts None ts
@@ -110,7 +125,8 @@ pub data Maybe : Tokens → Option Expr → Tokens → Type 0 where
 pub data First : Tokens → Option Stmt → Tokens → Type 0 where
   nothing : {ts : Tokens} → First ts None ts
   declares : {ts us vs ws xs : Tokens} {a : CType} {f : Field} {x : Expr}
-      → Base ts a us → Declarator a us f vs → Takes (Mark m.Assign) vs ws → Expression ws x xs → First ts (Some (at ts (kind.Declare f.ty f.name (Some x)))) xs
+      → Base ts a us → Declarator a us f vs → Takes (Mark m.Assign) vs ws → Expression ws x xs
+      → First ts (Some (at ts (kind.Declare f.ty f.name (Some x)))) xs
   simple : {ts us : Tokens} {k : StmtKind} → Simple ts k us → First ts (Some (at ts k)) us
 
 -- the third part
@@ -124,11 +140,6 @@ pub data Head : Tokens → Option Stmt → Option Expr → Option Stmt → Token
       → Takes (Key key.For) t₀ t₁ → Takes (Mark m.LeftParen) t₁ t₂ → First t₂ first t₃ → Takes (Mark m.Semicolon) t₃ t₄
       → Maybe t₄ test t₅ → Takes (Mark m.Semicolon) t₅ t₆ → Third t₆ third t₇ → Takes (Mark m.RightParen) t₇ t₈
       → Head t₀ first test third t₈
-
--- an expression in parentheses
-pub data Condition : Tokens → Expr → Tokens → Type 0 where
-  condition : {ts us vs ws : Tokens} {x : Expr}
-      → Takes (Mark m.LeftParen) ts us → Expression us x vs → Takes (Mark m.RightParen) vs ws → Condition ts x ws
 
 -- ---- the declarations of a block
 
@@ -162,32 +173,45 @@ mutual
   pub data Statement : ℕ → Tokens → Stmt → Tokens → Type 0 where
     empty : {d : ℕ} {ts us : Tokens} → Takes (Mark m.Semicolon) ts us → Statement (suc d) ts (at ts kind.Empty) us
     block : {d : ℕ} {ts us vs ws : Tokens} {ss : List Stmt}
-        → Takes (Mark m.LeftBrace) ts us → Inners d us ss vs → Takes (Mark m.RightBrace) vs ws → Statement (suc d) ts (at ts (kind.Block ss)) ws
-    simple : {d : ℕ} {ts us vs : Tokens} {k : StmtKind} → Simple ts k us → Takes (Mark m.Semicolon) us vs → Statement (suc d) ts (at ts k) vs
+        → Takes (Mark m.LeftBrace) ts us → Inners d us ss vs → Takes (Mark m.RightBrace) vs ws
+        → Statement (suc d) ts (at ts (kind.Block ss)) ws
+    simple : {d : ℕ} {ts us vs : Tokens} {k : StmtKind}
+        → Simple ts k us → Takes (Mark m.Semicolon) us vs → Statement (suc d) ts (at ts k) vs
     -- An `else` belongs to the nearest `if`.
     if_only : {d : ℕ} {ts us vs ws : Tokens} {c : Expr} {x : Stmt}
-        → Takes (Key key.If) ts us → Condition us c vs → Statement d vs x ws → else_next ws ≡ false → Statement (suc d) ts (at ts (kind.If c x None)) ws
+        → Takes (Key key.If) ts us → Parenthesized us c vs → Statement d vs x ws → else_next ws ≡ false
+        → Statement (suc d) ts (at ts (kind.If c x None)) ws
     if_else : {d : ℕ} {ts us vs ws xs ys : Tokens} {c : Expr} {x y : Stmt}
-        → Takes (Key key.If) ts us → Condition us c vs → Statement d vs x ws → Takes (Key key.Else) ws xs → Statement d xs y ys
+        → Takes (Key key.If) ts us → Parenthesized us c vs → Statement d vs x ws → Takes (Key key.Else) ws xs
+        → Statement d xs y ys
         → Statement (suc d) ts (at ts (kind.If c x (Some y))) ys
     while_loop : {d : ℕ} {ts us vs ws : Tokens} {c : Expr} {x : Stmt}
-        → Takes (Key key.While) ts us → Condition us c vs → Statement d vs x ws → Statement (suc d) ts (at ts (kind.While c x)) ws
+        → Takes (Key key.While) ts us → Parenthesized us c vs → Statement d vs x ws
+        → Statement (suc d) ts (at ts (kind.While c x)) ws
     for_loop : {d : ℕ} {ts us vs : Tokens} {first third : Option Stmt} {test : Option Expr} {x : Stmt}
-        → Head ts first test third us → Statement d us x vs → Statement (suc d) ts (at ts (kind.For first test third x None)) vs
+        → Head ts first test third us → Statement d us x vs
+        → Statement (suc d) ts (at ts (kind.For first test third x None)) vs
     -- An annotated loop has the line of its `for`.
-    noted_loop : {d : ℕ} {ts us vs ws xs ys : Tokens} {n : LoopNote} {first third : Option Stmt} {test : Option Expr} {x : Stmt}
+    noted_loop :
+        {d : ℕ} {ts us vs ws xs ys : Tokens} {n : LoopNote} {first third : Option Stmt} {test : Option Expr} {x : Stmt}
         → Takes Alter ts us → Note us n vs → Takes EndAlter vs ws → Head ws first test third xs → Statement d xs x ys
         → Statement (suc d) ts (at ws (kind.For first test third x (Some n))) ys
     return_value : {d : ℕ} {ts us vs ws : Tokens} {x : Option Expr}
-        → Takes (Key key.Return) ts us → Maybe us x vs → Takes (Mark m.Semicolon) vs ws → Statement (suc d) ts (at ts (kind.Return x)) ws
-    break_loop : {d : ℕ} {ts us vs : Tokens} → Takes (Key key.Break) ts us → Takes (Mark m.Semicolon) us vs → Statement (suc d) ts (at ts kind.Break) vs
-    continue_loop : {d : ℕ} {ts us vs : Tokens} → Takes (Key key.Continue) ts us → Takes (Mark m.Semicolon) us vs → Statement (suc d) ts (at ts kind.Continue) vs
+        → Takes (Key key.Return) ts us → Maybe us x vs → Takes (Mark m.Semicolon) vs ws
+        → Statement (suc d) ts (at ts (kind.Return x)) ws
+    break_loop : {d : ℕ} {ts us vs : Tokens}
+        → Takes (Key key.Break) ts us → Takes (Mark m.Semicolon) us vs → Statement (suc d) ts (at ts kind.Break) vs
+    continue_loop : {d : ℕ} {ts us vs : Tokens}
+        → Takes (Key key.Continue) ts us → Takes (Mark m.Semicolon) us vs
+        → Statement (suc d) ts (at ts kind.Continue) vs
 
   -- inner: a declaration, which is a statement too, or a statement
   pub data Inner : ℕ → Tokens → List Stmt → Tokens → Type 0 where
-    declares : {d : ℕ} {ts us vs : Tokens} {a : CType} {ss : List Stmt} → Base ts a us → Locals (line_at ts) a us ss vs → Inner (suc d) ts ss vs
+    declares : {d : ℕ} {ts us vs : Tokens} {a : CType} {ss : List Stmt}
+        → Base ts a us → Locals (line_at ts) a us ss vs → Inner (suc d) ts ss vs
     statement : {d : ℕ} {ts us : Tokens} {x : Stmt} → Statement d ts x us → Inner d ts (x ∷ []) us
 
   pub data Inners : ℕ → Tokens → List Stmt → Tokens → Type 0 where
     done : {d : ℕ} {ts : Tokens} → Inners d ts [] ts
-    next : {d : ℕ} {ts us vs : Tokens} {ss rs : List Stmt} → Inner d ts ss us → Inners d us rs vs → Inners d ts (ss ++ rs) vs
+    next : {d : ℕ} {ts us vs : Tokens} {ss rs : List Stmt}
+        → Inner d ts ss us → Inners d us rs vs → Inners d ts (ss ++ rs) vs

@@ -1,7 +1,8 @@
 -- The steps of which the parser is made, as a function on lists: what was read and what is left, or the tokens from
 -- the first bad one on.
-use Rattle.std.specs.Prelude.{ℕ, zero, suc, Bool, true, false, List, [], ◌∷◌, length, Option, Some, None, Result, Ok, Err}
+use Rattle.std.specs.Prelude.{ℕ, zero, suc, Bool, true, false, [], ◌∷◌, length, Option, Some, None, Result, Ok, Err}
 use denote.Enum.Bare.{sameb}
+use Rattle.al_source.specs.Steps.{bind, pure}
 use Rattle.al_source.specs.declared.tokens.TokenKind.{TokenKind}
 use Rattle.al_source.specs.declared.tokens.TokenKind.TheVariants.{Word, Key, Mark}
 use Rattle.al_source.specs.contracts.tokens.Mark.{the_type}
@@ -16,20 +17,14 @@ Read A = Result (A × Tokens) Tokens
 abbrev pub Step : Type 0 → Type 0
 Step A = Tokens → Read A
 
-abbrev pub bind : {A B : Type 0} → Read A → (A → Step B) → Read B
-bind (Ok p) f = f p.0 p.1
-bind (Err e) f = Err e
-
+-- One step after another. Where operators are counted, their number goes with the tokens.
 infixl 10 ◌>>=◌
-abbrev pub ◌>>=◌ : {A B : Type 0} → Step A → (A → Step B) → Step B
-p >>= f = λ ts. bind (p ts) f
+abbrev pub ◌>>=◌ : {A B S F : Type 0} → (S → Result (A × S) F) → (A → S → Result (B × S) F) → S → Result (B × S) F
+p >>= f = λ s. bind (p s) f
 
 infixl 10 ◌>>◌
-abbrev pub ◌>>◌ : {A B : Type 0} → Step A → Step B → Step B
+abbrev pub ◌>>◌ : {A B S F : Type 0} → (S → Result (A × S) F) → (S → Result (B × S) F) → S → Result (B × S) F
 p >> q = p >>= (λ _. q)
-
-abbrev pub pure : {A : Type 0} → A → Step A
-pure x = λ ts. Ok (x, ts)
 
 abbrev pub refuse : {A : Type 0} → Step A
 refuse = λ ts. Err ts

@@ -1,5 +1,5 @@
 -- The parser of types and of declared names, as a function on lists.
-use Rattle.std.specs.Prelude.{ℕ, zero, suc, pos, nat_lt, Bool, true, false, ◌&&◌, Option, Some, None}
+use Rattle.std.specs.Prelude.{ℕ, zero, suc, pos, nat_le, int_le, Bool, true, false, ◌&&◌, Option, Some, None}
 use Rattle.al_source.specs.declared.tokens.TokenKind.{TokenKind}
 use Rattle.al_source.specs.declared.tokens.TokenKind.TheVariants.{Number}
 use Rattle.al_source.specs.declared.tokens.Mark.TheVariants as m
@@ -8,8 +8,9 @@ use Rattle.al_source.specs.declared.tokens.Key.TheVariants as key
 use Rattle.al_source.specs.declared.source_tree.CType.{CType}
 use Rattle.al_source.specs.declared.source_tree.CType.TheVariants as type
 use Rattle.al_source.specs.declared.source_tree.Field.{Field}
-use Rattle.al_grammar.specs.Types.{max_stars, max_dimensions, max_length}
-use Rattle.al_grammar.specs.Steps.{Step, ◌>>=◌, ◌>>◌, pure, refuse, skip, skip_if, kind_at, key_at, meaning_at, is_mark, is_key, expect, expect_key, word}
+use Rattle.al_source.specs.declared.limits.TheConstants.{DECLARATOR_STARS, DECLARATOR_DIMENSIONS, DIMENSION_LENGTH}
+use Rattle.al_source.specs.Steps.{pure}
+use Rattle.al_grammar.specs.Steps.{Step, ◌>>=◌, ◌>>◌, refuse, skip, skip_if, key_at, meaning_at, is_mark, is_key, expect, expect_key, word}
 
 -- takes this reserved word where it comes next
 abbrev pub optional : the_key.Key → Step (Unit {0})
@@ -39,7 +40,7 @@ length_by l false = None
 
 -- the length of a dimension
 abbrev pub length_of : TokenKind → Option ℕ
-length_of (Number (pos l)) = length_by l (nat_lt 0 l && nat_lt l (suc max_length))
+length_of (Number (pos l)) = length_by l (nat_le 1 l && int_le (pos l) DIMENSION_LENGTH)
 length_of _ = None
 
 abbrev pub take_length_by : Option ℕ → Step ℕ
@@ -50,7 +51,10 @@ abbrev pub take_length : Step ℕ
 take_length = λ ts. take_length_by (meaning_at length_of ts) ts
 
 abbrev pub dimension_by : (CType → Step CType) → CType → Bool → Step CType
-dimension_by again a true = skip >> take_length >>= λ l. expect m.RightBracket >> again a >>= λ b. pure (type.Array b l)
+dimension_by again a true =
+    skip >> take_length >>= λ l.
+    expect m.RightBracket >> again a >>= λ b.
+    pure (type.Array b l)
 dimension_by again a false = pure a
 
 -- at most so many dimensions
@@ -59,11 +63,15 @@ dimensions zero a = pure a
 dimensions (suc n) a = λ ts. dimension_by (dimensions n) a (is_mark m.LeftBracket ts) ts
 
 abbrev pub declarator : CType → Step Field
-declarator a = stars max_stars a >>= λ b. word >>= λ w. dimensions max_dimensions b >>= λ c. pure (record { name = w; ty = c })
+declarator a =
+    stars DECLARATOR_STARS a >>= λ b.
+    word >>= λ w.
+    dimensions DECLARATOR_DIMENSIONS b >>= λ c.
+    pure (record { name = w; ty = c })
 
 -- `( base * )`
 abbrev pub operand_type : Step CType
-operand_type = expect m.LeftParen >> base >>= λ a. stars max_stars a >>= λ b. expect m.RightParen >> pure b
+operand_type = expect m.LeftParen >> base >>= λ a. stars DECLARATOR_STARS a >>= λ b. expect m.RightParen >> pure b
 
 abbrev pub size_of : Step CType
 size_of = expect_key key.Sizeof >> operand_type

@@ -1,11 +1,12 @@
 -- The reserved words and the marks by their bytes.
-use Rattle.std.specs.Prelude.{List, [], ◌∷◌, Option, find, nat_eq, codes}
+use Rattle.std.specs.Prelude.{Option, find, nat_eq, codes}
 use Rattle.std.specs.List.{starts_with}
 use Rattle.std.specs.Str.{bytes_eq}
 use Rattle.al_source.specs.declared.tokens.Key.{Key}
 use Rattle.al_source.specs.declared.tokens.Key.TheVariants as key
 use Rattle.al_source.specs.declared.tokens.Mark.{Mark}
 use Rattle.al_source.specs.declared.tokens.Mark.TheVariants as mark
+use Rattle.al_grammar.specs.declared.words.TheConstants.{KEYS, MARKS}
 use Rattle.al_grammar.specs.Characters.{Bytes}
 
 abbrev pub key_text : Key → Bytes
@@ -97,19 +98,10 @@ mark_text mark.GreaterEqual = codes ">="
 mark_text mark.EqualEqual = codes "=="
 mark_text mark.NotEqual = codes "!="
 
-abbrev pub all_keys : List Key
-all_keys =
-    key.Auto ∷ key.Break ∷ key.Case ∷ key.Char ∷ key.Const ∷ key.Continue ∷ key.Default ∷ key.Do ∷ key.Double ∷ key.Else ∷ key.Enum ∷ key.Extern ∷ key.Float ∷ key.For ∷ key.Goto ∷ key.If ∷ key.Inline ∷ key.Int ∷ key.Long ∷ key.Register ∷ key.Restrict ∷ key.Return ∷ key.Short ∷ key.Signed ∷ key.Sizeof ∷ key.Static ∷ key.Struct ∷ key.Switch ∷ key.Typedef ∷ key.Union ∷ key.Unsigned ∷ key.Void ∷ key.Volatile ∷ key.While ∷ key.Bool ∷ key.Complex ∷ key.Imaginary ∷ key.Null ∷ key.Printf ∷ key.Calloc ∷ key.Free ∷ []
-
--- the longest first
-abbrev pub all_marks : List Mark
-all_marks =
-    mark.ShiftLeftAssign ∷ mark.ShiftRightAssign ∷ mark.Arrow ∷ mark.PlusAssign ∷ mark.MinusAssign ∷ mark.StarAssign ∷ mark.SlashAssign ∷ mark.PercentAssign ∷ mark.AmpersandAssign ∷ mark.PipeAssign ∷ mark.CaretAssign ∷ mark.Increment ∷ mark.Decrement ∷ mark.AndAnd ∷ mark.OrOr ∷ mark.ShiftLeft ∷ mark.ShiftRight ∷ mark.LessEqual ∷ mark.GreaterEqual ∷ mark.EqualEqual ∷ mark.NotEqual ∷ mark.LeftParen ∷ mark.RightParen ∷ mark.LeftBracket ∷ mark.RightBracket ∷ mark.LeftBrace ∷ mark.RightBrace ∷ mark.Semicolon ∷ mark.Comma ∷ mark.Dot ∷ mark.Colon ∷ mark.Assign ∷ mark.Plus ∷ mark.Minus ∷ mark.Star ∷ mark.Slash ∷ mark.Percent ∷ mark.Tilde ∷ mark.Bang ∷ mark.Ampersand ∷ mark.Pipe ∷ mark.Caret ∷ mark.Less ∷ mark.Greater ∷ []
-
 -- the reserved word that a name is
 unfoldable pub key_of : Bytes → Option Key
-key_of word = find (λ k. bytes_eq (key_text k) word) all_keys
+key_of word = find (λ k. bytes_eq (key_text k) word) KEYS
 
 -- the longest mark that a text begins with
 unfoldable pub mark_at : Bytes → Option Mark
-mark_at z = find (λ m. starts_with nat_eq z (mark_text m)) all_marks
+mark_at z = find (λ m. starts_with nat_eq z (mark_text m)) MARKS

@@ -14,7 +14,8 @@ ghost use Rattle.al_grammar.specs.Spelling.{Spells, first_lexical_fault};
 /// A source spells tokens, or it has a first fault.
 pub fn spells_or_faults()
     ensures { (source : Bytes)
-        → ((tokens : List Token) × Spells source tokens) ⊎ ((fault : LexFault) × (first_lexical_fault source ≡ Some fault)) }
+        → ((tokens : List Token) × Spells source tokens)
+        ⊎ ((fault : LexFault) × (first_lexical_fault source ≡ Some fault)) }
 {}
 
 /// A source that spells tokens has no fault.
@@ -24,7 +25,8 @@ pub fn no_fault_where_spelled()
 
 /// A source spells one list of tokens at most.
 pub fn one_spelling()
-    ensures { (source : Bytes) (tokens others : List Token) → Spells source tokens → Spells source others → tokens ≡ others }
+    ensures { (source : Bytes) (tokens others : List Token)
+        → Spells source tokens → Spells source others → tokens ≡ others }
 {}
 
 /// The tokens that a source spells are slices of it, each with its line, in order and within it.

@@ -33,7 +33,8 @@ drop-pred zero b z h = absurd (omega arith)
 drop-pred (suc n) b z h = let e : suc n - 1 ≡ n = omega arith in ap (λ k. drop k z) e
 
 -- a unit before the closing quote
-pub inside_goes : (z : Bytes) (u : TextUnit) → unit_at z ≡ Some u → (slice_index z 0 ≡ 34 → ⊥) → 1 ≤ u.0 → u.0 ≤ length z → inside_len z ≡ option_map (λ k. u.0 + k) (inside_len (drop u.0 z))
+pub inside_goes : (z : Bytes) (u : TextUnit)
+    → unit_at z ≡ Some u → (slice_index z 0 ≡ 34 → ⊥) → 1 ≤ u.0 → u.0 ≤ length z → inside_len z ≡ option_map (λ k. u.0 + k) (inside_len (drop u.0 z))
 unfolding inside_len
 inside_goes [] u e q moves some = absurd (omega arith)
 inside_goes (b ∷ z) u e q moves some =
@@ -67,14 +68,21 @@ map_plus m n None = refl
 map_plus m n (Some k) = let e : m + (n + k) ≡ m + n + k = omega arith in ap (λ j. Some j) e
 
 pub passed_start : (z : Bytes) → Passed z z
-passed_start z = record { total = let e : length z - length z ≡ 0 = omega arith in ap (λ n. option_map (λ k. n + k) (inside_len z)) e ∙ sym (map_zero (inside_len z)); shorter = omega arith }
+passed_start z =
+    record {
+      total = let e : length z - length z ≡ 0 = omega arith in ap (λ n. option_map (λ k. n + k) (inside_len z)) e ∙ sym (map_zero (inside_len z));
+      shorter = omega arith;
+    }
 
-pub passed_goes : (z rest : Bytes) (u : TextUnit) → Passed z rest → unit_at rest ≡ Some u → (slice_index rest 0 ≡ 34 → ⊥) → 1 ≤ u.0 → u.0 ≤ length rest → Passed z (drop u.0 rest)
+pub passed_goes : (z rest : Bytes) (u : TextUnit)
+    → Passed z rest → unit_at rest ≡ Some u → (slice_index rest 0 ≡ 34 → ⊥) → 1 ≤ u.0 → u.0 ≤ length rest → Passed z (drop u.0 rest)
 passed_goes z rest u p e q moves within =
     let shorter : length (drop u.0 rest) ≤ length z = omega (arith, length-drop u.0 rest, p.shorter) in
     let gone : length z - length rest + u.0 ≡ length z - length (drop u.0 rest) = omega (arith, length-drop u.0 rest, p.shorter) in
     record {
-      total = ap (λ n. option_map (λ k. n + k) (inside_len (drop u.0 rest))) (sym gone) ∙ sym (map_plus (length z - length rest) u.0 (inside_len (drop u.0 rest))) ∙ ap (option_map (λ k. length z - length rest + k)) (sym (inside_goes rest u e q moves within)) ∙ p.total;
+      total =
+          ap (λ n. option_map (λ k. n + k) (inside_len (drop u.0 rest))) (sym gone) ∙ sym (map_plus (length z - length rest) u.0 (inside_len (drop u.0 rest)))
+          ∙ ap (option_map (λ k. length z - length rest + k)) (sym (inside_goes rest u e q moves within)) ∙ p.total;
       shorter = shorter;
     }
 
@@ -134,23 +142,34 @@ before_end [] = refl
 before_end (b ∷ []) = refl
 before_end (b ∷ c ∷ bs) = ap (before_byte b) (before_end (c ∷ bs))
 
-pub gathered_byte : (z : Bytes) (pieces : List Piece) (plain rest : Bytes) (n b : ℕ) → Gathered z pieces plain rest → unit_at rest ≡ Some (n, Some b) → 1 ≤ n → n ≤ length rest → Gathered z pieces (plain ++ b ∷ []) (drop n rest)
+pub gathered_byte : (z : Bytes) (pieces : List Piece) (plain rest : Bytes) (n b : ℕ)
+    → Gathered z pieces plain rest → unit_at rest ≡ Some (n, Some b) → 1 ≤ n → n ≤ length rest → Gathered z pieces (plain ++ b ∷ []) (drop n rest)
 gathered_byte z pieces plain rest n b g e moves within = record {
-  whole = ap (λ ps. pieces ++ ps) (before_more plain b (format_of (drop n rest))) ∙ ap (λ ps. pieces ++ before_bytes plain ps) (sym (format_goes rest (n, Some b) e moves within)) ∙ g.whole;
+  whole =
+      ap (λ ps. pieces ++ ps) (before_more plain b (format_of (drop n rest)))
+      ∙ ap (λ ps. pieces ++ before_bytes plain ps) (sym (format_goes rest (n, Some b) e moves within)) ∙ g.whole;
 }
 
-pub gathered_number : (z : Bytes) (pieces : List Piece) (plain rest : Bytes) (n : ℕ) → Gathered z pieces plain rest → unit_at rest ≡ Some (n, None) → 1 ≤ n → n ≤ length rest → Gathered z ((pieces ++ plain_pieces plain) ++ piece.Number ∷ []) [] (drop n rest)
+pub gathered_number : (z : Bytes) (pieces : List Piece) (plain rest : Bytes) (n : ℕ)
+    → Gathered z pieces plain rest → unit_at rest ≡ Some (n, None) → 1 ≤ n → n ≤ length rest
+    → Gathered z ((pieces ++ plain_pieces plain) ++ piece.Number ∷ []) [] (drop n rest)
 gathered_number z pieces plain rest n g e moves within =
     let f = format_of (drop n rest) in
     record {
-      whole = append_assoc (pieces ++ plain_pieces plain) (piece.Number ∷ []) f ∙ append_assoc pieces (plain_pieces plain) (piece.Number ∷ f) ∙ ap (λ ps. pieces ++ ps) (sym (before_number plain f)) ∙ ap (λ ps. pieces ++ before_bytes plain ps) (sym (format_goes rest (n, None) e moves within)) ∙ g.whole;
+      whole =
+          append_assoc (pieces ++ plain_pieces plain) (piece.Number ∷ []) f ∙ append_assoc pieces (plain_pieces plain) (piece.Number ∷ f)
+          ∙ ap (λ ps. pieces ++ ps) (sym (before_number plain f)) ∙ ap (λ ps. pieces ++ before_bytes plain ps) (sym (format_goes rest (n, None) e moves within))
+          ∙ g.whole;
     }
 
-pub gathered_skip : (z : Bytes) (pieces : List Piece) (plain rest : Bytes) → Gathered z pieces plain rest → unit_at rest ≡ None → Gathered z pieces plain (drop 1 rest)
+pub gathered_skip : (z : Bytes) (pieces : List Piece) (plain rest : Bytes)
+    → Gathered z pieces plain rest → unit_at rest ≡ None → Gathered z pieces plain (drop 1 rest)
 gathered_skip z pieces plain rest g e = record { whole = ap (λ ps. pieces ++ before_bytes plain ps) (sym (format_skips rest e)) ∙ g.whole }
 
-pub gathered_end : (z : Bytes) (pieces : List Piece) (plain rest : Bytes) → Gathered z pieces plain rest → rest ≡ [] → pieces ++ plain_pieces plain ≡ format_of z
-gathered_end z pieces plain rest g e = ap (λ ps. pieces ++ ps) (sym (before_end plain)) ∙ ap (λ ps. pieces ++ before_bytes plain ps) (sym (ap format_of e ∙ format_nil)) ∙ g.whole
+pub gathered_end : (z : Bytes) (pieces : List Piece) (plain rest : Bytes)
+    → Gathered z pieces plain rest → rest ≡ [] → pieces ++ plain_pieces plain ≡ format_of z
+gathered_end z pieces plain rest g e =
+    ap (λ ps. pieces ++ ps) (sym (before_end plain)) ∙ ap (λ ps. pieces ++ before_bytes plain ps) (sym (ap format_of e ∙ format_nil)) ∙ g.whole
 
 pub nil_by_test : (z : Bytes) → eqb (length z) 0 ≡ true → z ≡ []
 nil_by_test [] e = refl

@@ -2,10 +2,11 @@
 
 ghost use Rattle.std.specs.Prelude.{◌≡◌, ◌<◌, ◌≤◌, ◌+◌, ◌≢◌, length, slice_index, IfOk, true, Ok};
 ghost use Rattle.std.specs.Char.{is_ascii_digit};
+ghost use Rattle.al_source.specs.Answers.{Gives};
+ghost use Rattle.al_source.specs.Faults.{lexical};
 ghost use Rattle.al_grammar.specs.Lexemes as spec;
 ghost use Rattle.al_grammar.specs.Characters.{is_letter};
 ghost use Rattle.al_grammar.specs.Words.{mark_at};
-ghost use Rattle.al_lexer.specs.Answers.{Gives};
 
 use crate::numbers::number_at;
 use crate::scan::{Class, byte, is_letter, run_len};
@@ -29,7 +30,7 @@ fn name_kind(alloc: Global, word: &[u8]) -> Result<TokenKind, AllocError>
 
 fn name(alloc: Global, z: &[u8]) -> Result<Lexeme, LexFault>
     requires { is_letter (slice_index z.now 0) ≡ true }
-    ensures value { Gives result (Ok (spec.name z.now)) }
+    ensures value { Gives lexical (Ok (spec.name z.now)) result }
     ensures within { IfOk result (λ t. (1 ≤ t.1) × (t.1 ≤ length z.now)) }
 {
     let len = run_len(Class::Word, z);
@@ -50,7 +51,7 @@ fn number(line: u32, z: &[u8]) -> Result<Lexeme, LexFault>
 
 fn text(alloc: Global, line: u32, z: &[u8]) -> Result<Lexeme, LexFault>
     requires { slice_index z.now 0 ≡ 34 }
-    ensures value { Gives result (spec.text line z.now) }
+    ensures value { Gives lexical (spec.text line z.now) result }
     ensures within { IfOk result (λ t. (1 ≤ t.1) × (t.1 ≤ length z.now)) }
 {
     match inside_len(&z[1..]) {
@@ -75,7 +76,7 @@ fn mark(line: u32, z: &[u8]) -> Result<Lexeme, LexFault>
 /// The token that the text begins with, which stands on the line.
 #[tactic(auto, unfolding(al_grammar::specs::Lexemes::lexeme))]
 pub fn lexeme(alloc: Global, line: u32, z: &[u8]) -> Result<Lexeme, LexFault>
-    ensures value { Gives result (spec.lexeme line z.now) }
+    ensures value { Gives lexical (spec.lexeme line z.now) result }
     ensures within { IfOk result (λ t. (1 ≤ t.1) × (t.1 ≤ length z.now)) }
 {
     let b = byte(z, 0);

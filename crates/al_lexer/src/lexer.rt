@@ -1,11 +1,14 @@
 //! A walk over a source, from one thing that stands in it to the next.
 
 ghost use Rattle.std.specs.Prelude.{◌≡◌, ◌<◌, ◌≤◌, ◌+◌, ◌++◌, length, take, drop, option_to_list, IfOk, IfErr, OnOk, Ok};
+ghost use Rattle.al_source.specs.declared.limits.TheConstants.{SOURCE_BYTES};
+ghost use Rattle.al_source.specs.Answers.{Fails, Gives};
+ghost use Rattle.al_source.specs.Faults.{lexical};
 ghost use Rattle.al_grammar.specs.Characters as chars;
 ghost use Rattle.al_grammar.specs.Lexemes.{block_comment_len, lexeme};
 ghost use Rattle.al_grammar.specs.Spelling as spec;
 ghost use Rattle.al_grammar.specs.Reading.{with_front, reading_from};
-ghost use Rattle.al_lexer.specs.Answers.{Fails, Gives, InBounds, ReadsOn};
+ghost use Rattle.al_lexer.specs.Answers.{InBounds, ReadsOn};
 
 use crate::lexemes::lexeme;
 use crate::scan::{
@@ -32,7 +35,7 @@ pub struct Lexer<'a> {
 
 /// Something that is no token.
 fn gap(len: usize, place: Place) -> Result<Next, LexFault>
-    requires { len ≤ 1048576 }
+    requires { len ≤ SOURCE_BYTES }
     ensures { result ≡ spec.gap len place }
 {
     Ok(Next {
@@ -149,7 +152,8 @@ impl<'a> Lexer<'a> {
     /// The token here, after which the place is the one given.
     fn token(&self, alloc: Global, place: Place) -> Result<Next, LexFault>
         requires { InBounds self.now.spot self.now.rest.now }
-        ensures value { Gives result (spec.token_at self.now.spot place (lexeme self.now.spot.line self.now.rest.now)) }
+        ensures value { Gives lexical
+            (spec.token_at self.now.spot place (lexeme self.now.spot.line self.now.rest.now)) result }
         ensures within { IfOk result (λ n. (1 ≤ n.len) × (n.len ≤ length self.now.rest.now)) }
     {
         match lexeme(alloc, self.spot.line, self.rest) {
@@ -173,7 +177,7 @@ impl<'a> Lexer<'a> {
     fn matter(&self, alloc: Global) -> Result<Next, LexFault>
         requires bounds { InBounds self.now.spot self.now.rest.now }
         requires some { 1 ≤ length self.now.rest.now }
-        ensures value { Gives result (spec.matter_at self.now.spot.place self.now.spot self.now.rest.now) }
+        ensures value { Gives lexical (spec.matter_at self.now.spot.place self.now.spot self.now.rest.now) result }
         ensures within { IfOk result (λ n. (1 ≤ n.len) × (n.len ≤ length self.now.rest.now)) }
     {
         match self.spot.place {
@@ -197,7 +201,7 @@ impl<'a> Lexer<'a> {
     pub fn next(&self, alloc: Global) -> Result<Next, LexFault>
         requires bounds { InBounds self.now.spot self.now.rest.now }
         requires some { 1 ≤ length self.now.rest.now }
-        ensures value { Gives result (spec.next self.now.spot self.now.rest.now) }
+        ensures value { Gives lexical (spec.next self.now.spot self.now.rest.now) result }
         ensures within { IfOk result (λ n. (1 ≤ n.len) × (n.len ≤ length self.now.rest.now)) }
     {
         let b = byte(self.rest, 0);
@@ -218,7 +222,11 @@ impl<'a> Lexer<'a> {
     pub fn after(&self, len: u32, place: Place) -> Lexer<'a>
         requires bounds { InBounds self.now.spot self.now.rest.now }
         requires within { len ≤ length self.now.rest.now }
-        ensures spot { result.spot ≡ record { at = self.now.spot.at + len; line = self.now.spot.line + chars.line_feeds (take len self.now.rest.now); place = place } }
+        ensures spot { result.spot ≡ record {
+          at = self.now.spot.at + len;
+          line = self.now.spot.line + chars.line_feeds (take len self.now.rest.now);
+          place = place;
+        } }
         ensures rest { result.rest.now ≡ drop len self.now.rest.now }
     {
         let (passed, rest) = self.rest.split_at(len as usize);
@@ -234,8 +242,9 @@ impl<'a> Lexer<'a> {
 
     /// Adds the token that the end of the source makes, if it makes one.
     pub fn finish(&self, tokens: &mut Items<Token>) -> Result<(), LexFault>
-        ensures ok { OnOk result (with_front tokens.old (spec.end_at self.now.spot.place self.now.spot) ≡ Ok tokens.new) }
-        ensures err { IfErr result (λ fault. Fails fault (spec.end_at self.now.spot.place self.now.spot)) }
+        ensures ok { OnOk result
+            (with_front tokens.old (spec.end_at self.now.spot.place self.now.spot) ≡ Ok tokens.new) }
+        ensures err { IfErr result (λ fault. Fails (spec.end_at self.now.spot.place self.now.spot) (lexical fault)) }
     {
         match self.spot.place {
             Place::Hash(_, line) => Err(LexFault::BadByte(line)),
@@ -251,10 +260,11 @@ impl<'a> Lexer<'a> {
     fn step(&self, alloc: Global, tokens: &mut Items<Token>) -> Result<Lexer<'a>, LexFault>
         requires bounds { InBounds self.now.spot self.now.rest.now }
         requires some { 1 ≤ length self.now.rest.now }
-        ensures ok { IfOk result (λ after. ReadsOn tokens.old self.now.spot self.now.rest.now tokens.new after.spot after.rest.now) }
+        ensures ok { IfOk result (λ after.
+            ReadsOn tokens.old self.now.spot self.now.rest.now tokens.new after.spot after.rest.now) }
         ensures bounds { IfOk result (λ after. InBounds after.spot after.rest.now) }
         ensures shorter { IfOk result (λ after. length after.rest.now < length self.now.rest.now) }
-        ensures err { IfErr result (λ fault. Fails fault (reading_from 0 self.now.spot self.now.rest.now)) }
+        ensures err { IfErr result (λ fault. Fails (reading_from 0 self.now.spot self.now.rest.now) (lexical fault)) }
     {
         match self.next(alloc) {
             Ok(Next { len, token, place }) => {
@@ -268,7 +278,7 @@ impl<'a> Lexer<'a> {
     /// The tokens from here on.
     pub fn read(self, alloc: Global) -> Result<Items<Token>, LexFault>
         requires { InBounds self.spot self.rest.now }
-        ensures { Gives result (reading_from 0 self.entry.spot self.entry.rest.now) }
+        ensures { Gives lexical (reading_from 0 self.entry.spot self.entry.rest.now) result }
     {
         let mut tokens = Items::new(alloc);
         let mut lexer = self;

@@ -1,14 +1,15 @@
-//! Sources with their tokens or their fault. A token is shown with its line. The values follow the rules of the language
-//! as they are written down, and do not come from the lexer.
+//! Sources with their tokens or their fault. A token is shown with its line. The values follow the rules of the
+//! language as they are written down, and do not come from the lexer.
 
 use crate::lex;
+use al_source::limits::SOURCE_BYTES;
 use al_source::{Format, LexFault, Piece, Token, TokenKind};
 use std::alloc::{AllocError, Global};
 use std::test::Fail;
 
 type Row = (&'static [u8], &'static str);
 
-const NAMES: [Row; 6] = [
+const NAMES: [Row; 10] = [
     (b"x_1 _y A0z", "w.x_1:1 w._y:1 w.A0z:1 "),
     (
         b"int integer Int NULL Null",
@@ -21,8 +22,24 @@ const NAMES: [Row; 6] = [
     ),
     (b"", ""),
     (
-        b"auto break case char const continue default do double else enum extern float for goto if inline int long register restrict return short signed sizeof static struct switch typedef union unsigned void volatile while _Bool _Complex _Imaginary NULL printf calloc free",
-        "k.Auto:1 k.Break:1 k.Case:1 k.Char:1 k.Const:1 k.Continue:1 k.Default:1 k.Do:1 k.Double:1 k.Else:1 k.Enum:1 k.Extern:1 k.Float:1 k.For:1 k.Goto:1 k.If:1 k.Inline:1 k.Int:1 k.Long:1 k.Register:1 k.Restrict:1 k.Return:1 k.Short:1 k.Signed:1 k.Sizeof:1 k.Static:1 k.Struct:1 k.Switch:1 k.Typedef:1 k.Union:1 k.Unsigned:1 k.Void:1 k.Volatile:1 k.While:1 k.Bool:1 k.Complex:1 k.Imaginary:1 k.Null:1 k.Printf:1 k.Calloc:1 k.Free:1 ",
+        b"auto break case char const continue default do double",
+        "k.Auto:1 k.Break:1 k.Case:1 k.Char:1 k.Const:1 k.Continue:1 k.Default:1 k.Do:1 k.Double:1 ",
+    ),
+    (
+        b"else enum extern float for goto if inline int long",
+        "k.Else:1 k.Enum:1 k.Extern:1 k.Float:1 k.For:1 k.Goto:1 k.If:1 k.Inline:1 k.Int:1 k.Long:1 ",
+    ),
+    (
+        b"register restrict return short signed sizeof static struct",
+        "k.Register:1 k.Restrict:1 k.Return:1 k.Short:1 k.Signed:1 k.Sizeof:1 k.Static:1 k.Struct:1 ",
+    ),
+    (
+        b"switch typedef union unsigned void volatile while _Bool",
+        "k.Switch:1 k.Typedef:1 k.Union:1 k.Unsigned:1 k.Void:1 k.Volatile:1 k.While:1 k.Bool:1 ",
+    ),
+    (
+        b"_Complex _Imaginary NULL printf calloc free",
+        "k.Complex:1 k.Imaginary:1 k.Null:1 k.Printf:1 k.Calloc:1 k.Free:1 ",
     ),
 ];
 
@@ -50,7 +67,7 @@ const NUMBERS: [Row; 21] = [
     (b"09\n@", "BadNumber(1)"),
 ];
 
-const MARKS_JOINED: [Row; 17] = [
+const MARKS_JOINED: [Row; 23] = [
     (b"x+=1;", "w.x:1 m.PlusAssign:1 1:1 m.Semicolon:1 "),
     (b"a<<=b", "w.a:1 m.ShiftLeftAssign:1 w.b:1 "),
     (b"---x", "m.Decrement:1 m.Minus:1 w.x:1 "),
@@ -68,9 +85,30 @@ const MARKS_JOINED: [Row; 17] = [
     (b"\\\n", "BadByte(1)"),
     (b"@ 09", "BadByte(1)"),
     (
-        b"( ) [ ] { } ; , . : -> = += -= *= /= %= &= |= ^= <<= >>= ++ -- + - * / % ~ ! & | ^ && || << >> < <= > >= == !=",
-        "m.LeftParen:1 m.RightParen:1 m.LeftBracket:1 m.RightBracket:1 m.LeftBrace:1 m.RightBrace:1 m.Semicolon:1 m.Comma:1 m.Dot:1 m.Colon:1 m.Arrow:1 m.Assign:1 m.PlusAssign:1 m.MinusAssign:1 m.StarAssign:1 m.SlashAssign:1 m.PercentAssign:1 m.AmpersandAssign:1 m.PipeAssign:1 m.CaretAssign:1 m.ShiftLeftAssign:1 m.ShiftRightAssign:1 m.Increment:1 m.Decrement:1 m.Plus:1 m.Minus:1 m.Star:1 m.Slash:1 m.Percent:1 m.Tilde:1 m.Bang:1 m.Ampersand:1 m.Pipe:1 m.Caret:1 m.AndAnd:1 m.OrOr:1 m.ShiftLeft:1 m.ShiftRight:1 m.Less:1 m.LessEqual:1 m.Greater:1 m.GreaterEqual:1 m.EqualEqual:1 m.NotEqual:1 ",
+        b"( ) [ ] { }",
+        "m.LeftParen:1 m.RightParen:1 m.LeftBracket:1 m.RightBracket:1 m.LeftBrace:1 m.RightBrace:1 ",
     ),
+    (
+        b"; , . : -> = += -=",
+        "m.Semicolon:1 m.Comma:1 m.Dot:1 m.Colon:1 m.Arrow:1 m.Assign:1 m.PlusAssign:1 m.MinusAssign:1 ",
+    ),
+    (
+        b"*= /= %= &= |=",
+        "m.StarAssign:1 m.SlashAssign:1 m.PercentAssign:1 m.AmpersandAssign:1 m.PipeAssign:1 ",
+    ),
+    (
+        b"^= <<= >>= ++ -- +",
+        "m.CaretAssign:1 m.ShiftLeftAssign:1 m.ShiftRightAssign:1 m.Increment:1 m.Decrement:1 m.Plus:1 ",
+    ),
+    (
+        b"- * / % ~ ! & | ^",
+        "m.Minus:1 m.Star:1 m.Slash:1 m.Percent:1 m.Tilde:1 m.Bang:1 m.Ampersand:1 m.Pipe:1 m.Caret:1 ",
+    ),
+    (
+        b"&& || << >> < <= >",
+        "m.AndAnd:1 m.OrOr:1 m.ShiftLeft:1 m.ShiftRight:1 m.Less:1 m.LessEqual:1 m.Greater:1 ",
+    ),
+    (b">= == !=", "m.GreaterEqual:1 m.EqualEqual:1 m.NotEqual:1 "),
 ];
 
 const COMMENTS: [Row; 11] = [
@@ -314,7 +352,7 @@ fn tokens_span_their_bytes(rt: HostRuntime) {
 
 #[test]
 fn a_source_has_at_most_a_mebibyte(rt: HostRuntime) -> Result<(), Fail> {
-    let mut source = vec![in rt.alloc(); b' '; 1_048_576]?;
+    let mut source = vec![in rt.alloc(); b' '; SOURCE_BYTES]?;
     assert!(rt; lex(rt.alloc(), &source)?.is_empty());
     source.push(b' ')?;
     assert_eq!(rt; lex(rt.alloc(), &source).err(), Some(LexFault::TooLong));

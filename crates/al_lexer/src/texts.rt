@@ -27,7 +27,8 @@ fn escaped(b: u8) -> Option<u8>
 /// What the three bytes after a `%` make of it.
 fn conversion(a: u8, b: u8, c: u8) -> Option<(usize, Meaning)>
     ensures value { result ≡ spec.conversion a b c }
-    ensures two { IfSome result (λ u. (2 ≤ u.0) × (u.0 ≤ 4) × (a ≡ 0 → u.0 ≤ 1) × (b ≡ 0 → u.0 ≤ 2) × (c ≡ 0 → u.0 ≤ 3)) }
+    ensures two { IfSome result (λ u. (2 ≤ u.0) × (u.0 ≤ 4)
+        × (a ≡ 0 → u.0 ≤ 1) × (b ≡ 0 → u.0 ≤ 2) × (c ≡ 0 → u.0 ≤ 3)) }
 {
     if a == b'%' {
         Some((2, Some(b'%')))

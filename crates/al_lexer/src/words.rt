@@ -1,110 +1,20 @@
-//! The reserved words and the marks.
+//! The reserved word or the mark at the front of a text.
 
-ghost use Rattle.std.specs.Prelude.{◌≡◌, ◌≤◌, length, IfSome, map, Some};
+ghost use Rattle.std.specs.Prelude.{◌≡◌, ◌≤◌, find, length, nat_eq, IfSome};
+ghost use Rattle.std.specs.List.{starts_with};
+ghost use Rattle.std.specs.Str.{bytes_eq};
 ghost use Rattle.al_grammar.specs.Words as spec;
-ghost use Rattle.al_lexer.specs.Tables as tables;
+ghost use Rattle.al_lexer.specs.Tables.{with_len};
 
+use al_grammar::{KEYS, MARKS, key_text, mark_text};
 use al_source::{Key, Mark};
 
-/// The reserved words with their bytes.
-pub const KEYS: [(&[u8], Key); 41] = [
-    (b"auto", Key::Auto),
-    (b"break", Key::Break),
-    (b"case", Key::Case),
-    (b"char", Key::Char),
-    (b"const", Key::Const),
-    (b"continue", Key::Continue),
-    (b"default", Key::Default),
-    (b"do", Key::Do),
-    (b"double", Key::Double),
-    (b"else", Key::Else),
-    (b"enum", Key::Enum),
-    (b"extern", Key::Extern),
-    (b"float", Key::Float),
-    (b"for", Key::For),
-    (b"goto", Key::Goto),
-    (b"if", Key::If),
-    (b"inline", Key::Inline),
-    (b"int", Key::Int),
-    (b"long", Key::Long),
-    (b"register", Key::Register),
-    (b"restrict", Key::Restrict),
-    (b"return", Key::Return),
-    (b"short", Key::Short),
-    (b"signed", Key::Signed),
-    (b"sizeof", Key::Sizeof),
-    (b"static", Key::Static),
-    (b"struct", Key::Struct),
-    (b"switch", Key::Switch),
-    (b"typedef", Key::Typedef),
-    (b"union", Key::Union),
-    (b"unsigned", Key::Unsigned),
-    (b"void", Key::Void),
-    (b"volatile", Key::Volatile),
-    (b"while", Key::While),
-    (b"_Bool", Key::Bool),
-    (b"_Complex", Key::Complex),
-    (b"_Imaginary", Key::Imaginary),
-    (b"NULL", Key::Null),
-    (b"printf", Key::Printf),
-    (b"calloc", Key::Calloc),
-    (b"free", Key::Free),
-];
-
-/// The marks with their bytes, the longest first, so that the first that fits is the one to take.
-pub const MARKS: [(&[u8], Mark); 44] = [
-    (b"<<=", Mark::ShiftLeftAssign),
-    (b">>=", Mark::ShiftRightAssign),
-    (b"->", Mark::Arrow),
-    (b"+=", Mark::PlusAssign),
-    (b"-=", Mark::MinusAssign),
-    (b"*=", Mark::StarAssign),
-    (b"/=", Mark::SlashAssign),
-    (b"%=", Mark::PercentAssign),
-    (b"&=", Mark::AmpersandAssign),
-    (b"|=", Mark::PipeAssign),
-    (b"^=", Mark::CaretAssign),
-    (b"++", Mark::Increment),
-    (b"--", Mark::Decrement),
-    (b"&&", Mark::AndAnd),
-    (b"||", Mark::OrOr),
-    (b"<<", Mark::ShiftLeft),
-    (b">>", Mark::ShiftRight),
-    (b"<=", Mark::LessEqual),
-    (b">=", Mark::GreaterEqual),
-    (b"==", Mark::EqualEqual),
-    (b"!=", Mark::NotEqual),
-    (b"(", Mark::LeftParen),
-    (b")", Mark::RightParen),
-    (b"[", Mark::LeftBracket),
-    (b"]", Mark::RightBracket),
-    (b"{", Mark::LeftBrace),
-    (b"}", Mark::RightBrace),
-    (b";", Mark::Semicolon),
-    (b",", Mark::Comma),
-    (b".", Mark::Dot),
-    (b":", Mark::Colon),
-    (b"=", Mark::Assign),
-    (b"+", Mark::Plus),
-    (b"-", Mark::Minus),
-    (b"*", Mark::Star),
-    (b"/", Mark::Slash),
-    (b"%", Mark::Percent),
-    (b"~", Mark::Tilde),
-    (b"!", Mark::Bang),
-    (b"&", Mark::Ampersand),
-    (b"|", Mark::Pipe),
-    (b"^", Mark::Caret),
-    (b"<", Mark::Less),
-    (b">", Mark::Greater),
-];
-
-fn find_key(mut table: &[(&[u8], Key)], word: &[u8]) -> Option<Key>
-    ensures { result ≡ tables.key_in (map (λ k. (k.0.now, k.1)) table.entry.now) word.now }
+fn find_key(mut table: &[Key], word: &[u8]) -> Option<Key>
+    ensures { result ≡ find (λ key. bytes_eq (spec.key_text key) word.now) table.entry.now }
 {
-    while let [entry, rest @ ..] = table {
-        if entry.0 == word {
-            return Some(entry.1);
+    while let [key, rest @ ..] = table {
+        if key_text(*key) == word {
+            return Some(*key);
         }
         table = rest;
     }
@@ -112,19 +22,21 @@ fn find_key(mut table: &[(&[u8], Key)], word: &[u8]) -> Option<Key>
 }
 
 /// The reserved word that a name is.
+#[tactic(auto, unfolding(al_grammar::specs::Words::key_of))]
 pub fn key_of(word: &[u8]) -> Option<Key>
     ensures { result ≡ spec.key_of word.now }
 {
     find_key(&KEYS, word)
 }
 
-fn find_mark(mut table: &[(&[u8], Mark)], z: &[u8]) -> Option<(Mark, usize)>
-    ensures value { result ≡ tables.mark_in (map (λ k. (k.0.now, k.1)) table.entry.now) z.now }
+fn find_mark(mut table: &[Mark], z: &[u8]) -> Option<(Mark, usize)>
+    ensures value { result ≡ with_len (find (λ mark. starts_with nat_eq z.now (spec.mark_text mark)) table.entry.now) }
     ensures within { IfSome result (λ m. m.1 ≤ length z.now) }
 {
-    while let [entry, rest @ ..] = table {
-        if z.starts_with(entry.0) {
-            return Some((entry.1, entry.0.len()));
+    while let [mark, rest @ ..] = table {
+        let text = mark_text(*mark);
+        if z.starts_with(text) {
+            return Some((*mark, text.len()));
         }
         table = rest;
     }
@@ -133,7 +45,7 @@ fn find_mark(mut table: &[(&[u8], Mark)], z: &[u8]) -> Option<(Mark, usize)>
 
 /// The longest mark that the text begins with, and its length.
 pub fn mark_at(z: &[u8]) -> Option<(Mark, usize)>
-    ensures value { result ≡ tables.with_len (spec.mark_at z.now) }
+    ensures value { result ≡ with_len (spec.mark_at z.now) }
     ensures within { IfSome result (λ m. (1 ≤ m.1) × (m.1 ≤ length z.now)) }
 {
     find_mark(&MARKS, z)

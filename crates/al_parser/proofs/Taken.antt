@@ -1,5 +1,5 @@
 -- What was read took tokens, and is what the tokens derive.
-use Rattle.std.proofs.Common.{◌≡◌, ℕ, ◌<◌, Bool, true, false, List, [], ◌∷◌, length, Result, Ok, Err, OnOk, refl, sym, ap, ◌∙◌, Some, arith}
+use Rattle.std.proofs.Common.{◌≡◌, ℕ, ◌<◌, true, false, List, [], ◌∷◌, length, Result, Ok, Err, OnOk, refl, sym, ap, ◌∙◌, Some, arith}
 use Rattle.al_source.specs.declared.tokens.Mark.TheVariants as m
 use Rattle.al_source.specs.declared.source_tree.Stmt.{Stmt}
 use Rattle.al_source.specs.declared.source_tree.Item.{Item}
@@ -15,12 +15,13 @@ use Rattle.al_grammar.specs.Programs.{Derives, AllItems}
 use Rattle.al_grammar.specs.Steps.{Read, tail, is_mark}
 use Rattle.al_grammar.specs.StatementParser.{statement}
 use Rattle.al_grammar.specs.ProgramParser.{items_step, all_items, past_by, past_stars, negative_by}
-use Rattle.al_expressions.specs.Answers.{Answers}
+use Rattle.al_source.specs.Answers.{Fails, Walks}
+use Rattle.al_source.specs.Faults.{syntactic}
 use Rattle.al_grammar.proofs.SoundStatements.{sound_statement}
 use Rattle.al_grammar.proofs.Shorter.{statement_shorter}
 use Rattle.al_grammar.proofs.ProgramFacts.{step_shorter, sound_program, complete_program, one_list}
 
-pub statement_takes : (d : ℕ) (ts us : Tokens) (r : Result Stmt ParseFault) → Answers (statement d ts) r us → OnOk r (length us < length ts)
+pub statement_takes : (d : ℕ) (ts us : Tokens) (r : Result Stmt ParseFault) → Walks (syntactic us) (statement d ts) r us → OnOk r (length us < length ts)
 statement_takes d ts us (Ok x) e = statement_shorter (sound_statement d ts (x, us) e)
 statement_takes d ts us (Err f) e = tt
 
@@ -42,7 +43,7 @@ pub found_one : (ts us : Tokens) (q : List Item) (p : Program) → all_items ts 
 found_one ts us q p e d = one_list (sound_program ts (q, us) e) d
 
 -- a fault of the parser, where the tokens derive a program
-pub found_none : (ts us : Tokens) (f : ParseFault) (p : Program) → Answers {A = List Item} (all_items ts) (Err f) us → Derives ts p → f ≡ fault.Memory
+pub found_none : (ts us : Tokens) (f : ParseFault) (p : Program) → Fails (all_items ts) (syntactic us f) → Derives ts p → f ≡ fault.Memory
 found_none ts us fault.Syntax p e d = absurd (clash ts us p.items d e)
 found_none ts us fault.Memory p e d = refl
 

@@ -5,9 +5,15 @@ use Rattle.al_source.specs.declared.source_tree.Stmt.{Stmt}
 use Rattle.al_source.specs.declared.faults.ParseFault.{ParseFault}
 use Rattle.al_grammar.specs.StatementParser.{statement}
 use Rattle.al_expressions.specs.declared.cursor.Cursor.{Cursor}
-use Rattle.al_expressions.specs.Answers.{Answers}
+use Rattle.al_expressions.specs.Cursors.{Parses}
 
-pub record NestsStatement (depth : ℕ) (pre : MutBor Cursor → ℕ → Type 0) (post : MutBor Cursor → ℕ → Result Stmt ParseFault → MutBor Cursor → Type 0) : Type 0 where
+-- what such a call leaves
+abbrev pub Left : Type 1
+Left = MutBor Cursor → ℕ → Result Stmt ParseFault → MutBor Cursor → Type 0
+
+pub record NestsStatement (depth : ℕ) (pre : MutBor Cursor → ℕ → Type 0) (post : Left) : Type 0 where
   pub callable : (old : MutBor Cursor) → pre old depth
-  pub reads : (old new : MutBor Cursor) (r : Result Stmt ParseFault) → post old depth r new → Answers (statement depth old.now.rest.now) r new.now.rest.now
-  pub shorter : (old new : MutBor Cursor) (r : Result Stmt ParseFault) → post old depth r new → OnOk r (length new.now.rest.now < length old.now.rest.now)
+  pub reads : (old new : MutBor Cursor) (r : Result Stmt ParseFault)
+      → post old depth r new → Parses (statement depth) old.now r new.now
+  pub shorter : (old new : MutBor Cursor) (r : Result Stmt ParseFault)
+      → post old depth r new → OnOk r (length new.now.rest.now < length old.now.rest.now)

@@ -4,17 +4,16 @@ ghost use Rattle.std.specs.Prelude.{◌≡◌, ◌<◌, ◌≤◌, length, OnOk,
 ghost use Rattle.al_source.specs.declared.faults.ParseFault.TheVariants.{Memory};
 ghost use Rattle.al_grammar.specs.Steps.{kind_at, repeat};
 ghost use Rattle.al_grammar.specs.ProgramParser as spec;
-ghost use Rattle.al_expressions.specs.Answers.{Answers};
+ghost use Rattle.al_expressions.specs.Cursors.{Parses};
 
 use crate::statements::{Body, statement};
 use al_expressions::Cursor;
+use al_source::limits::STATEMENT_NESTING;
 use al_source::{
     CType, Field, Func, GlobalDef, Item, Key, Mark, Name, ParseFault, Start, Stmt, StructDef,
     TokenKind,
 };
 use sqlite_items::Items;
-
-const MAX_NESTING: u8 = 128;
 
 // ---- structs
 
@@ -25,7 +24,7 @@ fn field_names(
     base: &CType,
     found: Items<Field>,
 ) -> Result<Items<Field>, ParseFault>
-    ensures reads { Answers (repeat (spec.field_name base.now) found cursor.old.rest.now) result cursor.new.rest.now }
+    ensures reads { Parses (repeat (spec.field_name base.now) found) cursor.old result cursor.new }
     ensures shorter { OnOk result (length cursor.new.rest.now < length cursor.old.rest.now) }
 {
     let mut found = found;
@@ -44,7 +43,7 @@ fn field_names(
 }
 
 fn field_line(cursor: &mut Cursor<'_>, found: Items<Field>) -> Result<Items<Field>, ParseFault>
-    ensures reads { Answers (spec.field_line found cursor.old.rest.now) result cursor.new.rest.now }
+    ensures reads { Parses (spec.field_line found) cursor.old result cursor.new }
     ensures shorter { OnOk result (length cursor.new.rest.now < length cursor.old.rest.now) }
 {
     let base = cursor.base()?;
@@ -54,7 +53,7 @@ fn field_line(cursor: &mut Cursor<'_>, found: Items<Field>) -> Result<Items<Fiel
 /// At least one field line, to the `}`.
 #[tactic(auto, using(al_grammar::proofs::Loops::lines_is))]
 fn fields(cursor: &mut Cursor<'_>) -> Result<Items<Field>, ParseFault>
-    ensures { Answers (repeat spec.field_turn [] cursor.old.rest.now) result cursor.new.rest.now }
+    ensures { Parses (repeat spec.field_turn []) cursor.old result cursor.new }
 {
     let mut found = Items::new(cursor.alloc);
     loop {
@@ -66,7 +65,7 @@ fn fields(cursor: &mut Cursor<'_>) -> Result<Items<Field>, ParseFault>
 }
 
 fn struct_body(cursor: &mut Cursor<'_>) -> Result<(Name, Items<Field>), ParseFault>
-    ensures { Answers (spec.struct_body cursor.old.rest.now) result cursor.new.rest.now }
+    ensures { Parses spec.struct_body cursor.old result cursor.new }
 {
     cursor.expect_key(Key::Struct)?;
     let name = cursor.word()?;
@@ -78,7 +77,7 @@ fn struct_body(cursor: &mut Cursor<'_>) -> Result<(Name, Items<Field>), ParseFau
 }
 
 fn structure(cursor: &mut Cursor<'_>) -> Result<Item, ParseFault>
-    ensures { Answers (spec.structure cursor.old.rest.now) result cursor.new.rest.now }
+    ensures { Parses spec.structure cursor.old result cursor.new }
 {
     let line = cursor.line();
     let (name, fields) = struct_body(cursor)?;
@@ -90,7 +89,7 @@ fn structure(cursor: &mut Cursor<'_>) -> Result<Item, ParseFault>
 /// The number behind a `-`.
 #[tactic(auto, using(crate::proofs::Taken::negative_is, crate::proofs::Taken::negative_less))]
 fn negative(cursor: &mut Cursor<'_>) -> Result<Start, ParseFault>
-    ensures reads { Answers (spec.negative_by (kind_at cursor.old.rest.now) cursor.old.rest.now) result cursor.new.rest.now }
+    ensures reads { Parses (spec.negative_by (kind_at cursor.old.rest.now)) cursor.old result cursor.new }
     ensures shorter { OnOk result (length cursor.new.rest.now ≤ length cursor.old.rest.now) }
 {
     match cursor.kind() {
@@ -107,7 +106,7 @@ fn negative(cursor: &mut Cursor<'_>) -> Result<Start, ParseFault>
 
 /// After the `=`.
 fn start_value(cursor: &mut Cursor<'_>) -> Result<Start, ParseFault>
-    ensures reads { Answers (spec.start_value_by (kind_at cursor.old.rest.now) cursor.old.rest.now) result cursor.new.rest.now }
+    ensures reads { Parses (spec.start_value_by (kind_at cursor.old.rest.now)) cursor.old result cursor.new }
     ensures shorter { OnOk result (length cursor.new.rest.now ≤ length cursor.old.rest.now) }
 {
     match cursor.kind() {
@@ -128,7 +127,7 @@ fn start_value(cursor: &mut Cursor<'_>) -> Result<Start, ParseFault>
 }
 
 fn starts(cursor: &mut Cursor<'_>) -> Result<Start, ParseFault>
-    ensures reads { Answers (spec.starts cursor.old.rest.now) result cursor.new.rest.now }
+    ensures reads { Parses spec.starts cursor.old result cursor.new }
     ensures shorter { OnOk result (length cursor.new.rest.now ≤ length cursor.old.rest.now) }
 {
     if cursor.is_mark(Mark::Assign) {
@@ -147,7 +146,7 @@ fn globals(
     base: &CType,
     found: Items<Item>,
 ) -> Result<Items<Item>, ParseFault>
-    ensures reads { Answers (repeat (spec.global_name line base.now) found cursor.old.rest.now) result cursor.new.rest.now }
+    ensures reads { Parses (repeat (spec.global_name line base.now) found) cursor.old result cursor.new }
 {
     let mut found = found;
     loop {
@@ -173,7 +172,7 @@ fn globals(
 // ---- functions
 
 fn param(cursor: &mut Cursor<'_>) -> Result<Field, ParseFault>
-    ensures reads { Answers (spec.param cursor.old.rest.now) result cursor.new.rest.now }
+    ensures reads { Parses spec.param cursor.old result cursor.new }
     ensures shorter { OnOk result (length cursor.new.rest.now < length cursor.old.rest.now) }
 {
     let base = cursor.base()?;
@@ -185,7 +184,7 @@ fn param(cursor: &mut Cursor<'_>) -> Result<Field, ParseFault>
 /// At least one parameter, to the `)`.
 #[tactic(auto, using(al_grammar::proofs::Loops::params_is))]
 fn param_list(cursor: &mut Cursor<'_>) -> Result<Items<Field>, ParseFault>
-    ensures { Answers (repeat spec.param_turn [] cursor.old.rest.now) result cursor.new.rest.now }
+    ensures { Parses (repeat spec.param_turn []) cursor.old result cursor.new }
 {
     let mut found = Items::new(cursor.alloc);
     loop {
@@ -204,7 +203,7 @@ fn param_list(cursor: &mut Cursor<'_>) -> Result<Items<Field>, ParseFault>
 
 /// After the `(`, to the `)`.
 fn params(cursor: &mut Cursor<'_>) -> Result<Items<Field>, ParseFault>
-    ensures { Answers (spec.params cursor.old.rest.now) result cursor.new.rest.now }
+    ensures { Parses spec.params cursor.old result cursor.new }
 {
     match cursor.kind() {
         Some(TokenKind::Mark(Mark::RightParen)) => {
@@ -221,11 +220,11 @@ fn params(cursor: &mut Cursor<'_>) -> Result<Items<Field>, ParseFault>
 }
 
 fn function_body(cursor: &mut Cursor<'_>) -> Result<Items<Stmt>, ParseFault>
-    ensures { Answers (spec.body cursor.old.rest.now) result cursor.new.rest.now }
+    ensures { Parses spec.body cursor.old result cursor.new }
 {
     cursor.expect(Mark::LeftBrace)?;
     Body {
-        depth: MAX_NESTING,
+        depth: STATEMENT_NESTING,
         nested: statement,
     }
     .braced(cursor)
@@ -233,7 +232,7 @@ fn function_body(cursor: &mut Cursor<'_>) -> Result<Items<Stmt>, ParseFault>
 
 /// After the result's type without stars.
 fn function(cursor: &mut Cursor<'_>, line: u32, base: CType) -> Result<Item, ParseFault>
-    ensures { Answers (spec.function line base cursor.old.rest.now) result cursor.new.rest.now }
+    ensures { Parses (spec.function line base) cursor.old result cursor.new }
 {
     let result = cursor.stars(base)?;
     let name = cursor.word()?;
@@ -296,7 +295,7 @@ fn declared(
     base: CType,
     found: Items<Item>,
 ) -> Result<Items<Item>, ParseFault>
-    ensures { Answers (spec.declared line base found cursor.old.rest.now) result cursor.new.rest.now }
+    ensures { Parses (spec.declared line base found) cursor.old result cursor.new }
 {
     if function_next(cursor) {
         let item = function(cursor, line, base)?;
@@ -308,7 +307,7 @@ fn declared(
 
 /// An item, behind those that were read before.
 pub fn next_item(cursor: &mut Cursor<'_>, found: Items<Item>) -> Result<Items<Item>, ParseFault>
-    ensures { Answers (spec.items_step found cursor.old.rest.now) result cursor.new.rest.now }
+    ensures { Parses (spec.items_step found) cursor.old result cursor.new }
 {
     let line = cursor.line();
     if structure_next(cursor) {

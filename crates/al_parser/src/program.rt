@@ -5,7 +5,7 @@ ghost use Rattle.al_source.specs.declared.source_tree.Program.{Program};
 ghost use Rattle.al_source.specs.declared.faults.ParseFault.TheVariants.{Memory};
 ghost use Rattle.al_grammar.specs.Programs.{Derives};
 ghost use Rattle.al_grammar.specs.ProgramParser as spec;
-ghost use Rattle.al_expressions.specs.Answers.{Answers};
+ghost use Rattle.al_expressions.specs.Cursors.{Parses};
 
 use crate::items::next_item;
 use al_expressions::Cursor;
@@ -14,9 +14,9 @@ use sqlite_items::Items;
 use std::alloc::Global;
 
 /// The items, to the last token.
-#[tactic(auto, using(al_grammar::proofs::Loops::items_end, al_grammar::proofs::Loops::items_more, crate::proofs::Taken::items_shrink))]
+#[tactic(auto, using(al_grammar::proofs::Loops::item_steps, crate::proofs::Taken::items_shrink))]
 pub fn all_items(cursor: &mut Cursor<'_>) -> Result<Items<Item>, ParseFault>
-    ensures { Answers (spec.all_items cursor.old.rest.now) result cursor.new.rest.now }
+    ensures { Parses spec.all_items cursor.old result cursor.new }
 {
     let mut found = Items::new(cursor.alloc);
     while !cursor.rest.is_empty() {

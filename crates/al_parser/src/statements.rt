@@ -2,15 +2,16 @@
 
 ghost use Rattle.std.specs.Prelude.{◌≡◌, ◌<◌, length, OnOk, [], Some, None};
 ghost use Rattle.al_source.specs.declared.tokens.TokenKind.TheVariants as token;
-ghost use Rattle.al_grammar.specs.Steps.{bind, kind_at, repeat};
+ghost use Rattle.al_source.specs.Steps.{bind};
+ghost use Rattle.al_grammar.specs.Steps.{kind_at, repeat};
 ghost use Rattle.al_grammar.specs.Statements.{else_next};
 ghost use Rattle.al_grammar.specs.StatementParser as spec;
-ghost use Rattle.al_expressions.specs.Answers.{Answers};
+ghost use Rattle.al_expressions.specs.Cursors.{Parses};
 ghost use Rattle.al_parser.specs.NestsStatement.{NestsStatement};
 
 use al_expressions::Cursor;
 use al_phrases::{
-    begins_base, condition, declaration, end_note, head, loop_note, maybe, simple_statement,
+    begins_base, declaration, end_note, head, loop_note, maybe, parenthesized, simple_statement,
 };
 use al_source::{Expr, Key, LoopNote, Mark, ParseFault, Stmt, StmtKind, TokenKind};
 use sqlite_items::{Boxed, Items};
@@ -33,13 +34,13 @@ fn is_else(cursor: &Cursor<'_>) -> bool
 
 /// The `;` behind a statement.
 fn ended(cursor: &mut Cursor<'_>, kind: StmtKind) -> Result<StmtKind, ParseFault>
-    ensures { Answers (spec.ended kind cursor.old.rest.now) result cursor.new.rest.now }
+    ensures { Parses (spec.ended kind) cursor.old result cursor.new }
 {
     cursor.expect(Mark::Semicolon).and(Ok(kind))
 }
 
 fn plain(cursor: &mut Cursor<'_>) -> Result<StmtKind, ParseFault>
-    ensures { Answers (bind (spec.simple cursor.old.rest.now) spec.ended) result cursor.new.rest.now }
+    ensures { Parses (λ ts. bind (spec.simple ts) spec.ended) cursor.old result cursor.new }
 {
     let kind = simple_statement(cursor)?;
     ended(cursor, kind)
@@ -47,7 +48,7 @@ fn plain(cursor: &mut Cursor<'_>) -> Result<StmtKind, ParseFault>
 
 /// After the `return`.
 fn returns(cursor: &mut Cursor<'_>) -> Result<StmtKind, ParseFault>
-    ensures { Answers (spec.returns cursor.old.rest.now) result cursor.new.rest.now }
+    ensures { Parses spec.returns cursor.old result cursor.new }
 {
     let value = maybe(cursor)?;
     ended(cursor, StmtKind::Return(value))
@@ -55,7 +56,7 @@ fn returns(cursor: &mut Cursor<'_>) -> Result<StmtKind, ParseFault>
 
 /// A statement that may have this many levels.
 pub fn statement(cursor: &mut Cursor<'_>, depth: u8) -> Result<Stmt, ParseFault>
-    ensures reads { Answers (spec.statement depth cursor.old.rest.now) result cursor.new.rest.now }
+    ensures reads { Parses (spec.statement depth) cursor.old result cursor.new }
     ensures shorter { OnOk result (length cursor.new.rest.now < length cursor.old.rest.now) }
 {
     if depth == 0 {
@@ -71,7 +72,7 @@ pub fn statement(cursor: &mut Cursor<'_>, depth: u8) -> Result<Stmt, ParseFault>
 impl<F: Fn(&mut Cursor<'_>, u8) -> Result<Stmt, ParseFault>> Body<F> {
     fn nest(&self, cursor: &mut Cursor<'_>) -> Result<Stmt, ParseFault>
         requires { NestsStatement self.now.depth (F.pre self.now.nested) (F.post self.now.nested) }
-        ensures reads { Answers (spec.statement self.now.depth cursor.old.rest.now) result cursor.new.rest.now }
+        ensures reads { Parses (spec.statement self.now.depth) cursor.old result cursor.new }
         ensures shorter { OnOk result (length cursor.new.rest.now < length cursor.old.rest.now) }
     {
         (self.nested)(cursor, self.depth)
@@ -79,7 +80,7 @@ impl<F: Fn(&mut Cursor<'_>, u8) -> Result<Stmt, ParseFault>> Body<F> {
 
     fn nest_boxed(&self, cursor: &mut Cursor<'_>) -> Result<Boxed<Stmt>, ParseFault>
         requires { NestsStatement self.now.depth (F.pre self.now.nested) (F.post self.now.nested) }
-        ensures { Answers (spec.statement self.now.depth cursor.old.rest.now) result cursor.new.rest.now }
+        ensures { Parses (spec.statement self.now.depth) cursor.old result cursor.new }
     {
         let inner = self.nest(cursor)?;
         Ok(Boxed::new(cursor.alloc, inner)?)
@@ -87,7 +88,8 @@ impl<F: Fn(&mut Cursor<'_>, u8) -> Result<Stmt, ParseFault>> Body<F> {
 
     fn statement(&self, cursor: &mut Cursor<'_>) -> Result<Stmt, ParseFault>
         requires { NestsStatement self.now.depth (F.pre self.now.nested) (F.post self.now.nested) }
-        ensures { Answers (spec.statement_step self.now.depth (spec.statement self.now.depth) cursor.old.rest.now) result cursor.new.rest.now }
+        ensures { Parses (spec.statement_step self.now.depth (spec.statement self.now.depth))
+            cursor.old result cursor.new }
     {
         match cursor.kind() {
             Some(TokenKind::Alter) => self.noted_loop(cursor),
@@ -101,7 +103,8 @@ impl<F: Fn(&mut Cursor<'_>, u8) -> Result<Stmt, ParseFault>> Body<F> {
 
     fn kind(&self, cursor: &mut Cursor<'_>) -> Result<StmtKind, ParseFault>
         requires { NestsStatement self.now.depth (F.pre self.now.nested) (F.post self.now.nested) }
-        ensures { Answers (spec.kind_by self.now.depth (spec.statement self.now.depth) (kind_at cursor.old.rest.now) cursor.old.rest.now) result cursor.new.rest.now }
+        ensures { Parses (spec.kind_by self.now.depth (spec.statement self.now.depth) (kind_at cursor.old.rest.now))
+            cursor.old result cursor.new }
     {
         match cursor.kind() {
             Some(TokenKind::Mark(mark)) => self.by_mark(cursor, *mark),
@@ -112,7 +115,8 @@ impl<F: Fn(&mut Cursor<'_>, u8) -> Result<Stmt, ParseFault>> Body<F> {
 
     fn by_mark(&self, cursor: &mut Cursor<'_>, mark: Mark) -> Result<StmtKind, ParseFault>
         requires { NestsStatement self.now.depth (F.pre self.now.nested) (F.post self.now.nested) }
-        ensures { Answers (spec.kind_by self.now.depth (spec.statement self.now.depth) (Some (token.Mark mark)) cursor.old.rest.now) result cursor.new.rest.now }
+        ensures { Parses (spec.kind_by self.now.depth (spec.statement self.now.depth) (Some (token.Mark mark)))
+            cursor.old result cursor.new }
     {
         match mark {
             Mark::Semicolon => {
@@ -129,7 +133,8 @@ impl<F: Fn(&mut Cursor<'_>, u8) -> Result<Stmt, ParseFault>> Body<F> {
 
     fn by_key(&self, cursor: &mut Cursor<'_>, key: Key) -> Result<StmtKind, ParseFault>
         requires { NestsStatement self.now.depth (F.pre self.now.nested) (F.post self.now.nested) }
-        ensures { Answers (spec.kind_by self.now.depth (spec.statement self.now.depth) (Some (token.Key key)) cursor.old.rest.now) result cursor.new.rest.now }
+        ensures { Parses (spec.kind_by self.now.depth (spec.statement self.now.depth) (Some (token.Key key)))
+            cursor.old result cursor.new }
     {
         match key {
             Key::If => self.branch(cursor),
@@ -153,7 +158,7 @@ impl<F: Fn(&mut Cursor<'_>, u8) -> Result<Stmt, ParseFault>> Body<F> {
 
     /// Whether a level of nesting is left.
     fn gate(&self, cursor: &Cursor<'_>) -> Result<(), ParseFault>
-        ensures { Answers (spec.gate self.now.depth cursor.now.rest.now) result cursor.now.rest.now }
+        ensures { Parses (spec.gate self.now.depth) cursor.now result cursor.now }
     {
         if self.depth == 0 {
             Err(ParseFault::Syntax)
@@ -164,11 +169,11 @@ impl<F: Fn(&mut Cursor<'_>, u8) -> Result<Stmt, ParseFault>> Body<F> {
 
     fn branch(&self, cursor: &mut Cursor<'_>) -> Result<StmtKind, ParseFault>
         requires { NestsStatement self.now.depth (F.pre self.now.nested) (F.post self.now.nested) }
-        ensures { Answers (spec.branch self.now.depth (spec.statement self.now.depth) cursor.old.rest.now) result cursor.new.rest.now }
+        ensures { Parses (spec.branch self.now.depth (spec.statement self.now.depth)) cursor.old result cursor.new }
     {
         self.gate(cursor)?;
         cursor.advance();
-        let test = condition(cursor)?;
+        let test = parenthesized(cursor)?;
         let then = self.nest_boxed(cursor)?;
         self.otherwise(cursor, test, then)
     }
@@ -180,7 +185,9 @@ impl<F: Fn(&mut Cursor<'_>, u8) -> Result<Stmt, ParseFault>> Body<F> {
         then: Boxed<Stmt>,
     ) -> Result<StmtKind, ParseFault>
         requires { NestsStatement self.now.depth (F.pre self.now.nested) (F.post self.now.nested) }
-        ensures { Answers (spec.else_by self.now.depth (spec.statement self.now.depth) test then (else_next cursor.old.rest.now) cursor.old.rest.now) result cursor.new.rest.now }
+        ensures { Parses
+            (spec.else_by self.now.depth (spec.statement self.now.depth) test then (else_next cursor.old.rest.now))
+            cursor.old result cursor.new }
     {
         if is_else(cursor) {
             cursor.advance();
@@ -193,11 +200,11 @@ impl<F: Fn(&mut Cursor<'_>, u8) -> Result<Stmt, ParseFault>> Body<F> {
 
     fn while_loop(&self, cursor: &mut Cursor<'_>) -> Result<StmtKind, ParseFault>
         requires { NestsStatement self.now.depth (F.pre self.now.nested) (F.post self.now.nested) }
-        ensures { Answers (spec.while_loop self.now.depth (spec.statement self.now.depth) cursor.old.rest.now) result cursor.new.rest.now }
+        ensures { Parses (spec.while_loop self.now.depth (spec.statement self.now.depth)) cursor.old result cursor.new }
     {
         self.gate(cursor)?;
         cursor.advance();
-        let test = condition(cursor)?;
+        let test = parenthesized(cursor)?;
         let inner = self.nest_boxed(cursor)?;
         Ok(StmtKind::While(test, inner))
     }
@@ -208,7 +215,8 @@ impl<F: Fn(&mut Cursor<'_>, u8) -> Result<Stmt, ParseFault>> Body<F> {
         note: Option<LoopNote>,
     ) -> Result<StmtKind, ParseFault>
         requires { NestsStatement self.now.depth (F.pre self.now.nested) (F.post self.now.nested) }
-        ensures { Answers (spec.for_loop self.now.depth (spec.statement self.now.depth) note cursor.old.rest.now) result cursor.new.rest.now }
+        ensures { Parses (spec.for_loop self.now.depth (spec.statement self.now.depth) note)
+            cursor.old result cursor.new }
     {
         let (first, test, third) = head(cursor)?;
         let inner = self.nest_boxed(cursor)?;
@@ -217,7 +225,8 @@ impl<F: Fn(&mut Cursor<'_>, u8) -> Result<Stmt, ParseFault>> Body<F> {
 
     fn plain_for(&self, cursor: &mut Cursor<'_>) -> Result<StmtKind, ParseFault>
         requires { NestsStatement self.now.depth (F.pre self.now.nested) (F.post self.now.nested) }
-        ensures { Answers (bind (spec.gate self.now.depth cursor.old.rest.now) (λ _. spec.for_loop self.now.depth (spec.statement self.now.depth) None)) result cursor.new.rest.now }
+        ensures { Parses (λ ts. bind (spec.gate self.now.depth ts)
+            (λ _. spec.for_loop self.now.depth (spec.statement self.now.depth) None)) cursor.old result cursor.new }
     {
         self.gate(cursor)?;
         self.for_loop(cursor, None)
@@ -226,7 +235,7 @@ impl<F: Fn(&mut Cursor<'_>, u8) -> Result<Stmt, ParseFault>> Body<F> {
     /// A loop from its annotation on. It has the line of its `for`.
     fn noted_loop(&self, cursor: &mut Cursor<'_>) -> Result<Stmt, ParseFault>
         requires { NestsStatement self.now.depth (F.pre self.now.nested) (F.post self.now.nested) }
-        ensures { Answers (spec.noted_loop self.now.depth (spec.statement self.now.depth) cursor.old.rest.now) result cursor.new.rest.now }
+        ensures { Parses (spec.noted_loop self.now.depth (spec.statement self.now.depth)) cursor.old result cursor.new }
     {
         self.gate(cursor)?;
         cursor.advance();
@@ -240,7 +249,8 @@ impl<F: Fn(&mut Cursor<'_>, u8) -> Result<Stmt, ParseFault>> Body<F> {
     /// A declaration or a statement, behind those that were read before.
     fn inner(&self, cursor: &mut Cursor<'_>, found: Items<Stmt>) -> Result<Items<Stmt>, ParseFault>
         requires { NestsStatement self.now.depth (F.pre self.now.nested) (F.post self.now.nested) }
-        ensures reads { Answers (spec.inner self.now.depth (spec.statement self.now.depth) found cursor.old.rest.now) result cursor.new.rest.now }
+        ensures reads { Parses (spec.inner self.now.depth (spec.statement self.now.depth) found)
+            cursor.old result cursor.new }
         ensures shorter { OnOk result (length cursor.new.rest.now < length cursor.old.rest.now) }
     {
         self.gate(cursor)?;
@@ -257,7 +267,8 @@ impl<F: Fn(&mut Cursor<'_>, u8) -> Result<Stmt, ParseFault>> Body<F> {
     #[tactic(auto, using(al_grammar::proofs::Loops::inners_is))]
     fn inners(&self, cursor: &mut Cursor<'_>) -> Result<Items<Stmt>, ParseFault>
         requires { NestsStatement self.now.depth (F.pre self.now.nested) (F.post self.now.nested) }
-        ensures { Answers (repeat (spec.inner_turn self.now.depth (spec.statement self.now.depth)) [] cursor.old.rest.now) result cursor.new.rest.now }
+        ensures { Parses (repeat (spec.inner_turn self.now.depth (spec.statement self.now.depth)) [])
+            cursor.old result cursor.new }
     {
         let mut found = Items::new(cursor.alloc);
         while !cursor.is_mark(Mark::RightBrace) {
@@ -269,7 +280,7 @@ impl<F: Fn(&mut Cursor<'_>, u8) -> Result<Stmt, ParseFault>> Body<F> {
     /// After a `{`, to its `}`.
     pub fn braced(&self, cursor: &mut Cursor<'_>) -> Result<Items<Stmt>, ParseFault>
         requires { NestsStatement self.now.depth (F.pre self.now.nested) (F.post self.now.nested) }
-        ensures { Answers (spec.braced self.now.depth (spec.statement self.now.depth) cursor.old.rest.now) result cursor.new.rest.now }
+        ensures { Parses (spec.braced self.now.depth (spec.statement self.now.depth)) cursor.old result cursor.new }
     {
         let found = self.inners(cursor)?;
         cursor.expect(Mark::RightBrace)?;

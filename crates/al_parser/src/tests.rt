@@ -6,49 +6,11 @@
 use crate::ParseFault;
 use crate::program::all_items;
 use al_expressions::Cursor;
-use al_source::{Key, Mark, Token, TokenKind};
+use al_grammar::{KEYS, MARKS, key_text, mark_text};
+use al_source::{Token, TokenKind};
 use sqlite_items::Items;
 use std::alloc::{AllocError, Global};
 use std::test::Fail;
-
-const KEYS: [(&str, Key); 14] = [
-    ("int", Key::Int),
-    ("long", Key::Long),
-    ("void", Key::Void),
-    ("struct", Key::Struct),
-    ("return", Key::Return),
-    ("break", Key::Break),
-    ("if", Key::If),
-    ("else", Key::Else),
-    ("while", Key::While),
-    ("for", Key::For),
-    ("sizeof", Key::Sizeof),
-    ("calloc", Key::Calloc),
-    ("printf", Key::Printf),
-    ("NULL", Key::Null),
-];
-
-const MARKS: [(&str, Mark); 19] = [
-    ("(", Mark::LeftParen),
-    (")", Mark::RightParen),
-    ("[", Mark::LeftBracket),
-    ("]", Mark::RightBracket),
-    ("{", Mark::LeftBrace),
-    ("}", Mark::RightBrace),
-    (";", Mark::Semicolon),
-    (",", Mark::Comma),
-    (".", Mark::Dot),
-    (":", Mark::Colon),
-    ("->", Mark::Arrow),
-    ("=", Mark::Assign),
-    ("+=", Mark::PlusAssign),
-    ("++", Mark::Increment),
-    ("--", Mark::Decrement),
-    ("+", Mark::Plus),
-    ("-", Mark::Minus),
-    ("*", Mark::Star),
-    ("<", Mark::Less),
-];
 
 const ITEMS: [&str; 24] = [
     "",
@@ -123,6 +85,23 @@ const CALLS: [&str; 17] = [
     "int f ( ) { x = f ( 127**- ? - 1 ) ; }",
 ];
 
+const FREES: [&str; 14] = [
+    "int f ( ) { free ( p ) ; free ( NULL ) ; free ( ( p ) ) ; }",
+    "int f ( ) { for ( free ( p ) ; ; free ( q ) ) ; }",
+    "int f ( ) { free ( ? ) ; }",
+    "int f ( ) { free ( p ? , q ) ; }",
+    "int f ( ) { free ? p ; }",
+    "int f ( ) { free ( p ) ? = 1 ; }",
+    "int f ( ) { free ( p ) ? + 1 ; }",
+    "int f ( ) { x = ? free ( p ) ; }",
+    "int f ( ) { return ? free ( p ) ; }",
+    "int f ( ) { free ( ? free ( p ) ) ; }",
+    "int f ( ) { free ( 128**- 1 ) ; }",
+    "int f ( ) { free ( 128**- ? - 1 ) ; }",
+    "int f ( ) { 127**{ free ( p ) ; 127**} }",
+    "int ? free ( ) { }",
+];
+
 const OPERATORS: [&str; 17] = [
     "int f ( ) { return 128**- 1 ; }",
     "int f ( ) { return 128**- ? - 1 ; }",
@@ -176,13 +155,13 @@ fn named(alloc: Global, word: &str) -> Result<TokenKind, AllocError> {
 }
 
 fn kind_of(alloc: Global, word: &str) -> Result<TokenKind, AllocError> {
-    for (text, key) in KEYS {
-        if text == word {
+    for key in KEYS {
+        if key_text(key) == word.as_bytes() {
             return Ok(TokenKind::Key(key));
         }
     }
-    for (text, mark) in MARKS {
-        if text == word {
+    for mark in MARKS {
+        if mark_text(mark) == word.as_bytes() {
             return Ok(TokenKind::Mark(mark));
         }
     }
@@ -254,6 +233,7 @@ fn stops_at_the_first_bad_token(rt: HostRuntime) -> Result<(), Fail> {
         ITEMS.as_slice(),
         STATEMENTS.as_slice(),
         CALLS.as_slice(),
+        FREES.as_slice(),
         OPERATORS.as_slice(),
         NESTING.as_slice(),
     ] {

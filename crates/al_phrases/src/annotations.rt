@@ -4,7 +4,7 @@ ghost use Rattle.std.specs.Prelude.{◌≡◌, ◌<◌, ◌≤◌, length, OnOk,
 ghost use Rattle.al_grammar.specs.Operators.{note_word_of};
 ghost use Rattle.al_grammar.specs.Steps.{meaning_at, repeat};
 ghost use Rattle.al_grammar.specs.StatementParser as spec;
-ghost use Rattle.al_expressions.specs.Answers.{Answers};
+ghost use Rattle.al_expressions.specs.Cursors.{Parses};
 
 use al_expressions::Cursor;
 use al_grammar::{NoteWord, note_word_of};
@@ -45,7 +45,7 @@ fn note_order(cursor: &mut Cursor<'_>) -> CommitOrder
 }
 
 fn operator(cursor: &mut Cursor<'_>) -> Result<RedOp, ParseFault>
-    ensures reads { Answers (spec.operator cursor.old.rest.now) result cursor.new.rest.now }
+    ensures reads { Parses spec.operator cursor.old result cursor.new }
     ensures shorter { OnOk result (length cursor.new.rest.now < length cursor.old.rest.now) }
 {
     match note_word(cursor) {
@@ -64,7 +64,7 @@ fn variables(
     op: RedOp,
     found: Items<NamedRed>,
 ) -> Result<Items<NamedRed>, ParseFault>
-    ensures reads { Answers (repeat (spec.variable op) found cursor.old.rest.now) result cursor.new.rest.now }
+    ensures reads { Parses (repeat (spec.variable op) found) cursor.old result cursor.new }
     ensures shorter { OnOk result (length cursor.new.rest.now < length cursor.old.rest.now) }
 {
     let mut found = found;
@@ -84,7 +84,7 @@ fn variables(
 
 /// One `reduce`, from its `(` on.
 fn reduction(cursor: &mut Cursor<'_>, found: Items<NamedRed>) -> Result<Items<NamedRed>, ParseFault>
-    ensures reads { Answers (spec.reduction found cursor.old.rest.now) result cursor.new.rest.now }
+    ensures reads { Parses (spec.reduction found) cursor.old result cursor.new }
     ensures shorter { OnOk result (length cursor.new.rest.now < length cursor.old.rest.now) }
 {
     cursor.expect(Mark::LeftParen)?;
@@ -95,7 +95,7 @@ fn reduction(cursor: &mut Cursor<'_>, found: Items<NamedRed>) -> Result<Items<Na
 
 #[tactic(auto, using(al_grammar::proofs::Loops::reductions_is))]
 fn reductions(cursor: &mut Cursor<'_>) -> Result<Items<NamedRed>, ParseFault>
-    ensures { Answers (repeat spec.reduce_turn [] cursor.old.rest.now) result cursor.new.rest.now }
+    ensures { Parses (repeat spec.reduce_turn []) cursor.old result cursor.new }
 {
     let mut found = Items::new(cursor.alloc);
     while let Some(NoteWord::Reduce) = note_word(cursor) {
@@ -107,7 +107,7 @@ fn reductions(cursor: &mut Cursor<'_>) -> Result<Items<NamedRed>, ParseFault>
 
 /// Between the ends of an annotation.
 pub fn loop_note(cursor: &mut Cursor<'_>) -> Result<LoopNote, ParseFault>
-    ensures { Answers (spec.loop_note cursor.old.rest.now) result cursor.new.rest.now }
+    ensures { Parses spec.loop_note cursor.old result cursor.new }
 {
     let policy = note_policy(cursor);
     let order = note_order(cursor);
@@ -121,7 +121,7 @@ pub fn loop_note(cursor: &mut Cursor<'_>) -> Result<LoopNote, ParseFault>
 
 /// Takes the end of an annotation.
 pub fn end_note(cursor: &mut Cursor<'_>) -> Result<(), ParseFault>
-    ensures { Answers (spec.end_note cursor.old.rest.now) result cursor.new.rest.now }
+    ensures { Parses spec.end_note cursor.old result cursor.new }
 {
     match cursor.kind() {
         Some(TokenKind::EndAlter) => {

@@ -3,7 +3,7 @@
 ghost use Rattle.std.specs.Prelude.{◌≡◌, ◌<◌, ◌≤◌, length, OnOk, []};
 ghost use Rattle.al_grammar.specs.Steps.{key_at, repeat};
 ghost use Rattle.al_grammar.specs.StatementParser as spec;
-ghost use Rattle.al_expressions.specs.Answers.{Answers};
+ghost use Rattle.al_expressions.specs.Cursors.{Parses};
 
 use al_expressions::Cursor;
 use al_source::{CType, Expr, Key, Mark, ParseFault, Stmt, StmtKind};
@@ -22,7 +22,7 @@ pub fn begins_base(cursor: &Cursor<'_>) -> bool
 }
 
 fn initializer(cursor: &mut Cursor<'_>) -> Result<Option<Expr>, ParseFault>
-    ensures reads { Answers (spec.initializer cursor.old.rest.now) result cursor.new.rest.now }
+    ensures reads { Parses spec.initializer cursor.old result cursor.new }
     ensures shorter { OnOk result (length cursor.new.rest.now ≤ length cursor.old.rest.now) }
 {
     if cursor.is_mark(Mark::Assign) {
@@ -42,7 +42,7 @@ fn locals(
     base: &CType,
     found: Items<Stmt>,
 ) -> Result<Items<Stmt>, ParseFault>
-    ensures reads { Answers (repeat (spec.local line base.now) found cursor.old.rest.now) result cursor.new.rest.now }
+    ensures reads { Parses (repeat (spec.local line base.now) found) cursor.old result cursor.new }
     ensures shorter { OnOk result (length cursor.new.rest.now < length cursor.old.rest.now) }
 {
     let mut found = found;
@@ -64,7 +64,7 @@ fn locals(
 
 /// A declaration, which is a statement for each of its names.
 pub fn declaration(cursor: &mut Cursor<'_>, found: Items<Stmt>) -> Result<Items<Stmt>, ParseFault>
-    ensures reads { Answers (spec.declaration found cursor.old.rest.now) result cursor.new.rest.now }
+    ensures reads { Parses (spec.declaration found) cursor.old result cursor.new }
     ensures shorter { OnOk result (length cursor.new.rest.now < length cursor.old.rest.now) }
 {
     let line = cursor.line();

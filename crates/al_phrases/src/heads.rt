@@ -1,10 +1,10 @@
-//! The head of a loop or a condition.
+//! The head of a loop.
 
 ghost use Rattle.std.specs.Prelude.{◌≡◌, IfOk, Some};
 ghost use Rattle.al_grammar.specs.Steps.{key_at};
 ghost use Rattle.al_grammar.specs.Statements.{statement_of};
 ghost use Rattle.al_grammar.specs.StatementParser as spec;
-ghost use Rattle.al_expressions.specs.Answers.{Answers};
+ghost use Rattle.al_expressions.specs.Cursors.{Parses};
 
 use crate::declarations::begins_base;
 use crate::simple::simple_statement;
@@ -18,7 +18,7 @@ pub type Parts = (Option<Boxed<Stmt>>, Option<Expr>, Option<Boxed<Stmt>>);
 
 /// An expression, where no `;` comes next.
 pub fn maybe(cursor: &mut Cursor<'_>) -> Result<Option<Expr>, ParseFault>
-    ensures { Answers (spec.maybe cursor.old.rest.now) result cursor.new.rest.now }
+    ensures { Parses spec.maybe cursor.old result cursor.new }
 {
     match cursor.mark() {
         Some(Mark::Semicolon) => Ok(None),
@@ -36,7 +36,7 @@ fn boxed(alloc: Global, line: u32, kind: StmtKind) -> Result<Option<Boxed<Stmt>>
 }
 
 fn first_declaration(cursor: &mut Cursor<'_>) -> Result<StmtKind, ParseFault>
-    ensures { Answers (spec.first_declaration cursor.old.rest.now) result cursor.new.rest.now }
+    ensures { Parses spec.first_declaration cursor.old result cursor.new }
 {
     let base = cursor.base()?;
     let field = cursor.declarator(&base)?;
@@ -46,7 +46,7 @@ fn first_declaration(cursor: &mut Cursor<'_>) -> Result<StmtKind, ParseFault>
 }
 
 fn first_kind(cursor: &mut Cursor<'_>) -> Result<StmtKind, ParseFault>
-    ensures { Answers (spec.first_kind (spec.begins_base (key_at cursor.old.rest.now)) cursor.old.rest.now) result cursor.new.rest.now }
+    ensures { Parses (spec.first_kind (spec.begins_base (key_at cursor.old.rest.now))) cursor.old result cursor.new }
 {
     if begins_base(cursor) {
         first_declaration(cursor)
@@ -56,7 +56,7 @@ fn first_kind(cursor: &mut Cursor<'_>) -> Result<StmtKind, ParseFault>
 }
 
 fn first_part(cursor: &mut Cursor<'_>) -> Result<Option<Boxed<Stmt>>, ParseFault>
-    ensures { Answers (spec.first_part cursor.old.rest.now) result cursor.new.rest.now }
+    ensures { Parses spec.first_part cursor.old result cursor.new }
 {
     match cursor.mark() {
         Some(Mark::Semicolon) => Ok(None),
@@ -69,7 +69,7 @@ fn first_part(cursor: &mut Cursor<'_>) -> Result<Option<Boxed<Stmt>>, ParseFault
 }
 
 fn third_part(cursor: &mut Cursor<'_>) -> Result<Option<Boxed<Stmt>>, ParseFault>
-    ensures { Answers (spec.third_part cursor.old.rest.now) result cursor.new.rest.now }
+    ensures { Parses spec.third_part cursor.old result cursor.new }
 {
     match cursor.mark() {
         Some(Mark::RightParen) => Ok(None),
@@ -83,7 +83,7 @@ fn third_part(cursor: &mut Cursor<'_>) -> Result<Option<Boxed<Stmt>>, ParseFault
 
 /// From the `for` to the `)` before the body.
 pub fn head(cursor: &mut Cursor<'_>) -> Result<Parts, ParseFault>
-    ensures { Answers (spec.head cursor.old.rest.now) result cursor.new.rest.now }
+    ensures { Parses spec.head cursor.old result cursor.new }
 {
     cursor.expect_key(Key::For)?;
     cursor.expect(Mark::LeftParen)?;
@@ -94,14 +94,4 @@ pub fn head(cursor: &mut Cursor<'_>) -> Result<Parts, ParseFault>
     let third = third_part(cursor)?;
     cursor.expect(Mark::RightParen)?;
     Ok((first, test, third))
-}
-
-/// An expression in parentheses.
-pub fn condition(cursor: &mut Cursor<'_>) -> Result<Expr, ParseFault>
-    ensures { Answers (spec.condition cursor.old.rest.now) result cursor.new.rest.now }
-{
-    cursor.expect(Mark::LeftParen)?;
-    let inside = cursor.expression()?;
-    cursor.expect(Mark::RightParen)?;
-    Ok(inside)
 }

@@ -4,10 +4,10 @@ ghost use Rattle.std.specs.Prelude.{◌≡◌, ◌<◌, ◌≤◌, length, OnOk,
 ghost use Rattle.al_grammar.specs.Operators.{update_of, step_of};
 ghost use Rattle.al_grammar.specs.Steps.{meaning_at};
 ghost use Rattle.al_grammar.specs.StatementParser as spec;
-ghost use Rattle.al_expressions.specs.Answers.{Answers};
+ghost use Rattle.al_expressions.specs.Cursors.{Parses};
 
 use al_expressions::Cursor;
-use al_grammar::{step_of, update_of};
+use al_grammar::{key_text, step_of, update_of};
 use al_source::{BinOp, Expr, Format, Key, Mark, Name, ParseFault, Piece, StmtKind, TokenKind};
 use sqlite_items::Items;
 use std::alloc::{AllocError, Global};
@@ -33,7 +33,7 @@ fn copy_format(alloc: Global, pieces: &[Piece]) -> Result<Format, AllocError>
 
 /// Takes a text, and copies it.
 fn text(cursor: &mut Cursor<'_>) -> Result<Format, ParseFault>
-    ensures { Answers (spec.text cursor.old.rest.now) result cursor.new.rest.now }
+    ensures { Parses spec.text cursor.old result cursor.new }
 {
     match cursor.kind() {
         Some(TokenKind::Text(format)) => {
@@ -48,7 +48,7 @@ fn text(cursor: &mut Cursor<'_>) -> Result<Format, ParseFault>
 /// At least one value, to the `)`. Each is a whole expression.
 #[tactic(auto, using(al_grammar::proofs::Loops::values_is))]
 fn values(cursor: &mut Cursor<'_>) -> Result<Items<Expr>, ParseFault>
-    ensures { Answers (spec.values cursor.old.rest.now) result cursor.new.rest.now }
+    ensures { Parses spec.values cursor.old result cursor.new }
 {
     let mut found = Items::new(cursor.alloc);
     loop {
@@ -66,7 +66,7 @@ fn values(cursor: &mut Cursor<'_>) -> Result<Items<Expr>, ParseFault>
 }
 
 fn call_values(cursor: &mut Cursor<'_>) -> Result<Items<Expr>, ParseFault>
-    ensures { Answers (spec.call_values cursor.old.rest.now) result cursor.new.rest.now }
+    ensures { Parses spec.call_values cursor.old result cursor.new }
 {
     match cursor.mark() {
         Some(Mark::RightParen) => {
@@ -78,7 +78,7 @@ fn call_values(cursor: &mut Cursor<'_>) -> Result<Items<Expr>, ParseFault>
 }
 
 fn print_values(cursor: &mut Cursor<'_>) -> Result<Items<Expr>, ParseFault>
-    ensures { Answers (spec.print_values cursor.old.rest.now) result cursor.new.rest.now }
+    ensures { Parses spec.print_values cursor.old result cursor.new }
 {
     match cursor.mark() {
         Some(Mark::RightParen) => {
@@ -95,7 +95,7 @@ fn print_values(cursor: &mut Cursor<'_>) -> Result<Items<Expr>, ParseFault>
 
 /// After the `printf`.
 fn print(cursor: &mut Cursor<'_>) -> Result<StmtKind, ParseFault>
-    ensures { Answers (spec.print cursor.old.rest.now) result cursor.new.rest.now }
+    ensures { Parses spec.print cursor.old result cursor.new }
 {
     cursor.expect(Mark::LeftParen)?;
     let format = text(cursor)?;
@@ -103,9 +103,30 @@ fn print(cursor: &mut Cursor<'_>) -> Result<StmtKind, ParseFault>
     Ok(StmtKind::Print(format, values))
 }
 
+/// An expression in parentheses.
+pub fn parenthesized(cursor: &mut Cursor<'_>) -> Result<Expr, ParseFault>
+    ensures { Parses spec.parenthesized cursor.old result cursor.new }
+{
+    cursor.expect(Mark::LeftParen)?;
+    let inside = cursor.expression()?;
+    cursor.expect(Mark::RightParen)?;
+    Ok(inside)
+}
+
+/// After the `free`. In the tree it is a call of that name.
+fn free(cursor: &mut Cursor<'_>) -> Result<StmtKind, ParseFault>
+    ensures { Parses spec.free cursor.old result cursor.new }
+{
+    let pointer = parenthesized(cursor)?;
+    let name = Items::from_slice(cursor.alloc, key_text(Key::Free))?;
+    let mut values = Items::new(cursor.alloc);
+    values.push(pointer)?;
+    Ok(StmtKind::Call(name, values))
+}
+
 /// A call from its name on, where the statement ends behind it.
 fn call(cursor: &mut Cursor<'_>, name: Name) -> Result<StmtKind, ParseFault>
-    ensures { Answers (spec.call name cursor.old.rest.now) result cursor.new.rest.now }
+    ensures { Parses (spec.call name) cursor.old result cursor.new }
 {
     cursor.advance();
     cursor.expect(Mark::LeftParen)?;
@@ -137,7 +158,7 @@ fn step(cursor: &Cursor<'_>) -> Option<BinOp>
 
 /// After the place.
 fn assign(cursor: &mut Cursor<'_>, place: Expr) -> Result<StmtKind, ParseFault>
-    ensures { Answers (spec.assign place cursor.old.rest.now) result cursor.new.rest.now }
+    ensures { Parses (spec.assign place) cursor.old result cursor.new }
 {
     match update(cursor) {
         Some(op) => {
@@ -150,7 +171,7 @@ fn assign(cursor: &mut Cursor<'_>, place: Expr) -> Result<StmtKind, ParseFault>
 }
 
 fn step_or_assign(cursor: &mut Cursor<'_>, place: Expr) -> Result<StmtKind, ParseFault>
-    ensures { Answers (spec.assign_by place None (meaning_at step_of cursor.old.rest.now) cursor.old.rest.now) result cursor.new.rest.now }
+    ensures { Parses (spec.assign_by place None (meaning_at step_of cursor.old.rest.now)) cursor.old result cursor.new }
 {
     match step(cursor) {
         Some(op) => {
@@ -166,7 +187,7 @@ fn step_or_assign(cursor: &mut Cursor<'_>, place: Expr) -> Result<StmtKind, Pars
 }
 
 fn placed(cursor: &mut Cursor<'_>) -> Result<StmtKind, ParseFault>
-    ensures { Answers (spec.placed cursor.old.rest.now) result cursor.new.rest.now }
+    ensures { Parses spec.placed cursor.old result cursor.new }
 {
     let place = cursor.place()?;
     assign(cursor, place)
@@ -174,7 +195,7 @@ fn placed(cursor: &mut Cursor<'_>) -> Result<StmtKind, ParseFault>
 
 /// A call or an assignment, which both may begin with a name. The fault is the one that comes further.
 fn call_or_placed(cursor: &mut Cursor<'_>, name: Name) -> Result<StmtKind, ParseFault>
-    ensures { Answers (spec.or_else (spec.call name) spec.placed cursor.old.rest.now) result cursor.new.rest.now }
+    ensures { Parses (spec.or_else (spec.call name) spec.placed) cursor.old result cursor.new }
 {
     let start = *cursor;
     match call(cursor, name) {
@@ -189,7 +210,7 @@ fn call_or_placed(cursor: &mut Cursor<'_>, name: Name) -> Result<StmtKind, Parse
 }
 
 fn second<'a>(cursor: &mut Cursor<'a>, stuck: Cursor<'a>) -> Result<StmtKind, ParseFault>
-    ensures { Answers (spec.second stuck.entry.rest.now (spec.placed cursor.old.rest.now)) result cursor.new.rest.now }
+    ensures { Parses (λ ts. spec.second stuck.entry.rest.now (spec.placed ts)) cursor.old result cursor.new }
 {
     match placed(cursor) {
         Ok(kind) => Ok(kind),
@@ -204,7 +225,7 @@ fn second<'a>(cursor: &mut Cursor<'a>, stuck: Cursor<'a>) -> Result<StmtKind, Pa
 }
 
 fn before_or_placed(cursor: &mut Cursor<'_>) -> Result<StmtKind, ParseFault>
-    ensures { Answers (spec.before_by (meaning_at step_of cursor.old.rest.now) cursor.old.rest.now) result cursor.new.rest.now }
+    ensures { Parses (spec.before_by (meaning_at step_of cursor.old.rest.now)) cursor.old result cursor.new }
 {
     match step(cursor) {
         Some(op) => {
@@ -218,7 +239,7 @@ fn before_or_placed(cursor: &mut Cursor<'_>) -> Result<StmtKind, ParseFault>
 
 /// A statement without its `;`.
 pub fn simple_statement(cursor: &mut Cursor<'_>) -> Result<StmtKind, ParseFault>
-    ensures { Answers (spec.simple cursor.old.rest.now) result cursor.new.rest.now }
+    ensures { Parses spec.simple cursor.old result cursor.new }
 {
     match cursor.kind() {
         Some(TokenKind::Word(name)) => {
@@ -228,6 +249,10 @@ pub fn simple_statement(cursor: &mut Cursor<'_>) -> Result<StmtKind, ParseFault>
         Some(TokenKind::Key(Key::Printf)) => {
             cursor.advance();
             print(cursor)
+        }
+        Some(TokenKind::Key(Key::Free)) => {
+            cursor.advance();
+            free(cursor)
         }
         _ => before_or_placed(cursor),
     }

@@ -116,17 +116,39 @@ tokens-Address x l = ap (λ f. f l) (expression_of (Expr-F.Address x) _ (e.rolls
 pub tokens-SizeOf : (a : CType) (l : ℕ) → expression (e.SizeOf a) l ≡ size_of a
 tokens-SizeOf a l = ap (λ f. f l) (expression_of (Expr-F.SizeOf a) _ (e.rolls-SizeOf a))
 
-pub tokens-Calloc : (x : Expr) (a : CType) (l : ℕ) → expression (e.Calloc x a) l ≡ Key key.Calloc ∷ Mark m.LeftParen ∷ value x ++ Mark m.Comma ∷ size_of a ++ Mark m.RightParen ∷ []
+pub tokens-Calloc : (x : Expr) (a : CType) (l : ℕ)
+    → expression (e.Calloc x a) l ≡ Key key.Calloc ∷ Mark m.LeftParen ∷ value x ++ Mark m.Comma ∷ size_of a ++ Mark m.RightParen ∷ []
 tokens-Calloc x a l = ap (λ f. f l) (expression_of (Expr-F.Calloc x a) _ (e.rolls-Calloc x a))
 
-pub tokens-Call : (w : List ℕ) (xs : List Expr) (l : ℕ) → expression (e.Call w xs) l ≡ Word w ∷ Mark m.LeftParen ∷ with_commas (values xs) ++ Mark m.RightParen ∷ []
-tokens-Call w xs l = ap (λ f. f l) (expression_of (Expr-F.Call w xs) _ (e.rolls-Call w xs)) ∙ ap (λ ks. Word w ∷ Mark m.LeftParen ∷ with_commas ks ++ Mark m.RightParen ∷ []) (values_of xs)
+pub tokens-Call : (w : List ℕ) (xs : List Expr) (l : ℕ)
+    → expression (e.Call w xs) l ≡ Word w ∷ Mark m.LeftParen ∷ with_commas (values xs) ++ Mark m.RightParen ∷ []
+tokens-Call w xs l =
+    ap (λ f. f l) (expression_of (Expr-F.Call w xs) _ (e.rolls-Call w xs))
+    ∙ ap (λ ks. Word w ∷ Mark m.LeftParen ∷ with_commas ks ++ Mark m.RightParen ∷ []) (values_of xs)
 
-pub ruleset all_expressions = (fold-append, tokens-Number, tokens-Null, tokens-Var, tokens-Unary, tokens-Binary, tokens-And, tokens-Or, tokens-Index, tokens-Dot, tokens-Arrow, tokens-Deref, tokens-Address, tokens-SizeOf, tokens-Calloc, tokens-Call)
+pub ruleset all_expressions = (
+  fold-append,
+  tokens-Number,
+  tokens-Null,
+  tokens-Var,
+  tokens-Unary,
+  tokens-Binary,
+  tokens-And,
+  tokens-Or,
+  tokens-Index,
+  tokens-Dot,
+  tokens-Arrow,
+  tokens-Deref,
+  tokens-Address,
+  tokens-SizeOf,
+  tokens-Calloc,
+  tokens-Call,
+)
 
 -- ---- statements
 
-kind_of : (x : StmtKind-F StmtKind Stmt) (d : StmtKind) → roll-StmtKind x ≡ d → statement_kind d ≡ kind_case (map-StmtKind StmtKind Stmt Standing Standing statement_kind statement x)
+kind_of : (x : StmtKind-F StmtKind Stmt) (d : StmtKind)
+    → roll-StmtKind x ≡ d → statement_kind d ≡ kind_case (map-StmtKind StmtKind Stmt Standing Standing statement_kind statement x)
 unfolding statement_kind statement
 kind_of x d is = ap (λ d. fold-StmtKind Standing Standing kind_case statement_case d) (sym is) ∙ fold-roll-StmtKind Standing Standing kind_case statement_case x
 
@@ -168,16 +190,33 @@ pub kind-If : (c : Expr) (x : Stmt) (y : Option Stmt) (b : Bool) → statement_k
 kind-If c x None b = ap (λ f. f b) (kind_of (StmtKind-F.If c x None) _ (k.rolls-If c x None))
 kind-If c x (Some y) b = ap (λ f. f b) (kind_of (StmtKind-F.If c x (Some y)) _ (k.rolls-If c x (Some y)))
 
-pub kind-For : (first : Option Stmt) (test : Option Expr) (third : Option Stmt) (x : Stmt) (n : Option LoopNote) (b : Bool) → statement_kind (k.For first test third x n) b ≡ optional_note n ++ head (part_of first) test (part_of third) ++ statement x true
+pub kind-For : (first : Option Stmt) (test : Option Expr) (third : Option Stmt) (x : Stmt) (n : Option LoopNote) (b : Bool)
+    → statement_kind (k.For first test third x n) b ≡ optional_note n ++ head (part_of first) test (part_of third) ++ statement x true
 kind-For None test None x n b = ap (λ f. f b) (kind_of (StmtKind-F.For None test None x n) _ (k.rolls-For None test None x n))
 kind-For None test (Some c) x n b = ap (λ f. f b) (kind_of (StmtKind-F.For None test (Some c) x n) _ (k.rolls-For None test (Some c) x n))
 kind-For (Some a) test None x n b = ap (λ f. f b) (kind_of (StmtKind-F.For (Some a) test None x n) _ (k.rolls-For (Some a) test None x n))
 kind-For (Some a) test (Some c) x n b = ap (λ f. f b) (kind_of (StmtKind-F.For (Some a) test (Some c) x n) _ (k.rolls-For (Some a) test (Some c) x n))
 
 pub kind-Block : (ss : List Stmt) (b : Bool) → statement_kind (k.Block ss) b ≡ Mark m.LeftBrace ∷ statements ss ++ Mark m.RightBrace ∷ []
-kind-Block ss b = ap (λ f. f b) (kind_of (StmtKind-F.Block ss) _ (k.rolls-Block ss)) ∙ ap (λ ks. Mark m.LeftBrace ∷ ks ++ Mark m.RightBrace ∷ []) (statements_of ss)
+kind-Block ss b =
+    ap (λ f. f b) (kind_of (StmtKind-F.Block ss) _ (k.rolls-Block ss)) ∙ ap (λ ks. Mark m.LeftBrace ∷ ks ++ Mark m.RightBrace ∷ []) (statements_of ss)
 
-pub ruleset all_kinds = (fold-append, kind-Empty, kind-Declare, kind-Assign, kind-Update, kind-Call, kind-Print, kind-If, kind-While, kind-For, kind-Block, kind-Return, kind-Break, kind-Continue)
+pub ruleset all_kinds = (
+  fold-append,
+  kind-Empty,
+  kind-Declare,
+  kind-Assign,
+  kind-Update,
+  kind-Call,
+  kind-Print,
+  kind-If,
+  kind-While,
+  kind-For,
+  kind-Block,
+  kind-Return,
+  kind-Break,
+  kind-Continue,
+)
 
 pub statement_is : (s : Stmt) (b : Bool) → statement s b ≡ statement_kind s.kind b
 unfolding statement_kind statement

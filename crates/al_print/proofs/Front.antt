@@ -22,7 +22,8 @@ only (some t none) = t
 pub whole : (ks : Kinds) {ts us : Tokens} → Has (ks ++ []) ts us → Has ks ts us
 whole ks {ts} {us} h = subst (λ (q : Kinds). Has q ts us) (append-nil ks) h
 
-pub split3 : (xs ys : Kinds) {zs : Kinds} {ts us : Tokens} → Has (xs ++ ys ++ zs) ts us → (ms : Tokens) × (ns : Tokens) × Has xs ts ms × Has ys ms ns × Has zs ns us
+pub split3 : (xs ys : Kinds) {zs : Kinds} {ts us : Tokens}
+    → Has (xs ++ ys ++ zs) ts us → (ms : Tokens) × (ns : Tokens) × Has xs ts ms × Has ys ms ns × Has zs ns us
 split3 xs ys h = let (ns, a, c) = split (xs ++ ys) h in let (ms, x, y) = split xs a in (ms, ns, x, y, c)
 
 pub split4 : (xs ys zs : Kinds) {ks : Kinds} {ts us : Tokens} → Has (xs ++ ys ++ zs ++ ks) ts us

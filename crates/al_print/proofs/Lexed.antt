@@ -34,14 +34,17 @@ prefix_whole : (p : ℕ → Bool) (w : Bytes) (c : ℕ) (z : Bytes) → prefix_l
 prefix_whole p w c z whole stop =
     let none : prefix_len p (c ∷ z) ≡ 0 = ap (λ (b : Bool). cond b (1 + prefix_len p z) 0) stop in
     let all : nat_eq (prefix_len p w) (length w) ≡ true = eq-eqb _ _ whole in
-    prefix_len-append p w (c ∷ z) ∙ ap (λ (b : Bool). cond b (length w + prefix_len p (c ∷ z)) (prefix_len p w)) all ∙ ap (λ (n : ℕ). length w + n) none ∙ omega arith
+    prefix_len-append p w (c ∷ z) ∙ ap (λ (b : Bool). cond b (length w + prefix_len p (c ∷ z)) (prefix_len p w)) all ∙ ap (λ (n : ℕ). length w + n) none
+    ∙ omega arith
 
 name_long : (w z : Bytes) → prefix_len is_word w ≡ length w → ◌≡◌ {A = Lexeme} (name (w ++ 32 ∷ z)) (named w (key_of w), length w)
 name_long w z whole =
     let len : name_len (w ++ 32 ∷ z) ≡ length w = prefix_whole is_word w 32 z whole refl in
-    ap {B = Lexeme} (λ (n : ℕ). (name_kind (take n (w ++ 32 ∷ z)), n)) len ∙ ap {B = Lexeme} (λ (v : Bytes). (name_kind v, length w)) (take-append_seam w (32 ∷ z))
+    ap {B = Lexeme} (λ (n : ℕ). (name_kind (take n (w ++ 32 ∷ z)), n)) len
+    ∙ ap {B = Lexeme} (λ (v : Bytes). (name_kind v, length w)) (take-append_seam w (32 ∷ z))
 
-pub word_lexeme : (line : ℕ) (w z : Bytes) → is_letter (slice_index w 0) ≡ true → prefix_len is_word w ≡ length w → lexeme line (w ++ 32 ∷ z) ≡ Ok (named w (key_of w), length w)
+pub word_lexeme : (line : ℕ) (w z : Bytes)
+    → is_letter (slice_index w 0) ≡ true → prefix_len is_word w ≡ length w → lexeme line (w ++ 32 ∷ z) ≡ Ok (named w (key_of w), length w)
 unfolding lexeme
 word_lexeme line [] z letter whole = absurd cc
 word_lexeme line (b ∷ w) z letter whole = pick (is_letter b) _ _ letter ∙ ap Ok (name_long (b ∷ w) z whole)
@@ -60,7 +63,8 @@ key_known key.Auto = refl
 key_known _ = refl
 
 pub key_lexeme : (line : ℕ) (k : Key) (z : Bytes) → lexeme line (key_text k ++ 32 ∷ z) ≡ Ok (kind.Key k, length (key_text k))
-key_lexeme line k z = word_lexeme line (key_text k) z (key_letter k) (key_whole k) ∙ ap (λ (o : Option Key). Ok (named (key_text k) o, length (key_text k))) (key_known k)
+key_lexeme line k z =
+    word_lexeme line (key_text k) z (key_letter k) (key_whole k) ∙ ap (λ (o : Option Key). Ok (named (key_text k) o, length (key_text k))) (key_known k)
 
 -- ---- numbers
 
@@ -91,7 +95,9 @@ digits_whole (c ∷ cs) h =
     ap (λ (b : Bool). cond b (1 + prefix_len is_ascii_digit cs) 0) (is_digit c parts.0) ∙ ap (λ (n : ℕ). 1 + n) (digits_whole cs parts.1) ∙ omega arith
 
 -- Digits, the first of which is 0 only where it is the last, are no hexadecimal number, whatever follows that is no `x`.
-not_hexadecimal : (c : ℕ) (cs y : Bytes) → (c ≡ 48 → cs ≡ []) → (slice_index y 0 == 120) ≡ false → (slice_index y 0 == 88) ≡ false → (b : Bool) → nat_eq c 48 ≡ b → is_hexadecimal (c ∷ cs ++ y) ≡ false
+not_hexadecimal : (c : ℕ) (cs y : Bytes)
+    → (c ≡ 48 → cs ≡ []) → (slice_index y 0 == 120) ≡ false → (slice_index y 0 == 88) ≡ false → (b : Bool) → nat_eq c 48 ≡ b
+    → is_hexadecimal (c ∷ cs ++ y) ≡ false
 not_hexadecimal c cs y alone e f true d =
     let none : cs ≡ [] = alone (eqb-true _ _ d) in
     subst (λ (ds : Bytes). is_hexadecimal (c ∷ ds ++ y) ≡ false) (sym none) (rw (d, e, f))
@@ -132,38 +138,49 @@ unfolding number_at
 read_number y n l good value len =
     pick (is_number y) _ _ good ∙ ap (λ (v : ℕ). Some (pos v, number_len y)) value ∙ ap (λ (k : ℕ). Some (pos n, k)) len
 
-number_long : (c : ℕ) (cs z : Bytes) (n : ℕ) → AllDigits 10 (c ∷ cs) → (c ≡ 48 → cs ≡ []) → value_in 10 (c ∷ cs) ≡ n → n ≤ 9223372036854775807 → number_at (c ∷ cs ++ 32 ∷ z) ≡ Some (pos n, length (c ∷ cs))
+number_long : (c : ℕ) (cs z : Bytes) (n : ℕ)
+    → AllDigits 10 (c ∷ cs) → (c ≡ 48 → cs ≡ []) → value_in 10 (c ∷ cs) ≡ n → n ≤ 9223372036854775807
+    → number_at (c ∷ cs ++ 32 ∷ z) ≡ Some (pos n, length (c ∷ cs))
 number_long c cs z n all alone value small =
     let d : Bytes = c ∷ cs in
     let y : Bytes = d ++ 32 ∷ z in
     let whole = digits_whole d all in
     let hex : is_hexadecimal y ≡ false = not_hexadecimal c cs (32 ∷ z) alone refl refl (nat_eq c 48) refl in
-    let bare_hex : is_hexadecimal d ≡ false = subst (λ (ds : Bytes). is_hexadecimal ds ≡ false) (append-nil d) (not_hexadecimal c cs [] alone refl refl (nat_eq c 48) refl) in
+    let bare_hex : is_hexadecimal d ≡ false = subst (λ (ds : Bytes). is_hexadecimal ds ≡ false) (append-nil d)
+    (not_hexadecimal c cs [] alone refl refl (nat_eq c 48) refl) in
     let len : number_len y ≡ length d = number_ends d z hex whole in
     let taken : take (number_len y) y ≡ d = ap (λ (k : ℕ). take k y) len ∙ take-append_seam d (32 ∷ z) in
     let read : number_value (take (number_len y) y) ≡ n = ap number_value taken ∙ value_whole d bare_hex whole ∙ value in
     let end : digits_end y ≡ length d = skip (is_hexadecimal y) _ _ hex ∙ prefix_whole is_ascii_digit d 32 z whole refl in
     let shaped : has_digits y ≡ true = skip (is_hexadecimal y) _ _ hex ∙ has_one c cs (digits_end y) alone end (nat_eq c 48) refl in
-    let stops : spoils_number (slice_index y (number_len y)) ≡ false = ap (λ (k : ℕ). spoils_number (slice_index y k)) len ∙ ap spoils_number (get_or-append_seam d 32 z 0) in
-    let fits : nat_le (number_value (take (number_len y) y)) 9223372036854775807 ≡ true = ap (λ (v : ℕ). nat_le v 9223372036854775807) read ∙ le-leb _ _ small in
+    let stops : spoils_number (slice_index y (number_len y)) ≡ false = ap (λ (k : ℕ). spoils_number (slice_index y k)) len
+    ∙ ap spoils_number (get_or-append_seam d 32 z 0) in
+    let fits : nat_le (number_value (take (number_len y) y)) 9223372036854775807 ≡ true = ap (λ (v : ℕ). nat_le v 9223372036854775807) read
+    ∙ le-leb _ _ small in
     read_number y n (length d) (all_three (has_digits y) _ _ shaped stops fits) read len
 
-digits_lexeme : (line c : ℕ) (cs z : Bytes) (n : ℕ) → AllDigits 10 (c ∷ cs) → (c ≡ 48 → cs ≡ []) → value_in 10 (c ∷ cs) ≡ n → n ≤ 9223372036854775807 → lexeme line (c ∷ cs ++ 32 ∷ z) ≡ Ok (kind.Number (pos n), length (c ∷ cs))
+digits_lexeme : (line c : ℕ) (cs z : Bytes) (n : ℕ)
+    → AllDigits 10 (c ∷ cs) → (c ≡ 48 → cs ≡ []) → value_in 10 (c ∷ cs) ≡ n → n ≤ 9223372036854775807
+    → lexeme line (c ∷ cs ++ 32 ∷ z) ≡ Ok (kind.Number (pos n), length (c ∷ cs))
 unfolding lexeme
 digits_lexeme line c cs z n all alone value small =
     let range = (tells_digits.parts c cs all).0 in
-    skip (is_letter c) _ _ (no_letter c range) ∙ pick (is_ascii_digit c) _ _ (is_digit c range) ∙ ap (number_token line) (number_long c cs z n all alone value small)
+    skip (is_letter c) _ _ (no_letter c range) ∙ pick (is_ascii_digit c) _ _ (is_digit c range)
+    ∙ ap (number_token line) (number_long c cs z n all alone value small)
 
 -- the digits of a number, taken apart
-of_digits : (line n : ℕ) (z : Bytes) → n < 2 ^ 64 → n ≤ 9223372036854775807 → (d : Bytes) → decimal n ≡ d → lexeme line (d ++ 32 ∷ z) ≡ Ok (kind.Number (pos n), length d)
+of_digits : (line n : ℕ) (z : Bytes)
+    → n < 2 ^ 64 → n ≤ 9223372036854775807 → (d : Bytes) → decimal n ≡ d → lexeme line (d ++ 32 ∷ z) ≡ Ok (kind.Number (pos n), length d)
 of_digits line n z short small [] e = let some = decimal_nonempty n short in let none : length (decimal n) ≡ 0 = ap length e in absurd (omega arith)
 of_digits line zero z short small (c ∷ cs) e =
     let same : 48 ∷ [] ≡ c ∷ cs = sym (decimal_digit 0 (omega arith)) ∙ e in
-    digits_lexeme line c cs z 0 (subst (AllDigits 10) e (digits_decimal own 0 short)) (λ _. cc) (ap (value_in 10) (sym e) ∙ digits_value-decimal own 0 short) small
+    digits_lexeme line c cs z 0 (subst (AllDigits 10) e (digits_decimal own 0 short)) (λ _. cc) (ap (value_in 10) (sym e) ∙ digits_value-decimal own 0 short)
+    small
 of_digits line (suc n) z short small (c ∷ cs) e =
     let more = first_decimal (suc n) (omega arith) short in
     let first : slice_index (decimal (suc n)) 0 ≡ c = ap (λ (d : Bytes). slice_index d 0) e in
-    digits_lexeme line c cs z (suc n) (subst (AllDigits 10) e (digits_decimal own (suc n) short)) (λ is. absurd (omega arith)) (ap (value_in 10) (sym e) ∙ digits_value-decimal own (suc n) short) small
+    digits_lexeme line c cs z (suc n) (subst (AllDigits 10) e (digits_decimal own (suc n) short)) (λ is. absurd (omega arith))
+    (ap (value_in 10) (sym e) ∙ digits_value-decimal own (suc n) short) small
 
 pub number_lexeme : (line n : ℕ) (z : Bytes) → n ≤ 9223372036854775807 → lexeme line (decimal n ++ 32 ∷ z) ≡ Ok (kind.Number (pos n), length (decimal n))
 number_lexeme line n z small = of_digits line n z (omega arith) small (decimal n) refl

@@ -158,10 +158,12 @@ format_again false (piece.Plain [] ∷ ps) h = absurd h
 format_again false (piece.Plain (b ∷ bs) ∷ ps) h =
     bytes_format (b ∷ bs) (format_text ps) (h.0, h.1) ∙ ap (before_bytes (b ∷ bs)) (format_again true ps h.2) ∙ one_piece b bs ps h.2
 
-pieces_inside : (after : Bool) (ps : List Piece) (y : Bytes) → IsFormat after ps → inside_from 0 (format_text ps ++ y) ≡ option_map (λ n. length (format_text ps) + n) (inside_from 0 y)
+pieces_inside : (after : Bool) (ps : List Piece) (y : Bytes)
+    → IsFormat after ps → inside_from 0 (format_text ps ++ y) ≡ option_map (λ n. length (format_text ps) + n) (inside_from 0 y)
 pieces_inside after [] y h = bytes_inside [] y tt
 pieces_inside after (piece.Number ∷ ps) y h =
-    (number (format_text ps ++ y)).inside ∙ ap (option_map (λ n. 3 + n)) (pieces_inside false ps y h) ∙ map_add (37 ∷ 108 ∷ 100 ∷ []) (format_text ps) (inside_from 0 y)
+    (number (format_text ps ++ y)).inside ∙ ap (option_map (λ n. 3 + n)) (pieces_inside false ps y h)
+    ∙ map_add (37 ∷ 108 ∷ 100 ∷ []) (format_text ps) (inside_from 0 y)
 pieces_inside true (piece.Plain bs ∷ ps) y h = absurd h
 pieces_inside false (piece.Plain [] ∷ ps) y h = absurd h
 pieces_inside false (piece.Plain (b ∷ bs) ∷ ps) y h =
@@ -178,11 +180,14 @@ format_is : (f : List Piece) → IsFormat false f → format_of (format_text f) 
 unfolding format_of
 format_is f h = format_again false f h
 
-pub text_lexeme : (line : ℕ) (f : List Piece) (z : Bytes) → IsFormat false f → lexeme line (34 ∷ (format_text f ++ 34 ∷ z)) ≡ Ok (kind.Text f, length (format_text f) + 2)
+pub text_lexeme : (line : ℕ) (f : List Piece) (z : Bytes)
+    → IsFormat false f → lexeme line (34 ∷ (format_text f ++ 34 ∷ z)) ≡ Ok (kind.Text f, length (format_text f) + 2)
 unfolding lexeme
 text_lexeme line f z h =
     let y : Bytes = 34 ∷ (format_text f ++ 34 ∷ z) in
     let len : ℕ = length (format_text f) in
     let back : len + 1 - 1 ≡ len = omega arith in
-    let within : slice_range y 1 (len + 1) ≡ format_text f = ap (λ (k : ℕ). take k (format_text f ++ 34 ∷ z)) back ∙ take-append_seam (format_text f) (34 ∷ z) in
-    ap (quoted line y) (inside_quotes f z h) ∙ ap (λ (v : Bytes). Ok (kind.Text (format_of v), len + 2)) within ∙ ap (λ (g : List Piece). Ok (kind.Text g, len + 2)) (format_is f h)
+    let within : slice_range y 1 (len + 1) ≡ format_text f = ap (λ (k : ℕ). take k (format_text f ++ 34 ∷ z)) back
+    ∙ take-append_seam (format_text f) (34 ∷ z) in
+    ap (quoted line y) (inside_quotes f z h) ∙ ap (λ (v : Bytes). Ok (kind.Text (format_of v), len + 2)) within
+    ∙ ap (λ (g : List Piece). Ok (kind.Text g, len + 2)) (format_is f h)

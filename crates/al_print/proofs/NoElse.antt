@@ -69,6 +69,7 @@ simple_other (s.step_after p _) = reads_other p.reads
 simple_other (s.step_before k _) = means_step k
 simple_other (s.call k _ _) = takes_other k refl
 simple_other (s.print k _ _ _) = takes_other k refl
+simple_other (s.free k _) = takes_other k refl
 
 head_other : {ts us : Tokens} {a b c : _} → Head ts a b c us → else_next ts ≡ false
 head_other (s.head k _ _ _ _ _ _ _) = takes_other k refl

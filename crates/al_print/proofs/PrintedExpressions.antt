@@ -14,7 +14,8 @@ use Rattle.al_source.specs.declared.source_tree.Expr.{Expr}
 use Rattle.al_source.specs.declared.source_tree.Expr.TheVariants as e
 use Rattle.al_grammar.specs.declared.operators.Joint.{Joint}
 use Rattle.al_grammar.specs.declared.operators.Prefix.{Prefix}
-use Rattle.al_grammar.specs.Operators.{infix_of, levels, join, prefix_of, apply}
+use Rattle.al_grammar.specs.declared.operators.TheConstants.{LEVELS}
+use Rattle.al_grammar.specs.Operators.{infix_of, join, prefix_of, apply}
 use Rattle.al_grammar.specs.Phrases.{Tokens, Name, Takes, takes, Means, means}
 use Rattle.al_grammar.specs.Expressions.{State, Sort, level, unary, postfix, primary, Reads, Arguments, More, Expression, Place}
 use Rattle.al_grammar.specs.Types.{SizeOf}
@@ -87,7 +88,9 @@ pub record Printed (x : Expr) (c : ℕ) : Type 0 where
   pub tidy : Orderly false core
 
 -- at a place of some level, with the parentheses that it needs
-at_place : {x : Expr} {c : ℕ} (p : Printed x c) (l : ℕ) → l ≤ 11 → (b : Bool) → nat_lt p.head l ≡ b → (n k : ℕ) (vs ws : Tokens) → n ≡ (c + cost b) + k → Has (expression x l) vs ws → Reads (place l) (n, vs) x (k, ws)
+at_place : {x : Expr} {c : ℕ} (p : Printed x c) (l : ℕ)
+    → l ≤ 11 → (b : Bool) → nat_lt p.head l ≡ b → (n k : ℕ) (vs ws : Tokens) → n ≡ (c + cost b) + k → Has (expression x l) vs ws
+    → Reads (place l) (n, vs) x (k, ws)
 at_place {x} {c} p l le true e n k vs ws room h =
     let (m₁, a₁, h₁) = first (given (p.is l le ∙ ap (λ (b : Bool). grouped b p.core) e) h) in
     let (m₂, h₂, h₃) = split p.core h₁ in
@@ -96,7 +99,8 @@ at_place {x} {c} p l le true e n k vs ws room h =
     subst (λ (q : ℕ). Reads (place l) (q, vs) x (k, ws)) is (raise (11 - l) l 11 (omega arith) (omega arith) (g.bare (g.group a₁ inner (only h₃))))
 at_place {x} {c} p l le false e n k vs ws room h =
     let least : l ≤ p.head = ltb-false _ _ e in
-    raise (p.head - l) l p.head (omega arith) p.top (p.reads n k vs ws (omega arith) (whole p.core (given (p.is l le ∙ ap (λ (b : Bool). grouped b p.core) e) h)))
+    raise (p.head - l) l p.head (omega arith) p.top
+    (p.reads n k vs ws (omega arith) (whole p.core (given (p.is l le ∙ ap (λ (b : Bool). grouped b p.core) e) h)))
 
 tidy_grouped : (b : Bool) (core : Kinds) → Orderly false core → Orderly false (grouped b core)
 tidy_grouped true core h = orderly false core _ h tt
@@ -116,7 +120,8 @@ pub record Law (l : ℕ) (s : State) (x : Expr) (s' : State) : Type 0 where
 abbrev all_of : {l : ℕ} {s : State} {x : Expr} {s' : State} → Law l s x s' → ℕ → ℕ
 all_of q l = q.c + cost (nat_lt q.printed.head l)
 
-reads_at : {l : ℕ} {s : State} {x : Expr} {s' : State} (q : Law l s x s') → l ≤ 11 → (n k : ℕ) (vs ws : Tokens) → n ≡ all_of q l + k → Has (expression x l) vs ws → Reads (place l) (n, vs) x (k, ws)
+reads_at : {l : ℕ} {s : State} {x : Expr} {s' : State} (q : Law l s x s')
+    → l ≤ 11 → (n k : ℕ) (vs ws : Tokens) → n ≡ all_of q l + k → Has (expression x l) vs ws → Reads (place l) (n, vs) x (k, ws)
 reads_at {l} q le n k vs ws room h = at_place q.printed l le (nat_lt q.printed.head l) refl n k vs ws room h
 
 fits_at : {l : ℕ} {s : State} {x : Expr} {s' : State} (q : Law l s x s') → all_of q l + s'.0 ≤ s.0
@@ -192,7 +197,8 @@ joined_fits : (a b p n k l : ℕ) → a + suc n ≤ k → b + l ≤ n → (q : B
 joined_fits a b p n k l h h' true e = absurd (let lt = ltb-true _ _ e in omega arith)
 joined_fits a b p n k l h h' false e = omega arith
 
-law_joined : {p n : ℕ} {s s' : State} {x y : Expr} {op : Joint} {k : TokenKind} {ts us : Tokens} → p < levels → infix_of k ≡ Some (p, op) → Joins k (p, op) → Law p s x (suc n, ts) → Law (suc p) (n, us) y s' → Law p s (join op x y) s'
+law_joined : {p n : ℕ} {s s' : State} {x y : Expr} {op : Joint} {k : TokenKind} {ts us : Tokens}
+    → p < LEVELS → infix_of k ≡ Some (p, op) → Joins k (p, op) → Law p s x (suc n, ts) → Law (suc p) (n, us) y s' → Law p s (join op x y) s'
 law_joined {p} {n} {s} {s'} {x} {y} {op} {k} lt d j a b = record {
   c = all_of a p + suc (all_of b (suc p));
   printed = record {
@@ -213,7 +219,8 @@ law_joined {p} {n} {s} {s'} {x} {y} {op} {k} lt d j a b = record {
   rest = b.rest;
 }
 
-law_prefixed : {n : ℕ} {s' : State} {x : Expr} {op : Prefix} {k : TokenKind} {ts us : Tokens} → prefix_of k ≡ Some op → Prefixes k op → Law 10 (n, us) x s' → Law 10 (suc n, ts) (apply op x) s'
+law_prefixed : {n : ℕ} {s' : State} {x : Expr} {op : Prefix} {k : TokenKind} {ts us : Tokens}
+    → prefix_of k ≡ Some op → Prefixes k op → Law 10 (n, us) x s' → Law 10 (suc n, ts) (apply op x) s'
 law_prefixed {n} {s'} {x} {op} {k} d j a = record {
   c = suc (all_of a 10);
   printed = record {
@@ -300,7 +307,9 @@ law_size {a = a} z h = let q = size z h in law_tight (record {
   c = 1;
   core = size_of a;
   is = tokens-SizeOf a;
-  reads = λ i o vs ws room k. let same : suc o ≡ i = omega arith in subst (λ (q : ℕ). Reads postfix (q, vs) (e.SizeOf a) (o, ws)) same (g.bare (g.size (q.reads vs ws k)));
+  reads =
+      λ i o vs ws room k.
+      let same : suc o ≡ i = omega arith in subst (λ (q : ℕ). Reads postfix (q, vs) (e.SizeOf a) (o, ws)) same (g.bare (g.size (q.reads vs ws k)));
   tidy = q.tidy;
   fits = omega arith;
   rest = q.left;
@@ -325,7 +334,8 @@ law_allocation {n} {k} {x} {a} b c z r = let q = size z (left c b.rest) in law_t
   rest = left r q.left;
 })
 
-law_index : {n k : ℕ} {s : State} {x i : Expr} {ts us vs ws : Tokens} → Law 11 s x (suc n, ts) → Law 0 (n, us) i (k, vs) → Takes (Mark m.RightBracket) vs ws → Law 11 s (e.Index x i) (k, ws)
+law_index : {n k : ℕ} {s : State} {x i : Expr} {ts us vs ws : Tokens}
+    → Law 11 s x (suc n, ts) → Law 0 (n, us) i (k, vs) → Takes (Mark m.RightBracket) vs ws → Law 11 s (e.Index x i) (k, ws)
 law_index {n} {k} {s} {x} {i} a b r = law_tight (record {
   c = all_of a 11 + suc (all_of b 0);
   core = expression x 11 ++ Mark m.LeftBracket ∷ value i ++ Mark m.RightBracket ∷ [];
@@ -333,13 +343,15 @@ law_index {n} {k} {s} {x} {i} a b r = law_tight (record {
   reads = λ p o vs ws room h.
       let (m₁, m₃, h₁, h₂, h₅) = split3 (expression x 11) (Mark m.LeftBracket ∷ value i) h in
       let (m₂, a₁, h₄) = first h₂ in
-      g.index (reads_at a (omega arith) p (suc (all_of b 0 + o)) vs m₁ (omega arith) h₁) a₁ (to_level 0 (omega arith) (reads_at b (omega arith) (all_of b 0 + o) o m₂ m₃ refl h₄)) (only h₅);
+      g.index (reads_at a (omega arith) p (suc (all_of b 0 + o)) vs m₁ (omega arith) h₁) a₁
+      (to_level 0 (omega arith) (reads_at b (omega arith) (all_of b 0 + o) o m₂ m₃ refl h₄)) (only h₅);
   tidy = orderly3 (expression x 11) (Mark m.LeftBracket ∷ value i) _ (tidy_at a.printed 11 (omega arith)) (tidy_at b.printed 0 (omega arith)) tt;
   fits = let f = fits_at a in let h = fits_at b in omega arith;
   rest = left r b.rest;
 })
 
-law_dot : {n : ℕ} {s : State} {x : Expr} {w : Name} {ts us vs : Tokens} → Law 11 s x (suc n, ts) → Takes (Mark m.Dot) ts us → Takes (Word w) us vs → Law 11 s (e.Dot x w) (n, vs)
+law_dot : {n : ℕ} {s : State} {x : Expr} {w : Name} {ts us vs : Tokens}
+    → Law 11 s x (suc n, ts) → Takes (Mark m.Dot) ts us → Takes (Word w) us vs → Law 11 s (e.Dot x w) (n, vs)
 law_dot {n} {s} {x} {w} a t r = law_tight (record {
   c = all_of a 11 + 1;
   core = expression x 11 ++ Mark m.Dot ∷ Word w ∷ [];
@@ -353,7 +365,8 @@ law_dot {n} {s} {x} {w} a t r = law_tight (record {
   rest = left r (left t a.rest);
 })
 
-law_arrow : {n : ℕ} {s : State} {x : Expr} {w : Name} {ts us vs : Tokens} → Law 11 s x (suc n, ts) → Takes (Mark m.Arrow) ts us → Takes (Word w) us vs → Law 11 s (e.Arrow x w) (n, vs)
+law_arrow : {n : ℕ} {s : State} {x : Expr} {w : Name} {ts us vs : Tokens}
+    → Law 11 s x (suc n, ts) → Takes (Mark m.Arrow) ts us → Takes (Word w) us vs → Law 11 s (e.Arrow x w) (n, vs)
 law_arrow {n} {s} {x} {w} a t r = law_tight (record {
   c = all_of a 11 + 1;
   core = expression x 11 ++ Mark m.Arrow ∷ Word w ∷ [];
@@ -469,7 +482,9 @@ mutual
 
   law_arguments : {s s' : State} {xs : List Expr} → Arguments s xs s' → AllWritable s.1 → ArgumentsAgain s xs s'
   law_arguments (g.none t) h = record { c = 0; reads = λ n k vs ms ws room i r. no_arguments room i r; tidy = tt; fits = omega arith; rest = left t h }
-  law_arguments (g.some r) h = let q = law_more r h in record { c = q.c; reads = λ n k vs ms ws room i t. g.some (q.reads n k vs ms ws room i t); tidy = q.tidy; fits = q.fits; rest = q.rest }
+  law_arguments (g.some r) h =
+      let q = law_more r h in
+      record { c = q.c; reads = λ n k vs ms ws room i t. g.some (q.reads n k vs ms ws room i t); tidy = q.tidy; fits = q.fits; rest = q.rest }
 
   law_more : {s s' : State} {xs : List Expr} → More s xs s' → AllWritable s.1 → MoreAgain s xs s'
   law_more (g.last r t) h = last_again (law r h) t
@@ -482,7 +497,9 @@ whole_expression {x = x} q h =
     let a = law q.reads h in
     let f = fits_at a in
     record {
-      reads = λ vs ws k. record { left = 128 - all_of a 0; reads = to_level 0 (omega arith) (reads_at a (omega arith) 128 (128 - all_of a 0) vs ws (omega arith) k) };
+      reads =
+          λ vs ws k.
+          record { left = 128 - all_of a 0; reads = to_level 0 (omega arith) (reads_at a (omega arith) 128 (128 - all_of a 0) vs ws (omega arith) k) };
       tidy = tidy_at a.printed 0 (omega arith);
       left = a.rest;
     }

@@ -34,10 +34,12 @@ fields-append (f ∷ fs) gs = ap (λ (ks : Kinds). field f ++ ks) (fields-append
 
 join_fields : {ts us vs : Tokens} {fs gs : List Field} → Fields ts fs us → Fields us gs vs → Fields ts (fs ++ gs) vs
 join_fields (g.last b n) k = g.more b n k
-join_fields {ts} {us} {vs} {gs = gs} (g.more {fs = fs} {gs = hs} b n r) k = subst (λ (xs : List Field). Fields ts xs vs) (sym (append_assoc fs hs gs)) (g.more b n (join_fields r k))
+join_fields {ts} {us} {vs} {gs = gs} (g.more {fs = fs} {gs = hs} b n r) k =
+    subst (λ (xs : List Field). Fields ts xs vs) (sym (append_assoc fs hs gs)) (g.more b n (join_fields r k))
 
 -- the fields of one line, each on its own
-field_names : {a : CType} {ts us bs : Tokens} {fs : List Field} → FieldNames a ts fs us → BaseAgain a bs → AllWritable ts → Again (λ vs ws. Fields vs fs ws) (fields fs) us
+field_names : {a : CType} {ts us bs : Tokens} {fs : List Field}
+    → FieldNames a ts fs us → BaseAgain a bs → AllWritable ts → Again (λ vs ws. Fields vs fs ws) (fields fs) us
 field_names (g.last {f = f} d t) p h =
     let c = declarator d p.flat h in
     record {
@@ -82,7 +84,8 @@ number_start : (v : ℤ) {us : Tokens} → IsNumber v → AllWritable us → Aga
 number_start (pos n) i h = record { reads = λ vs ws k. let (m₁, a₁, k₁) = first k in g.number a₁ (only k₁); tidy = (i, tt); left = h }
 number_start (negsuc n) i h = absurd i
 
-negative_start : (n : ℕ) {us : Tokens} → IsNumber (pos n) → AllWritable us → Again (λ vs ws. Starts vs (start.Number (neg_ℤ (pos n))) ws) (start_value (start.Number (neg_ℤ (pos n)))) us
+negative_start : (n : ℕ) {us : Tokens}
+    → IsNumber (pos n) → AllWritable us → Again (λ vs ws. Starts vs (start.Number (neg_ℤ (pos n))) ws) (start_value (start.Number (neg_ℤ (pos n)))) us
 negative_start zero i h = number_start (pos 0) i h
 negative_start (suc n) i h = record {
   reads = λ vs ws k. let (m₁, a₁, k₁) = first k in let (m₂, a₂, k₂) = first k₁ in g.negative a₁ a₂ (only k₂);
@@ -109,7 +112,8 @@ record ItemsAgain (is : List Item) (us : Tokens) : Type 0 where
 
 items-append : (is js : List Item) → items_tokens (is ++ js) ≡ items_tokens is ++ items_tokens js
 items-append [] js = refl
-items-append (i ∷ is) js = ap (λ (ks : Kinds). item_tokens i ++ ks) (items-append is js) ∙ sym (append_assoc (item_tokens i) (items_tokens is) (items_tokens js))
+items-append (i ∷ is) js =
+    ap (λ (ks : Kinds). item_tokens i ++ ks) (items-append is js) ∙ sym (append_assoc (item_tokens i) (items_tokens is) (items_tokens js))
 
 one_global : {a : CType} {bs us : Tokens} (l : ℕ) (f : Field) (s : Start) → BaseAgain a bs → DeclaredAgain a f us
     → ((vs ws : Tokens) → Has (start_value s) vs ws → Starts vs s ws)
@@ -124,7 +128,9 @@ globals {l} (g.last {f = f} {s = s} d r t) p h =
     let c = declarator d p.flat h in
     let v = starts r c.left in
     record {
-      reads = λ vs ws qs k q. (global (line_at vs) f s ∷ [], g.next (one_global l f s p c v.reads vs ws (whole (item_tokens (global l f s)) k)) q, record { is = refl });
+      reads =
+          λ vs ws qs k q.
+          (global (line_at vs) f s ∷ [], g.next (one_global l f s p c v.reads vs ws (whole (item_tokens (global l f s)) k)) q, record { is = refl });
       tidy = orderly false (item_tokens (global l f s)) _ (orderly3 (declared f.ty f.name) (start_value s) _ (c.tidy p.again.tidy) v.tidy tt) tt;
       left = left t v.left;
     }
@@ -147,7 +153,8 @@ record ResultAgain (a : CType) (us : Tokens) : Type 0 where
   again : Again (λ vs ws. ResultBase vs a ws) (type_front a) us
 
 result_base : {ts us : Tokens} {a : CType} → ResultBase ts a us → AllWritable ts → ResultAgain a us
-result_base (g.base b) h = let p = base b h in record { again = record { reads = λ vs ws k. g.base (p.again.reads vs ws k); tidy = p.again.tidy; left = p.again.left } }
+result_base (g.base b) h =
+    let p = base b h in record { again = record { reads = λ vs ws k. g.base (p.again.reads vs ws k); tidy = p.again.tidy; left = p.again.left } }
 result_base (g.void t) h = record { again = record { reads = λ vs ws k. g.void (only (given front-Void k)); tidy = tidied front-Void tt; left = left t h } }
 
 param : {ts us : Tokens} {f : Field} → Param ts f us → AllWritable ts → Again (λ vs ws. Param vs f ws) (parameter f) us
@@ -215,7 +222,8 @@ items (g.structure {t₀ = t₀} {w = w} {fs = fs} t u v q x y) h =
           let (m₃, a₃, k₃) = first k₂ in
           let (m₄, k₄, k₅) = split (fields fs) k₃ in
           let (m₅, a₄, k₆) = first k₅ in
-          (item.Struct (record { name = w; fields = fs; line = line_at vs }) ∷ [], g.next (g.structure a₁ a₂ a₃ (a.reads m₃ m₄ k₄) a₄ (only k₆)) q, record { is = refl });
+          let made : StructDef = record { name = w; fields = fs; line = line_at vs } in
+          (item.Struct made ∷ [], g.next (g.structure a₁ a₂ a₃ (a.reads m₃ m₄ k₄) a₄ (only k₆)) q, record { is = refl });
       tidy = orderly false (structure s) _ (taken u (left t h), orderly false (fields fs) _ a.tidy tt) tt;
       left = left y (left x a.left);
     }
@@ -242,7 +250,8 @@ items (g.function {t₀ = t₀} {a = a} {b = b} {w = w} {fs = fs} {ss = ss} x s 
           );
       tidy = orderly false (function f) _
           (orderly3 (signature f) (Mark m.LeftBrace ∷ statements ss) _
-          (orderly3 (type_front b) (Word w ∷ Mark m.LeftParen ∷ parameters fs) _ (tidied d.front (orderly false (type_front a) _ c.again.tidy d.again.tidy)) (taken t d.again.left, e.tidy) tt) i.tidy tt) tt;
+          (orderly3 (type_front b) (Word w ∷ Mark m.LeftParen ∷ parameters fs) _ (tidied d.front (orderly false (type_front a) _ c.again.tidy d.again.tidy))
+          (taken t d.again.left, e.tidy) tt) i.tidy tt) tt;
       left = left y i.left;
     }
 
@@ -264,6 +273,8 @@ program (g.next {is = is} {js = js} q r) h =
           let (m₁, k₁, k₂) = split (items_tokens is) (given (items-append is js) k) in
           let (ys, o, z) = b.reads m₁ k₂ in
           let (xs, p, w) = a.reads vs m₁ ys k₁ o in
-          (xs ++ ys, p, map-append unlined_item xs ys ∙ ap (λ (l : List Item). l ++ map unlined_item ys) w.is ∙ ap (λ (l : List Item). map unlined_item is ++ l) z ∙ sym (map-append unlined_item is js));
+          let first = ap (λ (l : List Item). l ++ map unlined_item ys) w.is in
+          let rest = ap (λ (l : List Item). map unlined_item is ++ l) z in
+          (xs ++ ys, p, map-append unlined_item xs ys ∙ first ∙ rest ∙ sym (map-append unlined_item is js));
       tidy = tidied (items-append is js) (orderly false (items_tokens is) _ a.tidy b.tidy);
     }

@@ -1,7 +1,9 @@
 -- The printed tokens of simple statements, annotations and heads of loops are read as those.
-use Rattle.std.proofs.Common.{◌≡◌, ℕ, Bool, true, false, List, [], ◌∷◌, ◌++◌, append_assoc, Option, Some, None, refl, sym, subst, ◌∙◌, pos, arith}
+use Rattle.std.proofs.Common.{◌≡◌, ℕ, Bool, true, false, List, [], ◌∷◌, ◌++◌, append_assoc, Option, Some, None, refl, sym, ap, subst, ◌∙◌, pos, arith}
 use Rattle.std.proofs.lemmas.List.{append-nil}
-use Rattle.std.specs.Prelude.{codes}
+use Rattle.std.proofs.lemmas.Slice.Eq.{bytes_eq-Decides}
+use Rattle.std.specs.Prelude.{codes, if◌then◌else◌}
+use Rattle.std.specs.Str.{bytes_eq}
 use Rattle.al_source.specs.declared.tokens.TokenKind.{TokenKind}
 use Rattle.al_source.specs.declared.tokens.TokenKind.TheVariants.{Word, Text, Key, Mark, Alter, EndAlter}
 use Rattle.al_source.specs.declared.tokens.Mark.TheVariants as m
@@ -21,14 +23,16 @@ use Rattle.al_source.specs.declared.source_tree.Stmt.{Stmt}
 use Rattle.al_source.specs.declared.source_tree.StmtKind.{StmtKind}
 use Rattle.al_source.specs.declared.source_tree.StmtKind.TheVariants as kind
 use Rattle.al_grammar.specs.declared.operators.NoteWord.TheVariants as word
-use Rattle.al_grammar.specs.Words.{key_of}
+use Rattle.al_grammar.specs.Characters.{Bytes}
+use Rattle.al_grammar.specs.Words.{key_text, key_of}
 use Rattle.al_grammar.specs.Operators.{update_of, step_of, note_word_of}
 use Rattle.al_grammar.specs.Phrases.{Tokens, Takes, line_at}
 use Rattle.al_grammar.specs.Expressions.{Place}
-use Rattle.al_grammar.specs.Statements.{statement_of, at, one, reduced, Values, CallValues, PrintValues, Simple, NotePolicy, NoteOrder, Reduced, Reductions, Note, Maybe, First, Third, Head, Condition, Initializer}
+use Rattle.al_grammar.specs.Statements.{statement_of, at, one, reduced, Values, CallValues, PrintValues, Simple, NotePolicy, NoteOrder, Reduced, Reductions, Note, Maybe, First, Third, Head, Parenthesized, Initializer}
 use Rattle.al_grammar.specs.Statements as g
+use Rattle.al_grammar.proofs.WordLemmas.{key_known}
 use Rattle.al_print.specs.Tables.{update_mark, reduction, policy_word, order_word}
-use Rattle.al_print.specs.Tokens.{Kinds, declared, with_commas, after_commas, expression, value, values, optional_value, initializer, all_reduced, note, end, head, condition, statement_kind, part_of}
+use Rattle.al_print.specs.Tokens.{Kinds, declared, with_commas, after_commas, expression, value, values, optional_value, initializer, all_reduced, note, end, head, callee, condition, statement_kind, part_of}
 use Rattle.al_print.proofs.Cases.{tokens-Number, kind-Declare, kind-Assign, kind-Update, kind-Call, kind-Print, statement_is}
 use Rattle.al_print.proofs.Front.{Has, none, split, split4, first, only, whole}
 use Rattle.al_print.proofs.Plain.{IsName, AllWritable, Orderly, orderly, orderly3, taken, left}
@@ -78,7 +82,8 @@ call_values (g.some q) h = let a = all_values q h in record { reads = λ vs ms w
 no_print_values : {vs ms ws : Tokens} → Has [] vs ms → Takes (Mark m.RightParen) ms ws → PrintValues vs [] ws
 no_print_values none t = g.none t
 
-print_values : {ts us : Tokens} {xs : List Expr} → PrintValues ts xs us → AllWritable ts → ListAgain (λ vs ws. PrintValues vs xs ws) (after_commas (values xs)) us
+print_values : {ts us : Tokens} {xs : List Expr}
+    → PrintValues ts xs us → AllWritable ts → ListAgain (λ vs ws. PrintValues vs xs ws) (after_commas (values xs)) us
 print_values (g.none t) h = record { reads = λ vs ms ws k r. no_print_values k r; tidy = tt; left = left t h }
 print_values (g.some t q) h = let a = all_values q (left t h) in record {
   reads = λ vs ms ws k r. let (m₁, a₁, k₁) = first (given a.commas k) in g.some a₁ (a.reads m₁ ms ws k₁ r);
@@ -119,7 +124,8 @@ steps (Mark m.Increment) op d = subst Updates (some_same d) (record { is = refl 
 steps (Mark m.Decrement) op d = subst Updates (some_same d) (record { is = refl })
 steps _ op d = absurd cc
 
-step_again : {x : Expr} {op : BinOp} {us vs : Tokens} → Updates op → Again (λ vs ws. Place vs x ws) (expression x 10) us → AllWritable vs → SimpleAgain (kind.Update op x one) vs
+step_again : {x : Expr} {op : BinOp} {us vs : Tokens}
+    → Updates op → Again (λ vs ws. Place vs x ws) (expression x 10) us → AllWritable vs → SimpleAgain (kind.Update op x one) vs
 step_again {x} {op} u a h = record {
   core = expression x 10 ++ Mark (update_mark op) ∷ value one;
   is = kind-Update op x one;
@@ -132,6 +138,17 @@ step_again {x} {op} u a h = record {
     left = h;
   };
 }
+
+-- a name is no reserved word, so it is printed as a name
+callee_name : (w : Bytes) → IsName w → callee w ≡ Word w
+callee_name w n = by (bytes_eq w (key_text key.Free)) refl
+  where
+    by : (b : Bool) → bytes_eq w (key_text key.Free) ≡ b → (if b then Key key.Free else Word w) ≡ Word w
+    by false d = refl
+    by true d =
+        let is : w ≡ key_text key.Free = (bytes_eq-Decides w (key_text key.Free)).0 d in
+        let no : Some key.Free ≡ None = sym (key_known key.Free) ∙ ap key_of (sym is) ∙ n.free in
+        absurd cc
 
 pub simple : {ts us : Tokens} {k : StmtKind} → Simple ts k us → AllWritable ts → SimpleAgain k us
 simple (g.assign {x = x} {y = y} p t q) h =
@@ -172,7 +189,8 @@ simple (g.call {w = w} {xs = xs} t u q) h =
     let a = call_values q (left u (left t h)) in
     record {
       core = Word w ∷ Mark m.LeftParen ∷ with_commas (values xs) ++ Mark m.RightParen ∷ [];
-      is = λ b. kind-Call w xs b ∙ sym (append_assoc (Word w ∷ Mark m.LeftParen ∷ with_commas (values xs)) (Mark m.RightParen ∷ []) (end b));
+      is = λ b. kind-Call w xs b ∙ ap (λ k. k ∷ Mark m.LeftParen ∷ with_commas (values xs) ++ Mark m.RightParen ∷ end b) (callee_name w (taken t h))
+          ∙ sym (append_assoc (Word w ∷ Mark m.LeftParen ∷ with_commas (values xs)) (Mark m.RightParen ∷ []) (end b));
       again = record {
         reads = λ vs ws k.
             let (m₁, a₁, k₁) = first k in
@@ -197,6 +215,22 @@ simple (g.print {f = f} {xs = xs} t u x q) h =
             g.print a₁ a₂ a₃ (a.reads m₃ m₄ ws k₄ (only k₅));
         tidy = (taken x (left u (left t h)), orderly false (after_commas (values xs)) _ a.tidy tt);
         left = a.left;
+      };
+    }
+simple (g.free {x = x} t (g.parenthesized u e c)) h =
+    let a = whole_expression e (left u (left t h)) in
+    let inside = with_commas (values (x ∷ [])) in
+    record {
+      core = Key key.Free ∷ Mark m.LeftParen ∷ inside ++ Mark m.RightParen ∷ [];
+      is = λ b. kind-Call (key_text key.Free) (x ∷ []) b ∙ sym (append_assoc (Key key.Free ∷ Mark m.LeftParen ∷ inside) (Mark m.RightParen ∷ []) (end b));
+      again = record {
+        reads = λ vs ws k.
+            let (m₁, a₁, k₁) = first k in
+            let (m₂, a₂, k₂) = first k₁ in
+            let (m₃, k₃, k₄) = split inside k₂ in
+            g.free a₁ (g.parenthesized a₂ (a.reads m₂ m₃ (whole (value x) k₃)) (only k₄));
+        tidy = orderly false inside _ (orderly false (value x) _ a.tidy tt) tt;
+        left = left c a.left;
       };
     }
 
@@ -356,13 +390,15 @@ first_part (g.declares {ts = ts} {a = a} {f = f} {x = x} b d t q) h =
     let c = declarator d p.flat p.again.left in
     let v = whole_expression q (left t c.left) in
     let is : part_of (Some (at ts (kind.Declare f.ty f.name (Some x)))) ≡ declared f.ty f.name ++ Mark m.Assign ∷ value x =
-    statement_is (at ts (kind.Declare f.ty f.name (Some x))) false ∙ kind-Declare f.ty f.name (Some x) false ∙ append-nil (declared f.ty f.name ++ Mark m.Assign ∷ value x) in
+    statement_is (at ts (kind.Declare f.ty f.name (Some x))) false ∙ kind-Declare f.ty f.name (Some x) false
+    ∙ append-nil (declared f.ty f.name ++ Mark m.Assign ∷ value x) in
     record {
       reads = λ vs ws k.
           let (m₁, k₁, k₂) = split (declared f.ty f.name) (given is k) in
           let (m₂, k₃, e) = c.reads vs m₁ k₁ in
           let (m₃, a₁, k₄) = first k₂ in
-          (Some (at vs (kind.Declare f.ty f.name (Some x))), g.declares (p.again.reads vs m₂ k₃) e a₁ (v.reads m₃ ws k₄), same_some (same_line (line_at vs) (line_at ts) (kind.Declare f.ty f.name (Some x))));
+          let made : StmtKind = kind.Declare f.ty f.name (Some x) in
+          (Some (at vs made), g.declares (p.again.reads vs m₂ k₃) e a₁ (v.reads m₃ ws k₄), same_some (same_line (line_at vs) (line_at ts) made));
       tidy = tidied is (orderly false (declared f.ty f.name) _ (c.tidy p.again.tidy) v.tidy);
       left = v.left;
     }
@@ -381,7 +417,8 @@ third_part (g.simple {ts = ts} {k = k} q) h = let a = simple q h in record {
 }
 
 pub record HeadAgain (x : Option Stmt) (test : Option Expr) (y : Option Stmt) (us : Tokens) : Type 0 where
-  pub reads : (vs ws : Tokens) → Has (head (part_of x) test (part_of y)) vs ws → (v : Option Stmt) × (w : Option Stmt) × Head vs v test w ws × SamePart v x × SamePart w y
+  pub reads : (vs ws : Tokens)
+      → Has (head (part_of x) test (part_of y)) vs ws → (v : Option Stmt) × (w : Option Stmt) × Head vs v test w ws × SamePart v x × SamePart w y
   pub tidy : Orderly false (head (part_of x) test (part_of y))
   pub left : AllWritable us
 
@@ -407,17 +444,17 @@ head_again (g.head {first = x} {third = y} {test = test} t₁ t₂ p t₃ q t₄
 
 -- a reserved word with its condition
 pub record ConditionAgain (k : the_key.Key) (c : Expr) (us : Tokens) : Type 0 where
-  pub reads : (vs ws : Tokens) → Has (condition k c) vs ws → (ms : Tokens) × Takes (Key k) vs ms × Condition ms c ws
+  pub reads : (vs ws : Tokens) → Has (condition k c) vs ws → (ms : Tokens) × Takes (Key k) vs ms × Parenthesized ms c ws
   pub tidy : Orderly false (condition k c)
   pub left : AllWritable us
 
-pub condition_again : {ts us : Tokens} {c : Expr} (k : the_key.Key) → Condition ts c us → AllWritable ts → ConditionAgain k c us
-condition_again k (g.condition {x = x} t q u) h = let a = whole_expression q (left t h) in record {
+pub condition_again : {ts us : Tokens} {c : Expr} (k : the_key.Key) → Parenthesized ts c us → AllWritable ts → ConditionAgain k c us
+condition_again k (g.parenthesized {x = x} t q u) h = let a = whole_expression q (left t h) in record {
   reads = λ vs ws i.
       let (m₁, a₁, k₁) = first i in
       let (m₂, a₂, k₂) = first k₁ in
       let (m₃, k₃, k₄) = split (value x) k₂ in
-      (m₁, a₁, g.condition a₂ (a.reads m₂ m₃ k₃) (only k₄));
+      (m₁, a₁, g.parenthesized a₂ (a.reads m₂ m₃ k₃) (only k₄));
   tidy = orderly false (value x) _ a.tidy tt;
   left = left u a.left;
 }

@@ -29,11 +29,13 @@ use Rattle.al_print.proofs.Unlined.{Same, SameList, same_line, same_if, same_whi
 
 statements-append : (ss rs : List Stmt) → statements (ss ++ rs) ≡ statements ss ++ statements rs
 statements-append [] rs = refl
-statements-append (s ∷ ss) rs = ap (λ (ks : Kinds). statement s true ++ ks) (statements-append ss rs) ∙ sym (append_assoc (statement s true) (statements ss) (statements rs))
+statements-append (s ∷ ss) rs =
+    ap (λ (ks : Kinds). statement s true ++ ks) (statements-append ss rs) ∙ sym (append_assoc (statement s true) (statements ss) (statements rs))
 
 join_inners : {d : ℕ} {ts us vs : Tokens} {ss rs : List Stmt} → Inners d ts ss us → Inners d us rs vs → Inners d ts (ss ++ rs) vs
 join_inners g.done k = k
-join_inners {d} {ts} {us} {vs} {rs = rs} (g.next {ss = ss} {rs = qs} i r) k = subst (λ (xs : List Stmt). Inners d ts xs vs) (sym (append_assoc ss qs rs)) (g.next i (join_inners r k))
+join_inners {d} {ts} {us} {vs} {rs = rs} (g.next {ss = ss} {rs = qs} i r) k =
+    subst (λ (xs : List Stmt). Inners d ts xs vs) (sym (append_assoc ss qs rs)) (g.next i (join_inners r k))
 
 same_nil : SameList [] []
 same_nil = record { is = refl }
@@ -43,7 +45,9 @@ same_one p = record { is = ap (λ (s : Stmt). s ∷ []) p.is }
 
 same_append : (xs ys : List Stmt) {xs' ys' : List Stmt} → SameList xs xs' → SameList ys ys' → SameList (xs ++ ys) (xs' ++ ys')
 same_append xs ys {xs'} {ys'} p q = record {
-  is = map-append unlined xs ys ∙ ap (λ (zs : List Stmt). zs ++ map unlined ys) p.is ∙ ap (λ (zs : List Stmt). map unlined xs' ++ zs) q.is ∙ sym (map-append unlined xs' ys');
+  is =
+      map-append unlined xs ys ∙ ap (λ (zs : List Stmt). zs ++ map unlined ys) p.is ∙ ap (λ (zs : List Stmt). map unlined xs' ++ zs) q.is
+      ∙ sym (map-append unlined xs' ys');
 }
 
 -- ---- what is printed
@@ -72,12 +76,17 @@ local : {d : ℕ} {a : CType} {us : Tokens} (l : ℕ) (f : Field) (x : Option Ex
     → (vs ws : Tokens) → Has (statement (statement_of l (kind.Declare f.ty f.name x)) true) vs ws
     → (y : Stmt) × Inner (suc d) vs (y ∷ []) ws × Same y (statement_of l (kind.Declare f.ty f.name x))
 local l f x p c i vs ws k =
-    let (m₁, m₂, k₁, k₂, k₃) = split3 (declared f.ty f.name) (initializer x) (given (tokens_is l (kind.Declare f.ty f.name x) (kind-Declare f.ty f.name x true)) k) in
-    let (m₃, k₄, q) = c vs m₁ k₁ in
-    (statement_of (line_at vs) (kind.Declare f.ty f.name x), g.declares (p.again.reads vs m₃ k₄) (g.last q (i m₁ m₂ k₂) (only k₃)), same_line (line_at vs) l (kind.Declare f.ty f.name x))
+    let (m₁, m₂, k₁, k₂, k₃) = split3 (declared f.ty f.name) (initializer x)
+    (given (tokens_is l (kind.Declare f.ty f.name x) (kind-Declare f.ty f.name x true)) k) in
+    let (m₃, k₄, q) = c vs m₁ k₁ in (
+      statement_of (line_at vs) (kind.Declare f.ty f.name x),
+      g.declares (p.again.reads vs m₃ k₄) (g.last q (i m₁ m₂ k₂) (only k₃)),
+      same_line (line_at vs) l (kind.Declare f.ty f.name x),
+    )
 
 -- the declarations of one line, each on its own
-locals : {d l : ℕ} {a : CType} {ts us : Tokens} {ss : List Stmt} {bs : Tokens} → Locals l a ts ss us → BaseAgain a bs → AllWritable ts → InnersAgain (suc d) ss us
+locals : {d l : ℕ} {a : CType} {ts us : Tokens} {ss : List Stmt} {bs : Tokens}
+    → Locals l a ts ss us → BaseAgain a bs → AllWritable ts → InnersAgain (suc d) ss us
 locals {d} {l} (g.last {f = f} {x = x} q i t) p h =
     let c = declarator q p.flat h in
     let v = initializer_again i c.left in
@@ -86,7 +95,9 @@ locals {d} {l} (g.last {f = f} {x = x} q i t) p h =
       reads = λ vs ws e k.
           let (y, n, s) = local l f x p c.reads v.reads vs ws (whole (statement (statement_of l (kind.Declare f.ty f.name x)) true) k) in
           (y ∷ [], g.next n g.done, same_one s);
-      tidy = orderly false (statement (statement_of l (kind.Declare f.ty f.name x)) true) _ (tidied is (orderly3 (declared f.ty f.name) (initializer x) _ (c.tidy p.again.tidy) v.tidy tt)) tt;
+      tidy =
+          orderly false (statement (statement_of l (kind.Declare f.ty f.name x)) true) _
+          (tidied is (orderly3 (declared f.ty f.name) (initializer x) _ (c.tidy p.again.tidy) v.tidy tt)) tt;
       left = left t v.left;
     }
 locals {d} {l} (g.more {f = f} {x = x} {ss = ss} q i t r) p h =
@@ -100,7 +111,9 @@ locals {d} {l} (g.more {f = f} {x = x} {ss = ss} q i t r) p h =
           let (y, n, s) = local l f x p c.reads v.reads vs m₁ k₁ in
           let (rs, ns, z) = b.reads m₁ ws e k₂ in
           (y ∷ rs, g.next n ns, same_append (y ∷ []) rs (same_one s) z);
-      tidy = orderly false (statement (statement_of l (kind.Declare f.ty f.name x)) true) _ (tidied is (orderly3 (declared f.ty f.name) (initializer x) _ (c.tidy p.again.tidy) v.tidy tt)) b.tidy;
+      tidy =
+          orderly false (statement (statement_of l (kind.Declare f.ty f.name x)) true) _
+          (tidied is (orderly3 (declared f.ty f.name) (initializer x) _ (c.tidy p.again.tidy) v.tidy tt)) b.tidy;
       left = b.left;
     }
 
@@ -115,7 +128,8 @@ plain_again l k ks e r o h = record {
   left = h;
 }
 
-simple_again : {d : ℕ} (l : ℕ) {k : StmtKind} {us vs : Tokens} → SimpleAgain k us → Takes (Mark m.Semicolon) us vs → StatementAgain (suc d) (statement_of l k) vs
+simple_again : {d : ℕ} (l : ℕ) {k : StmtKind} {us vs : Tokens}
+    → SimpleAgain k us → Takes (Mark m.Semicolon) us vs → StatementAgain (suc d) (statement_of l k) vs
 simple_again l {k} a t = plain_again l k (a.core ++ end true) (a.is true)
     (λ vs ws i. let (m₁, k₁, k₂) = split a.core i in g.simple (a.again.reads vs m₁ k₁) (only k₂))
     (orderly false a.core _ a.again.tidy tt) (left t a.again.left)
@@ -217,8 +231,12 @@ mutual
       plain_again (line_at ts) (kind.Return x) (Key key.Return ∷ optional_value x ++ end true) (kind-Return x true)
       (λ vs ws i. let (m₁, a₁, k₁) = first i in let (m₂, k₂, k₃) = split (optional_value x) k₁ in g.return_value a₁ (a.reads m₁ m₂ k₂) (only k₃))
       (orderly false (optional_value x) _ a.tidy tt) (left u a.left)
-  statement_again (g.break_loop {ts = ts} t u) h = plain_again (line_at ts) kind.Break (Key key.Break ∷ end true) (kind-Break true) (λ vs ws i. let (m₁, a₁, k₁) = first i in g.break_loop a₁ (only k₁)) tt (left u (left t h))
-  statement_again (g.continue_loop {ts = ts} t u) h = plain_again (line_at ts) kind.Continue (Key key.Continue ∷ end true) (kind-Continue true) (λ vs ws i. let (m₁, a₁, k₁) = first i in g.continue_loop a₁ (only k₁)) tt (left u (left t h))
+  statement_again (g.break_loop {ts = ts} t u) h =
+      plain_again (line_at ts) kind.Break (Key key.Break ∷ end true) (kind-Break true) (λ vs ws i. let (m₁, a₁, k₁) = first i in g.break_loop a₁ (only k₁)) tt
+      (left u (left t h))
+  statement_again (g.continue_loop {ts = ts} t u) h =
+      plain_again (line_at ts) kind.Continue (Key key.Continue ∷ end true) (kind-Continue true)
+      (λ vs ws i. let (m₁, a₁, k₁) = first i in g.continue_loop a₁ (only k₁)) tt (left u (left t h))
 
   inner_again : {d : ℕ} {ts us : Tokens} {ss : List Stmt} → Inner d ts ss us → AllWritable ts → InnersAgain d ss us
   inner_again (g.declares q r) h = let p = base q h in locals r p p.again.left

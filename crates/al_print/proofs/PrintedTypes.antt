@@ -9,7 +9,9 @@ use Rattle.al_source.specs.declared.source_tree.CType.TheVariants as type
 use Rattle.al_source.specs.declared.source_tree.Field.{Field}
 use Rattle.al_grammar.specs.Phrases.{Tokens, Name, Takes, Optional}
 use Rattle.al_grammar.specs.Phrases as phrase
-use Rattle.al_grammar.specs.Types.{Base, Stars, Dimensions, Declarator, SizeOf, max_stars, max_dimensions, max_length}
+use Rattle.std.proofs.lemmas.Int.{ints}
+use Rattle.al_source.specs.declared.limits.TheConstants.{DECLARATOR_STARS, DECLARATOR_DIMENSIONS, DIMENSION_LENGTH}
+use Rattle.al_grammar.specs.Types.{Base, Stars, Dimensions, Declarator, SizeOf}
 use Rattle.al_grammar.specs.Types as g
 use Rattle.al_print.specs.Tokens.{Kinds, type_front, dimensions, declared, size_of}
 use Rattle.al_print.proofs.Cases.{front-Int, front-Struct, front-Ptr, front-Array, dimensions-Int, dimensions-Struct, dimensions-Ptr, dimensions-Array}
@@ -91,7 +93,7 @@ all_dimensions (g.dimension {l = l} {b = b} t u least most v r) flat h = let q =
         let (m₂, a₂, k₂) = first k₁ in
         let (m₃, a₃, k₃) = first k₂ in
         g.dimension a₁ a₂ least most a₃ (q.again.reads m₃ ws k₃);
-    tidy = tidied (dimensions-Array b l) (omega arith, q.again.tidy);
+    tidy = tidied (dimensions-Array b l) (omega (arith, ints), q.again.tidy);
     left = q.again.left;
   };
 }

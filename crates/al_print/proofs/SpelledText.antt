@@ -54,7 +54,8 @@ step s (b ∷ w) z n ts full len e r =
 abbrev token_next : ℕ → ℕ → ℕ → TokenKind → Place → Next
 token_next at line len k place = record { len = len; token = Some (token_from at line (at + len) k); place = place }
 
-over_token : (p q : Place) (k : TokenKind) (w z : Bytes) (ks : Kinds) → 0 < length w → ((at line : ℕ) → next (spot at line p) (w ++ z) ≡ Ok (token_next at line (length w) k q)) → After q z ks → After p (w ++ z) (k ∷ ks)
+over_token : (p q : Place) (k : TokenKind) (w z : Bytes) (ks : Kinds)
+    → 0 < length w → ((at line : ℕ) → next (spot at line p) (w ++ z) ≡ Ok (token_next at line (length w) k q)) → After q z ks → After p (w ++ z) (k ∷ ks)
 over_token p q k w z ks full e r at line =
     let n = token_next at line (length w) k q in
     let s = r (at + length w) (line + line_feeds (take (length w) (w ++ z))) in
@@ -67,7 +68,8 @@ over_token p q k w z ks full e r at line =
 abbrev gap_next : Place → Next
 gap_next place = record { len = 1; token = None; place = place }
 
-over_gap : (p q : Place) (b : ℕ) (z : Bytes) (ks : Kinds) → ((at line : ℕ) → next (spot at line p) (b ∷ z) ≡ Ok (gap_next q)) → After q z ks → After p (b ∷ z) ks
+over_gap : (p q : Place) (b : ℕ) (z : Bytes) (ks : Kinds)
+    → ((at line : ℕ) → next (spot at line p) (b ∷ z) ≡ Ok (gap_next q)) → After q z ks → After p (b ∷ z) ks
 over_gap p q b z ks e r at line =
     let s = r (at + 1) (line + line_feeds (take 1 (b ∷ z))) in
     record { tokens = s.tokens; spells = step (spot at line p) (b ∷ []) z (gap_next q) s.tokens (omega arith) refl (e at line) s.spells; has = s.has }
@@ -99,20 +101,34 @@ hash : (z : Bytes) (ks : Kinds) → ((start line : ℕ) → After (Hash start li
 unfolding next
 hash z ks r at line =
     let s = r at line (at + 1) (line + line_feeds (take 1 (35 ∷ z))) in
-    record { tokens = s.tokens; spells = step (spot at line Fresh) (35 ∷ []) z (gap_next (Hash at line)) s.tokens (omega arith) refl refl s.spells; has = s.has }
+    record {
+      tokens = s.tokens;
+      spells = step (spot at line Fresh) (35 ∷ []) z (gap_next (Hash at line)) s.tokens (omega arith) refl refl s.spells;
+      has = s.has;
+    }
 
 pragma_name : (start line : ℕ) (z : Bytes) (ks : Kinds) → After (Pragma start line) (32 ∷ z) ks → After (Hash start line) (codes "pragma" ++ 32 ∷ z) ks
 unfolding next
 pragma_name start line z ks r at l =
     let s = r (at + 6) (l + line_feeds (take 6 (codes "pragma" ++ 32 ∷ z))) in
-    record { tokens = s.tokens; spells = step (spot at l (Hash start line)) (codes "pragma") (32 ∷ z) (record { len = 6; token = None; place = Pragma start line }) s.tokens (omega arith) refl refl s.spells; has = s.has }
+    record {
+      tokens = s.tokens;
+      spells = step (spot at l (Hash start line)) (codes "pragma") (32 ∷ z) (record { len = 6; token = None; place = Pragma start line }) s.tokens (omega arith)
+          refl refl s.spells;
+      has = s.has;
+    }
 
 alter_name : (start line : ℕ) (z : Bytes) (ks : Kinds) → After Note (32 ∷ z) ks → After (Pragma start line) (codes "alter" ++ 32 ∷ z) (Alter ∷ ks)
 unfolding next
 alter_name start line z ks r at l =
     let s = r (at + 5) (l + line_feeds (take 5 (codes "alter" ++ 32 ∷ z))) in
     let t : Token = token_from start line (at + 5) Alter in
-    record { tokens = t ∷ s.tokens; spells = step (spot at l (Pragma start line)) (codes "alter") (32 ∷ z) (record { len = 5; token = Some t; place = Note }) s.tokens (omega arith) refl refl s.spells; has = some (takes refl) s.has }
+    record {
+      tokens = t ∷ s.tokens;
+      spells = step (spot at l (Pragma start line)) (codes "alter") (32 ∷ z) (record { len = 5; token = Some t; place = Note }) s.tokens (omega arith) refl refl
+          s.spells;
+      has = some (takes refl) s.has;
+    }
 
 over_front : (z : Bytes) (ks : Kinds) → After Note z ks → After Fresh (codes "#pragma alter" ++ 32 ∷ z) (Alter ∷ ks)
 over_front z ks r =
@@ -133,7 +149,8 @@ abbrev follow : Place → Place
 follow Note = Note
 follow _ = Inside
 
-ready_matter : (p : Place) → IsReady p → (s : Spot) (b : ℕ) (z : Bytes) → b == 35 ≡ false → matter_at p s (b ∷ z) ≡ token_at s (follow p) (lexeme s.line (b ∷ z))
+ready_matter : (p : Place)
+    → IsReady p → (s : Spot) (b : ℕ) (z : Bytes) → b == 35 ≡ false → matter_at p s (b ∷ z) ≡ token_at s (follow p) (lexeme s.line (b ∷ z))
 ready_matter Fresh h s b z e = skip (b == 35) _ _ e
 ready_matter Inside h s b z e = refl
 ready_matter Note h s b z e = refl
@@ -165,7 +182,9 @@ high_token : (p : Place) → IsReady p → (k : TokenKind) (w z : Bytes) (ks : K
 high_token p ready k [] z ks full high e r = absurd (omega arith)
 high_token p ready k (b ∷ w) z ks full high e r =
     over_token p (follow p) k (b ∷ w) (32 ∷ z) ks full
-    (λ at line. high_matter (spot at line p) b (w ++ 32 ∷ z) high (ne_eqb b 47 (λ i. omega arith)) ∙ ready_matter p ready (spot at line p) b (w ++ 32 ∷ z) (ne_eqb b 35 (λ i. omega arith)) ∙ ap (token_at (spot at line p) (follow p)) (e line))
+    (λ at line.
+    high_matter (spot at line p) b (w ++ 32 ∷ z) high (ne_eqb b 47 (λ i. omega arith))
+    ∙ ready_matter p ready (spot at line p) b (w ++ 32 ∷ z) (ne_eqb b 35 (λ i. omega arith)) ∙ ap (token_at (spot at line p) (follow p)) (e line))
     r
 
 letter_high : (b : ℕ) → is_letter b ≡ true → 48 ≤ b
@@ -193,18 +212,22 @@ over_name p ready w z ks h r =
 
 over_key : (k : the_key.Key) (p : Place) → IsReady p → (z : Bytes) (ks : Kinds) → After (follow p) z ks → After p (key_text k ++ 32 ∷ z) (Key k ∷ ks)
 over_key k p ready z ks r =
-    high_token p ready (Key k) (key_text k) z ks (full_name (key_text k) (key_letter k)) (letter_high _ (key_letter k)) (λ line. key_lexeme line k z) (over_blank (follow p) z ks r)
+    high_token p ready (Key k) (key_text k) z ks (full_name (key_text k) (key_letter k)) (letter_high _ (key_letter k)) (λ line. key_lexeme line k z)
+    (over_blank (follow p) z ks r)
 
-over_number : (n : ℕ) (p : Place) → IsReady p → (z : Bytes) (ks : Kinds) → n ≤ 9223372036854775807 → After (follow p) z ks → After p (decimal n ++ 32 ∷ z) (Number (pos n) ∷ ks)
+over_number : (n : ℕ) (p : Place)
+    → IsReady p → (z : Bytes) (ks : Kinds) → n ≤ 9223372036854775807 → After (follow p) z ks → After p (decimal n ++ 32 ∷ z) (Number (pos n) ∷ ks)
 over_number n p ready z ks small r =
-    high_token p ready (Number (pos n)) (decimal n) z ks (decimal_nonempty n (omega arith)) (decimal_high n small) (λ line. number_lexeme line n z small) (over_blank (follow p) z ks r)
+    high_token p ready (Number (pos n)) (decimal n) z ks (decimal_nonempty n (omega arith)) (decimal_high n small) (λ line. number_lexeme line n z small)
+    (over_blank (follow p) z ks r)
 
 -- a text, whose first byte is its quote
 quote_next : (p : Place) → IsReady p → (at line : ℕ) (z : Bytes) → next (spot at line p) (34 ∷ z) ≡ token_at (spot at line p) (follow p) (lexeme line (34 ∷ z))
 unfolding next
 quote_next p ready at line z = ready_matter p ready (spot at line p) 34 z refl
 
-over_text : (f : _) (p : Place) → IsReady p → (z : Bytes) (ks : Kinds) → IsFormat false f → After (follow p) z ks → After p (34 ∷ (format_text f ++ 34 ∷ 32 ∷ z)) (Text f ∷ ks)
+over_text : (f : _) (p : Place)
+    → IsReady p → (z : Bytes) (ks : Kinds) → IsFormat false f → After (follow p) z ks → After p (34 ∷ (format_text f ++ 34 ∷ 32 ∷ z)) (Text f ∷ ks)
 over_text f p ready z ks h r =
     let w : Bytes = 34 ∷ (format_text f ++ 34 ∷ []) in
     let whole : w ++ 32 ∷ z ≡ 34 ∷ (format_text f ++ 34 ∷ 32 ∷ z) = ap (λ (y : Bytes). 34 ∷ y) (append_assoc (format_text f) (34 ∷ []) (32 ∷ z)) in
@@ -219,17 +242,20 @@ over_text f p ready z ks h r =
 
 -- ---- marks, by their bytes and the end after them
 
-mark_fresh : (k : the_mark.Mark) (at line : ℕ) (z : Bytes) → next (spot at line Fresh) (mark_text k ++ (end_text (ends_line (Mark k)) ++ z)) ≡ Ok (token_next at line (length (mark_text k)) (Mark k) Inside)
+mark_fresh : (k : the_mark.Mark) (at line : ℕ) (z : Bytes)
+    → next (spot at line Fresh) (mark_text k ++ (end_text (ends_line (Mark k)) ++ z)) ≡ Ok (token_next at line (length (mark_text k)) (Mark k) Inside)
 unfolding next lexeme mark_at
 mark_fresh m.LeftParen at line z = refl
 mark_fresh _ at line z = refl
 
-mark_inside : (k : the_mark.Mark) (at line : ℕ) (z : Bytes) → next (spot at line Inside) (mark_text k ++ (end_text (ends_line (Mark k)) ++ z)) ≡ Ok (token_next at line (length (mark_text k)) (Mark k) Inside)
+mark_inside : (k : the_mark.Mark) (at line : ℕ) (z : Bytes)
+    → next (spot at line Inside) (mark_text k ++ (end_text (ends_line (Mark k)) ++ z)) ≡ Ok (token_next at line (length (mark_text k)) (Mark k) Inside)
 unfolding next lexeme mark_at
 mark_inside m.LeftParen at line z = refl
 mark_inside _ at line z = refl
 
-mark_note : (k : the_mark.Mark) (at line : ℕ) (z : Bytes) → next (spot at line Note) (mark_text k ++ (end_text (ends_line (Mark k)) ++ z)) ≡ Ok (token_next at line (length (mark_text k)) (Mark k) Note)
+mark_note : (k : the_mark.Mark) (at line : ℕ) (z : Bytes)
+    → next (spot at line Note) (mark_text k ++ (end_text (ends_line (Mark k)) ++ z)) ≡ Ok (token_next at line (length (mark_text k)) (Mark k) Note)
 unfolding next lexeme mark_at
 mark_note m.LeftParen at line z = refl
 mark_note _ at line z = refl
@@ -257,9 +283,14 @@ over_ending : (b : Bool) (z : Bytes) (ks : Kinds) → After (outside b) z ks →
 over_ending true z ks r = over_line z ks r
 over_ending false z ks r = over_blank Inside z ks r
 
-over_mark : (k : the_mark.Mark) (b : Bool) (z : Bytes) (ks : Kinds) → After (outside (ends_line (Mark k))) z ks → After (outside b) (mark_text k ++ (end_text (ends_line (Mark k)) ++ z)) (Mark k ∷ ks)
-over_mark k true z ks r = over_token Fresh Inside (Mark k) (mark_text k) (end_text (ends_line (Mark k)) ++ z) ks (mark_full k) (λ at line. mark_fresh k at line z) (over_ending (ends_line (Mark k)) z ks r)
-over_mark k false z ks r = over_token Inside Inside (Mark k) (mark_text k) (end_text (ends_line (Mark k)) ++ z) ks (mark_full k) (λ at line. mark_inside k at line z) (over_ending (ends_line (Mark k)) z ks r)
+over_mark : (k : the_mark.Mark) (b : Bool) (z : Bytes) (ks : Kinds)
+    → After (outside (ends_line (Mark k))) z ks → After (outside b) (mark_text k ++ (end_text (ends_line (Mark k)) ++ z)) (Mark k ∷ ks)
+over_mark k true z ks r =
+    over_token Fresh Inside (Mark k) (mark_text k) (end_text (ends_line (Mark k)) ++ z) ks (mark_full k) (λ at line. mark_fresh k at line z)
+    (over_ending (ends_line (Mark k)) z ks r)
+over_mark k false z ks r =
+    over_token Inside Inside (Mark k) (mark_text k) (end_text (ends_line (Mark k)) ++ z) ks (mark_full k) (λ at line. mark_inside k at line z)
+    (over_ending (ends_line (Mark k)) z ks r)
 
 -- the appended parts of a token's text
 parts : (p : Place) (a b z : Bytes) (ks : Kinds) → After p (a ++ (b ++ z)) ks → After p (a ++ b ++ z) ks
@@ -269,7 +300,8 @@ over_nothing : (b : Bool) → After (outside b) [] []
 over_nothing true at line = record { tokens = []; spells = ends refl; has = none }
 over_nothing false at line = record { tokens = []; spells = ends refl; has = none }
 
-over_alter : (b : Bool) (z : Bytes) (ks : Kinds) → After Note z ks → After (outside b) (front_text Alter b ++ codes "#pragma alter" ++ 32 ∷ [] ++ z) (Alter ∷ ks)
+over_alter : (b : Bool) (z : Bytes) (ks : Kinds)
+    → After Note z ks → After (outside b) (front_text Alter b ++ codes "#pragma alter" ++ 32 ∷ [] ++ z) (Alter ∷ ks)
 over_alter true z ks r = over_front z ks r
 over_alter false z ks r = over_line (codes "#pragma alter" ++ 32 ∷ z) (Alter ∷ ks) (over_front z ks r)
 
@@ -280,24 +312,36 @@ place_of false b = outside b
 spelled : (n b : Bool) (ks : Kinds) → Orderly n ks → After (place_of n b) (text_from b ks) ks
 spelled false b [] h = over_nothing b
 spelled true b [] h = absurd h
-spelled false b (Word w ∷ ks) h = parts (outside b) w (32 ∷ []) (text_from false ks) (Word w ∷ ks) (over_name (outside b) (outside_ready b) w (text_from false ks) ks h.0 (outside_follow b (spelled false false ks h.1)))
-spelled false b (Key k ∷ ks) h = parts (outside b) (key_text k) (32 ∷ []) (text_from false ks) (Key k ∷ ks) (over_key k (outside b) (outside_ready b) (text_from false ks) ks (outside_follow b (spelled false false ks h)))
-spelled false b (Number (pos v) ∷ ks) h = parts (outside b) (decimal v) (32 ∷ []) (text_from false ks) (Number (pos v) ∷ ks) (over_number v (outside b) (outside_ready b) (text_from false ks) ks h.0 (outside_follow b (spelled false false ks h.1)))
+spelled false b (Word w ∷ ks) h =
+    parts (outside b) w (32 ∷ []) (text_from false ks) (Word w ∷ ks)
+    (over_name (outside b) (outside_ready b) w (text_from false ks) ks h.0 (outside_follow b (spelled false false ks h.1)))
+spelled false b (Key k ∷ ks) h =
+    parts (outside b) (key_text k) (32 ∷ []) (text_from false ks) (Key k ∷ ks)
+    (over_key k (outside b) (outside_ready b) (text_from false ks) ks (outside_follow b (spelled false false ks h)))
+spelled false b (Number (pos v) ∷ ks) h =
+    parts (outside b) (decimal v) (32 ∷ []) (text_from false ks) (Number (pos v) ∷ ks)
+    (over_number v (outside b) (outside_ready b) (text_from false ks) ks h.0 (outside_follow b (spelled false false ks h.1)))
 spelled false b (Number (negsuc v) ∷ ks) h = absurd h.0
 spelled false b (Text f ∷ ks) h =
     subst (λ (y : Bytes). After (outside b) y (Text f ∷ ks))
-    (ap (λ (y : Bytes). 34 ∷ y) (sym (append_assoc (format_text f ++ 34 ∷ []) (32 ∷ []) (text_from false ks) ∙ append_assoc (format_text f) (34 ∷ []) (32 ∷ text_from false ks))))
+    (ap (λ (y : Bytes). 34 ∷ y)
+    (sym (append_assoc (format_text f ++ 34 ∷ []) (32 ∷ []) (text_from false ks) ∙ append_assoc (format_text f) (34 ∷ []) (32 ∷ text_from false ks))))
     (over_text f (outside b) (outside_ready b) (text_from false ks) ks h.0 (outside_follow b (spelled false false ks h.1)))
-spelled false b (Mark k ∷ ks) h = parts (outside b) (mark_text k) (end_text (ends_line (Mark k))) (text_from (ends_line (Mark k)) ks) (Mark k ∷ ks) (over_mark k b (text_from (ends_line (Mark k)) ks) ks (spelled false (ends_line (Mark k)) ks h))
+spelled false b (Mark k ∷ ks) h =
+    parts (outside b) (mark_text k) (end_text (ends_line (Mark k))) (text_from (ends_line (Mark k)) ks) (Mark k ∷ ks)
+    (over_mark k b (text_from (ends_line (Mark k)) ks) ks (spelled false (ends_line (Mark k)) ks h))
 spelled false b (Alter ∷ ks) h = over_alter b (text_from false ks) ks (spelled true false ks h)
 spelled false b (EndAlter ∷ ks) h = absurd h
-spelled true b (Word w ∷ ks) h = parts Note w (32 ∷ []) (text_from false ks) (Word w ∷ ks) (over_name Note tt w (text_from false ks) ks h.0 (spelled true false ks h.1))
+spelled true b (Word w ∷ ks) h =
+    parts Note w (32 ∷ []) (text_from false ks) (Word w ∷ ks) (over_name Note tt w (text_from false ks) ks h.0 (spelled true false ks h.1))
 spelled true b (Mark k ∷ ks) h =
     let rest : After Note (text_from (ends_line (Mark k)) ks) ks = subst (λ (t : Bool). After Note (text_from t ks) ks) (sym h.0) (spelled true false ks h.1) in
     let ended : After Note (end_text (ends_line (Mark k)) ++ text_from (ends_line (Mark k)) ks) ks =
-    subst (λ (t : Bool). After Note (end_text t ++ text_from (ends_line (Mark k)) ks) ks) (sym h.0) (over_blank Note (text_from (ends_line (Mark k)) ks) ks rest) in
+    subst (λ (t : Bool). After Note (end_text t ++ text_from (ends_line (Mark k)) ks) ks) (sym h.0)
+    (over_blank Note (text_from (ends_line (Mark k)) ks) ks rest) in
     parts Note (mark_text k) (end_text (ends_line (Mark k))) (text_from (ends_line (Mark k)) ks) (Mark k ∷ ks)
-    (over_token Note Note (Mark k) (mark_text k) (end_text (ends_line (Mark k)) ++ text_from (ends_line (Mark k)) ks) ks (mark_full k) (λ at line. mark_note k at line (text_from (ends_line (Mark k)) ks)) ended)
+    (over_token Note Note (Mark k) (mark_text k) (end_text (ends_line (Mark k)) ++ text_from (ends_line (Mark k)) ks) ks (mark_full k)
+    (λ at line. mark_note k at line (text_from (ends_line (Mark k)) ks)) ended)
 spelled true b (EndAlter ∷ ks) h = over_end (text_from true ks) ks (spelled false true ks h)
 spelled true b (Key k ∷ ks) h = absurd h
 spelled true b (Number v ∷ ks) h = absurd h

@@ -18,9 +18,11 @@ pub unlined_is : (l : ℕ) (x : StmtKind) → unlined (statement_of l x) ≡ sta
 unfolding unlined unlined_kind
 unlined_is l x = fold_out-Stmt StmtKind Stmt kind_unlined statement_unlined (statement_of l x)
 
-kind_of : (x : StmtKind-F StmtKind Stmt) (d : StmtKind) → roll-StmtKind x ≡ d → unlined_kind d ≡ roll-StmtKind (map-StmtKind StmtKind Stmt StmtKind Stmt unlined_kind unlined x)
+kind_of : (x : StmtKind-F StmtKind Stmt) (d : StmtKind)
+    → roll-StmtKind x ≡ d → unlined_kind d ≡ roll-StmtKind (map-StmtKind StmtKind Stmt StmtKind Stmt unlined_kind unlined x)
 unfolding unlined unlined_kind
-kind_of x d is = ap (λ d. fold-StmtKind StmtKind Stmt kind_unlined statement_unlined d) (sym is) ∙ fold-roll-StmtKind StmtKind Stmt kind_unlined statement_unlined x
+kind_of x d is =
+    ap (λ d. fold-StmtKind StmtKind Stmt kind_unlined statement_unlined d) (sym is) ∙ fold-roll-StmtKind StmtKind Stmt kind_unlined statement_unlined x
 
 -- ---- statements that hold others
 
@@ -34,11 +36,15 @@ unlined-If c x (Some y) = kind_of (StmtKind-F.If c x (Some y)) _ (k.rolls-If c x
 unlined-While : (c : Expr) (x : Stmt) → unlined_kind (k.While c x) ≡ k.While c (unlined x)
 unlined-While c x = kind_of (StmtKind-F.While c x) _ (k.rolls-While c x) ∙ k.rolls-While c (unlined x)
 
-unlined-For : (a : Option Stmt) (b : Option Expr) (c : Option Stmt) (x : Stmt) (n : Option LoopNote) → unlined_kind (k.For a b c x n) ≡ k.For (part a) b (part c) (unlined x) n
+unlined-For : (a : Option Stmt) (b : Option Expr) (c : Option Stmt) (x : Stmt) (n : Option LoopNote)
+    → unlined_kind (k.For a b c x n) ≡ k.For (part a) b (part c) (unlined x) n
 unlined-For None b None x n = kind_of (StmtKind-F.For None b None x n) _ (k.rolls-For None b None x n) ∙ k.rolls-For None b None (unlined x) n
-unlined-For None b (Some c) x n = kind_of (StmtKind-F.For None b (Some c) x n) _ (k.rolls-For None b (Some c) x n) ∙ k.rolls-For None b (Some (unlined c)) (unlined x) n
-unlined-For (Some a) b None x n = kind_of (StmtKind-F.For (Some a) b None x n) _ (k.rolls-For (Some a) b None x n) ∙ k.rolls-For (Some (unlined a)) b None (unlined x) n
-unlined-For (Some a) b (Some c) x n = kind_of (StmtKind-F.For (Some a) b (Some c) x n) _ (k.rolls-For (Some a) b (Some c) x n) ∙ k.rolls-For (Some (unlined a)) b (Some (unlined c)) (unlined x) n
+unlined-For None b (Some c) x n =
+    kind_of (StmtKind-F.For None b (Some c) x n) _ (k.rolls-For None b (Some c) x n) ∙ k.rolls-For None b (Some (unlined c)) (unlined x) n
+unlined-For (Some a) b None x n =
+    kind_of (StmtKind-F.For (Some a) b None x n) _ (k.rolls-For (Some a) b None x n) ∙ k.rolls-For (Some (unlined a)) b None (unlined x) n
+unlined-For (Some a) b (Some c) x n =
+    kind_of (StmtKind-F.For (Some a) b (Some c) x n) _ (k.rolls-For (Some a) b (Some c) x n) ∙ k.rolls-For (Some (unlined a)) b (Some (unlined c)) (unlined x) n
 
 unlined-Block : (ss : List Stmt) → unlined_kind (k.Block ss) ≡ k.Block (map unlined ss)
 unlined-Block ss = kind_of (StmtKind-F.Block ss) _ (k.rolls-Block ss) ∙ k.rolls-Block (map unlined ss)
@@ -60,13 +66,16 @@ same_line i j x = record { is = unlined_is i x ∙ sym (unlined_is j x) }
 same_kind : (i j : ℕ) {x y : StmtKind} → unlined_kind x ≡ unlined_kind y → Same (statement_of i x) (statement_of j y)
 same_kind i j {x} {y} e = record { is = unlined_is i x ∙ ap (statement_of 0) e ∙ sym (unlined_is j y) }
 
-pub same_if : (i j : ℕ) {c : Expr} {x x' : Stmt} {y y' : Option Stmt} → Same x x' → SamePart y y' → Same (statement_of i (k.If c x y)) (statement_of j (k.If c x' y'))
-same_if i j {c} {x} {x'} {y} {y'} p q = same_kind i j (unlined-If c x y ∙ ap (λ (s : Stmt). k.If c s (part y)) p.is ∙ ap (k.If c (unlined x')) q.is ∙ sym (unlined-If c x' y'))
+pub same_if : (i j : ℕ) {c : Expr} {x x' : Stmt} {y y' : Option Stmt}
+    → Same x x' → SamePart y y' → Same (statement_of i (k.If c x y)) (statement_of j (k.If c x' y'))
+same_if i j {c} {x} {x'} {y} {y'} p q =
+    same_kind i j (unlined-If c x y ∙ ap (λ (s : Stmt). k.If c s (part y)) p.is ∙ ap (k.If c (unlined x')) q.is ∙ sym (unlined-If c x' y'))
 
 pub same_while : (i j : ℕ) {c : Expr} {x x' : Stmt} → Same x x' → Same (statement_of i (k.While c x)) (statement_of j (k.While c x'))
 same_while i j {c} {x} {x'} p = same_kind i j (unlined-While c x ∙ ap (k.While c) p.is ∙ sym (unlined-While c x'))
 
-pub same_for : (i j : ℕ) {b : Option Expr} {n : Option LoopNote} {a a' c c' : Option Stmt} {x x' : Stmt} → SamePart a a' → SamePart c c' → Same x x' → Same (statement_of i (k.For a b c x n)) (statement_of j (k.For a' b c' x' n))
+pub same_for : (i j : ℕ) {b : Option Expr} {n : Option LoopNote} {a a' c c' : Option Stmt} {x x' : Stmt}
+    → SamePart a a' → SamePart c c' → Same x x' → Same (statement_of i (k.For a b c x n)) (statement_of j (k.For a' b c' x' n))
 same_for i j {b} {n} {a} {a'} {c} {c'} {x} {x'} p q r = same_kind i j
     (unlined-For a b c x n ∙ ap (λ (o : Option Stmt). k.For o b (part c) (unlined x) n) p.is ∙ ap (λ (o : Option Stmt). k.For (part a') b o (unlined x) n) q.is
     ∙ ap (λ (s : Stmt). k.For (part a') b (part c') s n) r.is ∙ sym (unlined-For a' b c' x' n))

@@ -51,7 +51,8 @@ first_taken : (z : Bytes) → is_letter (slice_index z 0) ≡ true → is_letter
 first_taken [] e = e
 first_taken (b ∷ z) e = first_at b z (is_word b) (or_true (is_letter b) (is_ascii_digit b) e) e
 
-name_writable : (z : Bytes) (o : Option Key) → is_letter (slice_index z 0) ≡ true → key_of (take (name_len z) z) ≡ o → IsWritable (named (take (name_len z) z) o)
+name_writable : (z : Bytes) (o : Option Key)
+    → is_letter (slice_index z 0) ≡ true → key_of (take (name_len z) z) ≡ o → IsWritable (named (take (name_len z) z) o)
 name_writable z None e d = record { letter = first_taken z e; whole = prefix_taken is_word z; free = d }
 name_writable z (Some k) e d = tt
 
@@ -162,7 +163,8 @@ good_mark : (line : ℕ) (o : Option Mark) → IsGood (marked line o)
 good_mark line None = tt
 good_mark line (Some m) = tt
 
-good_name : (z : Bytes) (t : Bool) (x : Result Lexeme LexFault) → is_letter (slice_index z 0) ≡ t → IsGood x → IsGood (cond t (Ok (named (take (name_len z) z) (key_of (take (name_len z) z)), name_len z)) x)
+good_name : (z : Bytes) (t : Bool) (x : Result Lexeme LexFault)
+    → is_letter (slice_index z 0) ≡ t → IsGood x → IsGood (cond t (Ok (named (take (name_len z) z) (key_of (take (name_len z) z)), name_len z)) x)
 good_name z true x e h = name_writable z (key_of (take (name_len z) z)) e refl
 good_name z false x e h = h
 
@@ -210,7 +212,8 @@ good_line_end Note s = tt
 good_matter : (p : Place) (s : Spot) (z : Bytes) → IsGoodNext (matter_at p s z)
 good_matter Fresh s z = either_next (slice_index z 0 == 35) _ _ tt (good_token s Inside (lexeme s.line z) (good_lexeme s.line z))
 good_matter Inside s z = good_token s Inside (lexeme s.line z) (good_lexeme s.line z)
-good_matter (Hash start line) s z = either_next (bytes_eq (take (name_len z) z) (codes "include")) _ _ tt (either_next (bytes_eq (take (name_len z) z) (codes "pragma")) _ _ tt tt)
+good_matter (Hash start line) s z =
+    either_next (bytes_eq (take (name_len z) z) (codes "include")) _ _ tt (either_next (bytes_eq (take (name_len z) z) (codes "pragma")) _ _ tt tt)
 good_matter (Pragma start line) s z = either_next (bytes_eq (take (name_len z) z) (codes "alter")) _ _ tt tt
 good_matter Skipped s z = tt
 good_matter Note s z = good_token s Note (lexeme s.line z) (good_lexeme s.line z)

@@ -21,7 +21,8 @@ unlined = fold-Stmt StmtKind Stmt kind_unlined statement_unlined
 abbrev pub unlined_item : Item → Item
 unlined_item (item.Struct s) = item.Struct (record s { line = 0 })
 unlined_item (item.Global g) = item.Global (record g { line = 0 })
-unlined_item (item.Func f) = item.Func (record { name = f.name; result = f.result; params = f.params; body = map unlined f.body; line = 0 })
+unlined_item (item.Func f) =
+    item.Func (record { name = f.name; result = f.result; params = f.params; body = map unlined f.body; line = 0 })
 
 -- a program with its lines set to 0
 abbrev pub without_lines : Program → Program

@@ -13,4 +13,5 @@ HasSource p = (source : Bytes) × (tokens : List Token) × Spells source tokens 
 
 -- A text spells tokens, and these derive a program that is the given one but for its lines.
 abbrev pub ReadsBack : Program → Bytes → Type 0
-ReadsBack p text = (tokens : List Token) × (q : Program) × Spells text tokens × Derives tokens q × (without_lines q ≡ without_lines p)
+ReadsBack p text =
+    (tokens : List Token) × (q : Program) × Spells text tokens × Derives tokens q × (without_lines q ≡ without_lines p)

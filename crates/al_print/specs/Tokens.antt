@@ -1,5 +1,6 @@
 -- The canonical tokens of a tree: a case a node, with parentheses only where its place needs them.
-use Rattle.std.specs.Prelude.{ℕ, suc, Bool, true, false, nat_lt, ℤ, pos, negsuc, List, [], ◌∷◌, ◌++◌, map, Option, Some, None, codes}
+use Rattle.std.specs.Prelude.{ℕ, suc, ◌+◌, Bool, true, false, if◌then◌else◌, nat_lt, ℤ, pos, negsuc, List, [], ◌∷◌, ◌++◌, map, Option, Some, None, codes}
+use Rattle.std.specs.Str.{bytes_eq}
 use Rattle.al_source.specs.declared.tokens.Mark as the_mark
 use Rattle.al_source.specs.declared.tokens.Mark.TheVariants as m
 use Rattle.al_source.specs.declared.tokens.Key as the_key
@@ -25,6 +26,8 @@ use Rattle.al_source.specs.declared.source_tree.Func.{Func}
 use Rattle.al_source.specs.declared.source_tree.Item.{Item}
 use Rattle.al_source.specs.declared.source_tree.Item.TheVariants as item
 use Rattle.al_source.specs.declared.source_tree.Program.{Program}
+use Rattle.al_grammar.specs.declared.operators.TheConstants.{LEVELS}
+use Rattle.al_grammar.specs.Words.{key_text}
 use Rattle.al_print.specs.Tables.{unary_mark, binary, update_mark, reduction, policy_word, order_word}
 
 abbrev pub Kinds : Type 0
@@ -73,14 +76,14 @@ declared a w = type_front a ++ Word w ∷ dimensions a
 abbrev pub size_of : CType → Kinds
 size_of a = Key key.Sizeof ∷ Mark m.LeftParen ∷ type_front a ++ Mark m.RightParen ∷ []
 
--- ---- expressions. A place has a level: 0 to 9 for the binary operators, the loosest first, then one for operands of
--- unary operators and one for operands of `[`, `.` and `->`.
+-- ---- expressions. A place has a level: from 0 those of the binary operators, the loosest first, then one for operands
+-- of unary operators and one for operands of `[`, `.` and `->`.
 
 abbrev pub unary_level : ℕ
-unary_level = 10
+unary_level = LEVELS
 
 abbrev pub postfix_level : ℕ
-postfix_level = 11
+postfix_level = LEVELS + 1
 
 -- the tokens at a place of some level
 abbrev pub Placed : Type 0
@@ -121,9 +124,11 @@ expression_case (Expr-F.Dot x w) level = x postfix_level ++ Mark m.Dot ∷ Word 
 expression_case (Expr-F.Arrow x w) level = x postfix_level ++ Mark m.Arrow ∷ Word w ∷ []
 expression_case (Expr-F.Deref x) level = prefixed m.Star x level
 expression_case (Expr-F.Address x) level = prefixed m.Ampersand x level
-expression_case (Expr-F.Call w xs) level = Word w ∷ Mark m.LeftParen ∷ with_commas (map value_of xs) ++ Mark m.RightParen ∷ []
+expression_case (Expr-F.Call w xs) level =
+    Word w ∷ Mark m.LeftParen ∷ with_commas (map value_of xs) ++ Mark m.RightParen ∷ []
 expression_case (Expr-F.SizeOf a) level = size_of a
-expression_case (Expr-F.Calloc x a) level = Key key.Calloc ∷ Mark m.LeftParen ∷ x 0 ++ Mark m.Comma ∷ size_of a ++ Mark m.RightParen ∷ []
+expression_case (Expr-F.Calloc x a) level =
+    Key key.Calloc ∷ Mark m.LeftParen ∷ x 0 ++ Mark m.Comma ∷ size_of a ++ Mark m.RightParen ∷ []
 
 unfoldable pub expression : Expr → Placed
 expression = fold-Expr Placed expression_case
@@ -148,7 +153,8 @@ initializer (Some x) = Mark m.Assign ∷ value x
 -- ---- annotations
 
 abbrev pub reduced : NamedRed → Kinds
-reduced r = Word (codes "reduce") ∷ Mark m.LeftParen ∷ reduction r.op ∷ Mark m.Colon ∷ Word r.name ∷ Mark m.RightParen ∷ []
+reduced r =
+    Word (codes "reduce") ∷ Mark m.LeftParen ∷ reduction r.op ∷ Mark m.Colon ∷ Word r.name ∷ Mark m.RightParen ∷ []
 
 abbrev pub all_reduced : List NamedRed → Kinds
 all_reduced [] = []
@@ -188,7 +194,11 @@ condition k c = Key k ∷ Mark m.LeftParen ∷ value c ++ Mark m.RightParen ∷ 
 
 -- the head of a `for`
 abbrev pub head : Kinds → Option Expr → Kinds → Kinds
-head first test third = Key key.For ∷ Mark m.LeftParen ∷ first ++ Mark m.Semicolon ∷ optional_value test ++ Mark m.Semicolon ∷ third ++ Mark m.RightParen ∷ []
+head first test third =
+    Key key.For ∷ Mark m.LeftParen ∷ first
+    ++ Mark m.Semicolon ∷ optional_value test
+    ++ Mark m.Semicolon ∷ third
+    ++ Mark m.RightParen ∷ []
 
 abbrev pub declaration : CType → List ℕ → Option Expr → Standing
 declaration a w x stands = declared a w ++ initializer x ++ end stands
@@ -196,11 +206,16 @@ declaration a w x stands = declared a w ++ initializer x ++ end stands
 abbrev pub assignment : Expr → the_mark.Mark → Expr → Standing
 assignment x mark y stands = expression x unary_level ++ Mark mark ∷ value y ++ end stands
 
+-- the called name of a statement: `free` is a reserved word, and any other a name
+abbrev pub callee : List ℕ → TokenKind
+callee w = if bytes_eq w (key_text key.Free) then Key key.Free else Word w
+
 abbrev pub call : List ℕ → List Expr → Standing
-call w xs stands = Word w ∷ Mark m.LeftParen ∷ with_commas (values xs) ++ Mark m.RightParen ∷ end stands
+call w xs stands = callee w ∷ Mark m.LeftParen ∷ with_commas (values xs) ++ Mark m.RightParen ∷ end stands
 
 abbrev pub print : List Piece → List Expr → Standing
-print f xs stands = Key key.Printf ∷ Mark m.LeftParen ∷ Text f ∷ after_commas (values xs) ++ Mark m.RightParen ∷ end stands
+print f xs stands =
+    Key key.Printf ∷ Mark m.LeftParen ∷ Text f ∷ after_commas (values xs) ++ Mark m.RightParen ∷ end stands
 
 abbrev pub jump : the_key.Key → Option Expr → Standing
 jump k x stands = Key k ∷ optional_value x ++ end stands
@@ -214,7 +229,8 @@ kind_case (StmtKind-F.Call w xs) stands = call w xs stands
 kind_case (StmtKind-F.Print f xs) stands = print f xs stands
 kind_case (StmtKind-F.If c x y) stands = condition key.If c ++ x true ++ otherwise y
 kind_case (StmtKind-F.While c x) stands = condition key.While c ++ x true
-kind_case (StmtKind-F.For first test third x n) stands = optional_note n ++ head (part first) test (part third) ++ x true
+kind_case (StmtKind-F.For first test third x n) stands =
+    optional_note n ++ head (part first) test (part third) ++ x true
 kind_case (StmtKind-F.Block ss) stands = Mark m.LeftBrace ∷ alone ss ++ Mark m.RightBrace ∷ []
 kind_case (StmtKind-F.Return x) stands = jump key.Return x stands
 kind_case StmtKind-F.Break stands = jump key.Break None stands
@@ -271,7 +287,8 @@ parameters [] = Key key.Void ∷ []
 parameters (f ∷ fs) = parameter f ++ more_parameters fs
 
 abbrev pub structure : StructDef → Kinds
-structure s = Key key.Struct ∷ Word s.name ∷ Mark m.LeftBrace ∷ fields s.fields ++ Mark m.RightBrace ∷ Mark m.Semicolon ∷ []
+structure s =
+    Key key.Struct ∷ Word s.name ∷ Mark m.LeftBrace ∷ fields s.fields ++ Mark m.RightBrace ∷ Mark m.Semicolon ∷ []
 
 abbrev pub global : GlobalDef → Kinds
 global g = declared g.ty g.name ++ start_value g.start ++ Mark m.Semicolon ∷ []

@@ -9,7 +9,8 @@ abbrev pub appended : Writer → Bytes → Writer
 appended w z = record { text = w.text ++ z; begins = w.begins }
 
 unfoldable pub written : Writer → TokenKind → Writer
-written w k = record { text = w.text ++ (front_text k w.begins ++ spelling k ++ end_text (ends_line k)); begins = ends_line k }
+written w k =
+    record { text = w.text ++ (front_text k w.begins ++ spelling k ++ end_text (ends_line k)); begins = ends_line k }
 
 abbrev pub all_written : Writer → List TokenKind → Writer
 all_written = fold written

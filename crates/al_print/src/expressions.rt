@@ -8,14 +8,15 @@ ghost use Rattle.al_print.specs.Writing.{all_written};
 use crate::tables::{binary, unary_mark};
 use crate::types::size_of;
 use crate::writer::Writer;
+use al_grammar::LEVELS;
 use al_source::{CType, Expr, Key, Mark};
 use std::alloc::AllocError;
 
 /// The level of operands of unary operators, above those of the binary ones.
-pub const UNARY: u8 = 10;
+pub const UNARY: u8 = LEVELS;
 
 /// The level of operands of `[`, `.` and `->`.
-const POSTFIX: u8 = 11;
+const POSTFIX: u8 = LEVELS + 1;
 
 fn opening(w: &mut Writer, needed: bool) -> Result<(), AllocError>
     ensures { OnOk result (w.new ≡ all_written w.old (spec.opening needed)) }
@@ -121,7 +122,8 @@ fn left_operand(w: &mut Writer, level: u8, op: (u8, Mark), x: &Expr) -> Result<(
 #[cycle(expressions)]
 fn right_operand(w: &mut Writer, level: u8, op: (u8, Mark), y: &Expr) -> Result<(), AllocError>
     requires { op.0 ≤ 9 }
-    ensures { OnOk result (w.new ≡ all_written w.old (token.Mark op.1 ∷ spec.expression y.now (suc op.0) ++ spec.closing (nat_lt op.0 level))) }
+    ensures { OnOk result (w.new ≡ all_written w.old
+        (token.Mark op.1 ∷ spec.expression y.now (suc op.0) ++ spec.closing (nat_lt op.0 level))) }
 {
     w.mark(op.1)?;
     expression(w, op.0 + 1, y)?;

@@ -3,7 +3,6 @@
 
 mod expressions;
 mod program;
-mod spellings;
 mod statements;
 mod tables;
 #[cfg(test)]

@@ -149,10 +149,18 @@ fn assignment(w: &mut Writer, x: &Expr, mark: Mark, y: &Expr, alone: bool) -> Re
     end(w, alone)
 }
 
+/// The called name of a statement. `free` is a reserved word, which has the same bytes.
+#[tactic(auto, using(crate::proofs::HeadWritten::callee_written))]
+fn callee(w: &mut Writer, name: &[u8]) -> Result<(), AllocError>
+    ensures { OnOk result (w.new ≡ written w.old (spec.callee name.now)) }
+{
+    w.word(name)
+}
+
 fn call(w: &mut Writer, name: &[u8], xs: &[Expr], alone: bool) -> Result<(), AllocError>
     ensures { OnOk result (w.new ≡ all_written w.old (spec.call name.now xs.now alone)) }
 {
-    w.word(name)?;
+    callee(w, name)?;
     w.mark(Mark::LeftParen)?;
     values(w, false, xs)?;
     w.mark(Mark::RightParen)?;
@@ -248,7 +256,8 @@ fn statement_kind(w: &mut Writer, k: &StmtKind, alone: bool) -> Result<(), Alloc
 /// The head of a `for` up to its first part.
 #[cycle(statements)]
 fn first_part(w: &mut Writer, first: &Option<Boxed<Stmt>>) -> Result<(), AllocError>
-    ensures { OnOk result (w.new ≡ all_written w.old (token.Key key.For ∷ token.Mark mark.LeftParen ∷ spec.part_of first.now)) }
+    ensures { OnOk result (w.new ≡ all_written w.old
+        (token.Key key.For ∷ token.Mark mark.LeftParen ∷ spec.part_of first.now)) }
 {
     w.key(Key::For)?;
     w.mark(Mark::LeftParen)?;
@@ -258,7 +267,8 @@ fn first_part(w: &mut Writer, first: &Option<Boxed<Stmt>>) -> Result<(), AllocEr
 /// The third part, up to the end of the head.
 #[cycle(statements)]
 fn third_part(w: &mut Writer, third: &Option<Boxed<Stmt>>) -> Result<(), AllocError>
-    ensures { OnOk result (w.new ≡ all_written w.old (token.Mark mark.Semicolon ∷ spec.part_of third.now ++ token.Mark mark.RightParen ∷ [])) }
+    ensures { OnOk result (w.new ≡ all_written w.old
+        (token.Mark mark.Semicolon ∷ spec.part_of third.now ++ token.Mark mark.RightParen ∷ [])) }
 {
     w.mark(Mark::Semicolon)?;
     part(w, third)?;

@@ -142,6 +142,11 @@ fn call_of(alloc: Global, name: &[u8]) -> Made<StmtKind> {
     Ok(StmtKind::Call(name, Items::new(alloc)))
 }
 
+fn free_of(alloc: Global, name: &[u8]) -> Made<StmtKind> {
+    let free = text(alloc, b"free")?;
+    Ok(StmtKind::Call(free, one(alloc, var(alloc, name))?))
+}
+
 fn printing(format: Made<Items<Piece>>, xs: Made<Items<Expr>>) -> Made<StmtKind> {
     let format = format?;
     Ok(StmtKind::Print(format, xs?))
@@ -360,6 +365,13 @@ fn plain_statements(rt: HostRuntime) -> Result<(), Fail> {
             b"int f ( void ) {\ng ( ) ;\n}\n"
         )?
     );
+    assert!(rt;
+        is_statement(
+            alloc,
+            free_of(alloc, b"p"),
+            b"int f ( void ) {\nfree ( p ) ;\n}\n"
+        )?
+    );
     let x = printing(one(alloc, plain(alloc, b"a%\t\"\\\n")), none(alloc));
     assert!(rt;
         is_statement(
@@ -422,8 +434,8 @@ fn an_annotation_begins_a_line(rt: HostRuntime) -> Result<(), Fail> {
         alloc,
         noted(alloc, note(Policy::Waw, CommitOrder::OutOfOrder, reduce)),
     );
-    let wanted =
-        b"int f ( void ) {\nif ( a ) \n#pragma alter WAW OutOfOrder reduce ( + : s ) reduce ( max : t ) \nfor ( ;\n;\n) ;\n}\n";
+    let wanted = b"int f ( void ) {\nif ( a ) \n#pragma alter WAW OutOfOrder \
+            reduce ( + : s ) reduce ( max : t ) \nfor ( ;\n;\n) ;\n}\n";
     assert!(rt; is_statement(alloc, x, wanted)?);
     Ok(())
 }

@@ -5,7 +5,7 @@ ghost use Rattle.al_source.specs.declared.tokens.TokenKind.TheVariants as token;
 ghost use Rattle.al_print.specs.Text as spec;
 ghost use Rattle.al_print.specs.Writing.{appended, written};
 
-use crate::spellings::{key_text, mark_text};
+use al_grammar::{key_text, mark_text};
 use al_source::{Key, Mark, Piece};
 use itoa::Buffer;
 use sqlite_items::Items;
@@ -43,7 +43,8 @@ impl Writer {
 
     /// What stands after a token: a line feed or a blank.
     fn end(&mut self, ends_line: bool) -> Result<(), AllocError>
-        ensures { OnOk result (self.new ≡ record { text = self.old.text ++ spec.end_text ends_line; begins = ends_line }) }
+        ensures { OnOk result (self.new
+            ≡ record { text = self.old.text ++ spec.end_text ends_line; begins = ends_line }) }
     {
         self.text.push(if ends_line { b'\n' } else { b' ' })?;
         self.begins = ends_line;
@@ -51,7 +52,8 @@ impl Writer {
     }
 
     fn ended(&mut self, bytes: &[u8], ends_line: bool) -> Result<(), AllocError>
-        ensures { OnOk result (self.new ≡ record { text = self.old.text ++ bytes.now ++ spec.end_text ends_line; begins = ends_line }) }
+        ensures { OnOk result (self.new
+            ≡ record { text = self.old.text ++ bytes.now ++ spec.end_text ends_line; begins = ends_line }) }
     {
         self.bytes(bytes)?;
         self.end(ends_line)

@@ -1,5 +1,4 @@
 use Rattle.std.proofs.Common.{ap}
-use Rattle.al_source.specs.declared.source_tree.Program.{Program}
 use Rattle.al_grammar.proofs.ProgramFacts.{one_list}
 use Rattle.al_grammar.proofs.laws.one_program.Goals as goal
 

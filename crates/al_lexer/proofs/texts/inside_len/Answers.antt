@@ -15,7 +15,9 @@ loop-rest-preserved c =
     let r = c.loop-rest.rest.now in
     let u = c.in_ok-len in
     let e : unit_at r ≡ Some (u.len, u.field-0-1) = sym c.unit_at.ensures.value ∙ u.was in
-    rw (take_rest r c.in_ok-len.len) (passed_goes c.args.z.now r (u.len, u.field-0-1) c.loop-rest.invariant e (λ h. omega (arith, c.byte.ensures.value, c.loop-rest-test.true)) u.ensures.within.0 u.ensures.within.1)
+    rw (take_rest r c.in_ok-len.len)
+    (passed_goes c.args.z.now r (u.len, u.field-0-1) c.loop-rest.invariant e (λ h. omega (arith, c.byte.ensures.value, c.loop-rest-test.true))
+    u.ensures.within.0 u.ensures.within.1)
 
 pub returns-clause-value : goal.returns-clause-value
 returns-clause-value c =

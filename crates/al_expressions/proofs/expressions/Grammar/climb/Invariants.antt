@@ -1,6 +1,6 @@
 use Rattle.std.proofs.Common.{◌≡◌, ◌≤◌, length}
 use Rattle.al_grammar.specs.ExpressionParser.{parse, climb}
-use Rattle.al_expressions.specs.Answers.{state}
+use Rattle.al_expressions.specs.Cursors.{state}
 use Rattle.al_expressions.proofs.expressions.Grammar.climb.Given as goal
 
 -- what is left to read gives what all gives

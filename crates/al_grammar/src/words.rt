@@ -1,10 +1,104 @@
-//! The bytes of the reserved words and of the marks.
+//! The reserved words and the marks, with their bytes.
 
 ghost use Rattle.std.specs.Prelude.{◌≡◌};
 ghost use Rattle.al_grammar.specs.Words as spec;
 
 use al_source::{Key, Mark};
 
+/// Every reserved word.
+pub const KEYS: [Key; 41] = [
+    Key::Auto,
+    Key::Break,
+    Key::Case,
+    Key::Char,
+    Key::Const,
+    Key::Continue,
+    Key::Default,
+    Key::Do,
+    Key::Double,
+    Key::Else,
+    Key::Enum,
+    Key::Extern,
+    Key::Float,
+    Key::For,
+    Key::Goto,
+    Key::If,
+    Key::Inline,
+    Key::Int,
+    Key::Long,
+    Key::Register,
+    Key::Restrict,
+    Key::Return,
+    Key::Short,
+    Key::Signed,
+    Key::Sizeof,
+    Key::Static,
+    Key::Struct,
+    Key::Switch,
+    Key::Typedef,
+    Key::Union,
+    Key::Unsigned,
+    Key::Void,
+    Key::Volatile,
+    Key::While,
+    Key::Bool,
+    Key::Complex,
+    Key::Imaginary,
+    Key::Null,
+    Key::Printf,
+    Key::Calloc,
+    Key::Free,
+];
+
+/// Every mark, the longest first, so that the first that fits is the one to take.
+pub const MARKS: [Mark; 44] = [
+    Mark::ShiftLeftAssign,
+    Mark::ShiftRightAssign,
+    Mark::Arrow,
+    Mark::PlusAssign,
+    Mark::MinusAssign,
+    Mark::StarAssign,
+    Mark::SlashAssign,
+    Mark::PercentAssign,
+    Mark::AmpersandAssign,
+    Mark::PipeAssign,
+    Mark::CaretAssign,
+    Mark::Increment,
+    Mark::Decrement,
+    Mark::AndAnd,
+    Mark::OrOr,
+    Mark::ShiftLeft,
+    Mark::ShiftRight,
+    Mark::LessEqual,
+    Mark::GreaterEqual,
+    Mark::EqualEqual,
+    Mark::NotEqual,
+    Mark::LeftParen,
+    Mark::RightParen,
+    Mark::LeftBracket,
+    Mark::RightBracket,
+    Mark::LeftBrace,
+    Mark::RightBrace,
+    Mark::Semicolon,
+    Mark::Comma,
+    Mark::Dot,
+    Mark::Colon,
+    Mark::Assign,
+    Mark::Plus,
+    Mark::Minus,
+    Mark::Star,
+    Mark::Slash,
+    Mark::Percent,
+    Mark::Tilde,
+    Mark::Bang,
+    Mark::Ampersand,
+    Mark::Pipe,
+    Mark::Caret,
+    Mark::Less,
+    Mark::Greater,
+];
+
+/// The bytes of a reserved word.
 pub fn key_text(key: Key) -> &'static [u8]
     ensures { result.now ≡ spec.key_text key }
 {
@@ -53,6 +147,7 @@ pub fn key_text(key: Key) -> &'static [u8]
     }
 }
 
+/// The bytes of a mark.
 pub fn mark_text(mark: Mark) -> &'static [u8]
     ensures { result.now ≡ spec.mark_text mark }
 {
