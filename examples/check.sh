@@ -75,4 +75,18 @@ answers 1 '' 'alter: p14.c:3: loop is left\n' check p14.c
 answers 1 '' 'alter: p14.c:3: loop is left\n' run p14.c
 answers 0 'step 0 cost 10000 used 1000\nstep 1 cost 0 used 1000\n' '' run p15.c
 answers 0 '0 1 0 0 0 0 1 0 0 0 0 0 0 0 1 0 32709\nloops 1 rounds 1 attempts 1 aborted 0 span 69\n' '' demo 1 3
+answers 3 '4\n' 'alter: f1.c:8: trap: freed already\n' run f1.c
+answers 0 '1\n' '' run f2.c --lanes 2 --chunk 1
+answers 0 '1\n' '' plain f2.c
+under RAW WAW f2.c
+answers 0 '1\n' '' run WAW-f2.c --lanes 2 --chunk 1
+under RAW NONE f2.c
+answers 0 '1\n' '' run NONE-f2.c --lanes 2 --chunk 1
+answers 3 '' 'alter: f3.c:3: trap: not an allocated object\n' run f3.c
+sed 's/free(&q\[1\]);/free(q); q[0] = 1;/' f3.c >used.c
+answers 3 '' 'alter: used.c:3: trap: missing object\n' run used.c
+for line in 1 2 4; do
+    answers 0 '1 1\n' '' run l.c --lanes 4 --chunk 1 --line $line
+done
+answers 2 '' 'alter: bad value for --line: 3\n' run l.c --line 3
 exit $failed

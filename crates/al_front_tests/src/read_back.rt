@@ -21,7 +21,23 @@ fn programs_are_read_back(rt: HostRuntime) -> Result<(), Fail> {
     let text = text_of(rt.alloc(), P1.as_bytes())?;
     assert!(rt; text.as_slice() == L3);
     for source in [
-        P1, P2, P3, P4, P5, P6, P7, P8, P9, P10, P11, P12, P13, P14, P15,
+        P1,
+        P2,
+        P3,
+        P4,
+        P5,
+        P6,
+        P7,
+        P8,
+        P9,
+        P10,
+        P11,
+        P12,
+        P13,
+        P14,
+        P15,
+        FREES_TWICE,
+        FREES_IN_A_LOOP,
     ] {
         let text = text_of(rt.alloc(), source.as_bytes())?;
         let again = text_of(rt.alloc(), text.as_slice())?;

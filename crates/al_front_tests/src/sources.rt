@@ -1,5 +1,5 @@
-//! Sources with what is read of them, by the rules of tokens and the grammar: a fault with its line, no program, or the
-//! canonical text.
+//! Sources with what is read of them, by the rules of tokens and the grammar: a fault with its line, no program, or
+//! the canonical text.
 use al_lexer::lex;
 use al_parser::parse;
 use al_print::print_program;
@@ -94,7 +94,7 @@ const REFUSED: [&str; 48] = [
     "int f(void) { for (int i; ; ) ; }",
 ];
 
-const ALSO_REFUSED: [&str; 49] = [
+const ALSO_REFUSED: [&str; 48] = [
     "int f(void) { for (int i = 0, j = 0; ; ) ; }",
     "int f(void) { for (; ; int i = 0) ; }",
     "int f(void) { for (i = 0, j = 0; ; ) ; }",
@@ -109,7 +109,6 @@ const ALSO_REFUSED: [&str; 49] = [
     "int f(void) { x = sizeof(void); }",
     "int f(void) { x = calloc(1); }",
     "int f(void) { x = calloc(1, 8); }",
-    "int f(void) { free(p); }",
     "int f(void) { x = printf; }",
     "int f(void) { printf(x); }",
     "int f(void) { printf(); }",
@@ -144,6 +143,19 @@ const ALSO_REFUSED: [&str; 49] = [
     "int f(void) { x + = 1; }",
     "int f(void) { x = f(a, (b, c)); }",
     "int f(void) { x = a+++b; }",
+];
+
+const FREES_REFUSED: [&str; 10] = [
+    "int f(void) { free(); }",
+    "int f(void) { free(p, q); }",
+    "int f(void) { free p; }",
+    "int f(void) { free(p) + 1; }",
+    "int f(void) { free(p)->n = 1; }",
+    "int f(void) { free = 1; }",
+    "int f(void) { x = free(p); }",
+    "int f(void) { free(free(p)); }",
+    "int f(void) { int free; }",
+    "int free(int x) { }",
 ];
 
 const ITEMS: [Row; 13] = [
@@ -223,6 +235,25 @@ const STATEMENTS: [Row; 13] = [
     ),
 ];
 
+const FREES: [Row; 4] = [
+    (
+        "int f(void) { free(p); free(NULL); }",
+        "int f ( void ) {\nfree ( p ) ;\nfree ( NULL ) ;\n}\n",
+    ),
+    (
+        "int f(void) { free((p)); free(p->n); free(&q[1]); }",
+        "int f ( void ) {\nfree ( p ) ;\nfree ( p -> n ) ;\nfree ( & q [ 1 ] ) ;\n}\n",
+    ),
+    (
+        "int f(void) { for (free(p); ; free(q)) ; }",
+        "int f ( void ) {\nfor ( free ( p ) ;\n;\nfree ( q ) ) ;\n}\n",
+    ),
+    (
+        "int f(void) { if (p) free(p); else freed(p); }",
+        "int f ( void ) {\nif ( p ) free ( p ) ;\nelse freed ( p ) ;\n}\n",
+    ),
+];
+
 const LOOPS: [Row; 12] = [
     (
         "int f(void) { for (;;) break; }",
@@ -250,11 +281,14 @@ const LOOPS: [Row; 12] = [
     ),
     (
         "int f(void) { \n# pragma /* x */ alter FULL reduce(+: s, t) reduce(max: m) // y\nfor (;;) ; }",
-        "int f ( void ) {\n#pragma alter FULL InOrder reduce ( + : s ) reduce ( + : t ) reduce ( max : m ) \nfor ( ;\n;\n) ;\n}\n",
+        "int f ( void ) {\n#pragma alter FULL InOrder reduce ( + : s ) reduce ( + : t ) reduce ( max : m ) \
+            \nfor ( ;\n;\n) ;\n}\n",
     ),
     (
-        "int f(void) { \n#pragma alter WAW reduce(*: a) reduce(min: b) reduce(&: c) reduce(|: d) reduce(^: e)\nfor (;;) ; }",
-        "int f ( void ) {\n#pragma alter WAW InOrder reduce ( * : a ) reduce ( min : b ) reduce ( & : c ) reduce ( | : d ) reduce ( ^ : e ) \nfor ( ;\n;\n) ;\n}\n",
+        "int f(void) { \n#pragma alter WAW reduce(*: a) reduce(min: b) reduce(&: c) reduce(|: d) reduce(^: e)\n\
+            for (;;) ; }",
+        "int f ( void ) {\n#pragma alter WAW InOrder reduce ( * : a ) reduce ( min : b ) reduce ( & : c ) \
+            reduce ( | : d ) reduce ( ^ : e ) \nfor ( ;\n;\n) ;\n}\n",
     ),
     (
         "int f(void) { if (a)\n#pragma alter NONE InOrder\nfor (;;) ; }",
@@ -546,6 +580,7 @@ fn sources_have_lexical_faults(rt: HostRuntime) -> Result<(), Fail> {
 fn sources_derive_no_program(rt: HostRuntime) -> Result<(), Fail> {
     assert!(rt; are_refused(rt.alloc(), &REFUSED)?);
     assert!(rt; are_refused(rt.alloc(), &ALSO_REFUSED)?);
+    assert!(rt; are_refused(rt.alloc(), &FREES_REFUSED)?);
     Ok(())
 }
 
@@ -558,6 +593,12 @@ fn items_have_their_text(rt: HostRuntime) -> Result<(), Fail> {
 #[test]
 fn statements_have_their_text(rt: HostRuntime) -> Result<(), Fail> {
     assert!(rt; have_text(rt.alloc(), &STATEMENTS)?);
+    Ok(())
+}
+
+#[test]
+fn frees_have_their_text(rt: HostRuntime) -> Result<(), Fail> {
+    assert!(rt; have_text(rt.alloc(), &FREES)?);
     Ok(())
 }
 

@@ -11,7 +11,7 @@ use std::test::Fail;
 /// A source, how many items it has, and how many statements and expressions.
 type Row = (&'static str, usize, u64);
 
-const COUNTS: [Row; 16] = [
+const COUNTS: [Row; 18] = [
     ("", 0, 0),
     (P1, 1, 4),
     (P2, 1, 21),
@@ -28,6 +28,8 @@ const COUNTS: [Row; 16] = [
     (P13, 2, 19),
     (P14, 1, 15),
     (P15, 5, 239),
+    (FREES_TWICE, 2, 16),
+    (FREES_IN_A_LOOP, 3, 36),
 ];
 
 fn tree(alloc: Global, source: &[u8]) -> Result<Program, Fail> {

@@ -8,4 +8,5 @@ pub mod Turning
 pub mod Annotated
 pub mod LoopNodes
 pub mod Calling
+pub mod Iterating
 pub mod Zeros

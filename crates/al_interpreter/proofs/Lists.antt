@@ -2,7 +2,8 @@
 use Rattle.std.proofs.Common.{◌≡◌, ℕ, ◌+◌, ◌<◌, List, [], ◌∷◌, ◌++◌, length, drop, get_or, Ok, Err, refl, sym, ap, subst, ◌∙◌, append_assoc}
 use Rattle.std.proofs.lemmas.List.{append-nil, drop_more}
 use Rattle.al_interpreter.specs.declared.fault.Fault.{Fault}
-use Rattle.al_interpreter.specs.Does.{Does}
+use Rattle.al_source.specs.Answers.{Does}
+use Rattle.al_interpreter.specs.Faults.{stopped}
 use Rattle.al_interpreter.proofs.Binds.{raised}
 use Rattle.std.specs.Prelude.{ℤ}
 use Rattle.al_core.specs.declared.values.Val.{Val}
@@ -13,7 +14,8 @@ use Rattle.al_core.specs.Meaning.{Where, value, values}
 
 module _ {S : Type 0} where
   flat_after : (done : List Val) (v : Val) (r : Answer (List Val)) (t : State S)
-      → after r t (λ vs. pure ((done ++ v ∷ []) ++ vs)) ≡ after (after r t (λ vs. pure (v ∷ vs))).0 (after r t (λ vs. pure (v ∷ vs))).1 (λ vs. pure (done ++ vs))
+      → after r t (λ vs. pure ((done ++ v ∷ []) ++ vs))
+      ≡ after (after r t (λ vs. pure (v ∷ vs))).0 (after r t (λ vs. pure (v ∷ vs))).1 (λ vs. pure (done ++ vs))
   unfolding pure
   flat_after done v (Ok vs) t = ap (λ all. (Ok all, t)) (append_assoc done (v ∷ []) vs)
   flat_after done v (Err e) t = refl
@@ -26,12 +28,16 @@ module _ {S : Type 0} (world : World S) (here : Where) (input : List ℤ) (call 
 
   from_after : (done : List Val) (es : List TExpr) (line : ℕ) (r : Answer Val) (t : State S)
       → ((d : List Val) (s : State S) → values_from d es line s ≡ (values world here input call es line >>= (λ vs. pure (d ++ vs))) s)
-      → after r t (λ v. values_from (done ++ v ∷ []) es line) ≡ after (after r t (λ v. values world here input call es line >>= (λ vs. pure (v ∷ vs)))).0 (after r t (λ v. values world here input call es line >>= (λ vs. pure (v ∷ vs)))).1 (λ vs. pure (done ++ vs))
+      → after r t (λ v. values_from (done ++ v ∷ []) es line)
+      ≡ after (after r t (λ v. values world here input call es line >>= (λ vs. pure (v ∷ vs)))).0
+      (after r t (λ v. values world here input call es line >>= (λ vs. pure (v ∷ vs)))).1 (λ vs. pure (done ++ vs))
   unfolding bind
-  from_after done es line (Ok v) t ih = ih (done ++ v ∷ []) t ∙ flat_after done v (values world here input call es line t).0 (values world here input call es line t).1
+  from_after done es line (Ok v) t ih =
+      ih (done ++ v ∷ []) t ∙ flat_after done v (values world here input call es line t).0 (values world here input call es line t).1
   from_after done es line (Err e) t ih = refl
 
-  joined : (es : List TExpr) (line : ℕ) (done : List Val) (s : State S) → values_from done es line s ≡ (values world here input call es line >>= (λ vs. pure (done ++ vs))) s
+  joined : (es : List TExpr) (line : ℕ) (done : List Val) (s : State S)
+      → values_from done es line s ≡ (values world here input call es line >>= (λ vs. pure (done ++ vs))) s
   unfolding bind pure
   joined [] line done s = ap (λ all. (Ok all, s)) (sym (append-nil done))
   joined (e ∷ es) line done s = from_after done es line (value world here input call e line s).0 (value world here input call e line s).1 (joined es line)
@@ -50,7 +56,8 @@ module _ {S : Type 0} (world : World S) (here : Where) (input : List ℤ) (call 
   next_of es i e within is = drop_more es i e within ∙ ap (λ x. x ∷ drop (i + 1) es) (sym is)
 
   -- one value more
-  pub more : (done new : List Val) (es : List TExpr) (i : ℕ) (e : TExpr) (v : Val) (line : ℕ) (s t : State S) → i < length es → e ≡ get_or es i e → new ≡ done ++ v ∷ [] → value world here input call e line s ≡ (Ok v, t) → values_from done (drop i es) line s ≡ values_from new (drop (i + 1) es) line t
+  pub more : (done new : List Val) (es : List TExpr) (i : ℕ) (e : TExpr) (v : Val) (line : ℕ) (s t : State S) → i < length es → e ≡ get_or es i e
+      → new ≡ done ++ v ∷ [] → value world here input call e line s ≡ (Ok v, t) → values_from done (drop i es) line s ≡ values_from new (drop (i + 1) es) line t
   unfolding bind
   more done new es i e v line s t within is grown got =
       ap (λ l. values_from done l line s) (next_of es i e within is)
@@ -58,8 +65,11 @@ module _ {S : Type 0} (world : World S) (here : Where) (input : List ℤ) (call 
       ∙ ap (λ d. values_from d (drop (i + 1) es) line t) (sym grown)
 
   -- no value more
-  pub no_more : (told : Answer (List Val) × State S) (done : List Val) (es : List TExpr) (i : ℕ) (e : TExpr) (f : Fault) (line : ℕ) (s t : State S) → told ≡ values_from done (drop i es) line s → i < length es → e ≡ get_or es i e → Does {A = Val} (value world here input call e line s) (Err f) t → Does {A = List Val} told (Err f) t
+  pub no_more : (told : Answer (List Val) × State S) (done : List Val) (es : List TExpr) (i : ℕ) (e : TExpr) (f : Fault) (line : ℕ) (s t : State S)
+      → told ≡ values_from done (drop i es) line s → i < length es → e ≡ get_or es i e → Does {A = Val} stopped (value world here input call e line s) (Err f) t
+      → Does {A = List Val} stopped told (Err f) t
   unfolding bind
   no_more told done es i e f line s t so_far within is got =
-      subst (λ (r : Answer (List Val) × State S). Does {A = List Val} r (Err f) t) (sym (so_far ∙ ap (λ l. values_from done l line s) (next_of es i e within is)))
+      subst (λ (r : Answer (List Val) × State S). Does {A = List Val} stopped r (Err f) t)
+      (sym (so_far ∙ ap (λ l. values_from done l line s) (next_of es i e within is)))
       (raised (value world here input call e line s) (λ v. values_from (done ++ v ∷ []) (drop (i + 1) es) line) f t got)

@@ -12,8 +12,9 @@ use Rattle.al_interpreter.specs.declared.flow.Flow.{Flow as Kept}
 use Rattle.al_interpreter.specs.declared.flow.Flow.TheVariants as kept
 use Rattle.al_interpreter.specs.declared.flow.Turn.{Turn}
 use Rattle.al_interpreter.specs.declared.flow.Turn.TheVariants as turn
-use Rattle.al_interpreter.specs.Does.{Does}
-use Rattle.al_interpreter.specs.Kinds.{flow_of}
+use Rattle.al_source.specs.Answers.{Does}
+use Rattle.al_interpreter.specs.Faults.{stopped}
+use Rattle.al_interpreter.specs.Flows.{flow_of}
 use Rattle.al_interpreter.specs.Turns.{in_sequence, in_loop}
 use Rattle.al_interpreter.proofs.Binds.{raised}
 
@@ -36,12 +37,14 @@ module _ {S : Type 0} where
   in_turns again (kept.Returned v) = refl
 
   -- what is told after an action that ends so
-  pub after_in_order : (p again : Act S Flow) (f : Kept) (d : Turn) (s t : State S) → p s ≡ (Ok (flow_of f), t) → in_sequence f ≡ d → (p >>= then_flow again) s ≡ by_turn again d t
+  pub after_in_order : (p again : Act S Flow) (f : Kept) (d : Turn) (s t : State S) → p s ≡ (Ok (flow_of f), t) → in_sequence f ≡ d
+      → (p >>= then_flow again) s ≡ by_turn again d t
   unfolding bind
   after_in_order p again f d s t did is =
       ap (λ (r : Answer Flow × State S). after r.0 r.1 (then_flow again)) did ∙ ap (λ (q : Act S Flow). q t) (in_order again f ∙ ap (by_turn again) is)
 
-  pub after_in_turns : (p again : Act S Flow) (f : Kept) (d : Turn) (s t : State S) → p s ≡ (Ok (flow_of f), t) → in_loop f ≡ d → (p >>= turn_end again) s ≡ by_turn again d t
+  pub after_in_turns : (p again : Act S Flow) (f : Kept) (d : Turn) (s t : State S) → p s ≡ (Ok (flow_of f), t) → in_loop f ≡ d
+      → (p >>= turn_end again) s ≡ by_turn again d t
   unfolding bind
   after_in_turns p again f d s t did is =
       ap (λ (r : Answer Flow × State S). after r.0 r.1 (turn_end again)) did ∙ ap (λ (q : Act S Flow). q t) (in_turns again f ∙ ap (by_turn again) is)
@@ -50,22 +53,29 @@ module _ {S : Type 0} (world : World S) (here : Where) (input : List ℤ) (call 
   first_of_rest : (ss : List TStmt) (i : ℕ) (s : TStmt) → i < length ss → s ≡ get_or ss i s → drop i ss ≡ s ∷ drop (i + 1) ss
   first_of_rest ss i s within is = drop_more ss i s within ∙ ap (λ x. x ∷ drop (i + 1) ss) (sym is)
 
-  begins : (told : Answer Flow × State S) (ss : List TStmt) (i : ℕ) (s : TStmt) (st : State S) → told ≡ execute_all world here input call (drop i ss) st → i < length ss → s ≡ get_or ss i s → told ≡ (execute world here input call s >>= then_flow (execute_all world here input call (drop (i + 1) ss))) st
+  begins : (told : Answer Flow × State S) (ss : List TStmt) (i : ℕ) (s : TStmt) (st : State S) → told ≡ execute_all world here input call (drop i ss) st
+      → i < length ss → s ≡ get_or ss i s → told ≡ (execute world here input call s >>= then_flow (execute_all world here input call (drop (i + 1) ss))) st
   begins told ss i s st so within is = so ∙ ap (λ l. execute_all world here input call l st) (first_of_rest ss i s within is)
 
   -- a statement that ends in a flow
-  pub flows : (told : Answer Flow × State S) (ss : List TStmt) (i : ℕ) (s : TStmt) (st t : State S) (f : Kept) (d : Turn) → told ≡ execute_all world here input call (drop i ss) st → i < length ss → s ≡ get_or ss i s → execute world here input call s st ≡ (Ok (flow_of f), t) → in_sequence f ≡ d → told ≡ by_turn (execute_all world here input call (drop (i + 1) ss)) d t
+  pub flows : (told : Answer Flow × State S) (ss : List TStmt) (i : ℕ) (s : TStmt) (st t : State S) (f : Kept) (d : Turn)
+      → told ≡ execute_all world here input call (drop i ss) st → i < length ss → s ≡ get_or ss i s → execute world here input call s st ≡ (Ok (flow_of f), t)
+      → in_sequence f ≡ d → told ≡ by_turn (execute_all world here input call (drop (i + 1) ss)) d t
   flows told ss i s st t f d so within is did ends =
-      begins told ss i s st so within is ∙ after_in_order (execute world here input call s) (execute_all world here input call (drop (i + 1) ss)) f d st t did ends
+      begins told ss i s st so within is
+      ∙ after_in_order (execute world here input call s) (execute_all world here input call (drop (i + 1) ss)) f d st t did ends
 
   -- a statement that ends in a fault
-  pub faults : (told : Answer Flow × State S) (ss : List TStmt) (i : ℕ) (s : TStmt) (st t : State S) (e : Fault) → told ≡ execute_all world here input call (drop i ss) st → i < length ss → s ≡ get_or ss i s → Does {A = Flow} (execute world here input call s st) (Err e) t → Does {A = Flow} told (Err e) t
+  pub faults : (told : Answer Flow × State S) (ss : List TStmt) (i : ℕ) (s : TStmt) (st t : State S) (e : Fault)
+      → told ≡ execute_all world here input call (drop i ss) st → i < length ss → s ≡ get_or ss i s
+      → Does {A = Flow} stopped (execute world here input call s st) (Err e) t → Does {A = Flow} stopped told (Err e) t
   unfolding bind
   faults told ss i s st t e so within is did =
-      subst (λ (r : Answer Flow × State S). Does {A = Flow} r (Err e) t) (sym (begins told ss i s st so within is))
+      subst (λ (r : Answer Flow × State S). Does {A = Flow} stopped r (Err e) t) (sym (begins told ss i s st so within is))
       (raised (execute world here input call s st) (then_flow (execute_all world here input call (drop (i + 1) ss))) e t did)
 
   -- after the last statement
-  pub all_done : (told : Answer Flow × State S) (ss : List TStmt) (i : ℕ) (st : State S) → told ≡ execute_all world here input call (drop i ss) st → length ss ≡ i → told ≡ (Ok Next, st)
+  pub all_done : (told : Answer Flow × State S) (ss : List TStmt) (i : ℕ) (st : State S) → told ≡ execute_all world here input call (drop i ss) st
+      → length ss ≡ i → told ≡ (Ok Next, st)
   unfolding pure
   all_done told ss i st so end = so ∙ ap (λ l. execute_all world here input call l st) (drop_all i ss (omega arith))

@@ -14,24 +14,28 @@ use Rattle.al_interpreter.specs.declared.flow.Flow.{Flow as Kept}
 use Rattle.al_interpreter.specs.declared.flow.Flow.TheVariants as kept
 use Rattle.al_interpreter.specs.declared.flow.Turn.{Turn}
 use Rattle.al_interpreter.specs.declared.flow.Turn.TheVariants as turn
-use Rattle.al_interpreter.specs.Does.{Does}
-use Rattle.al_interpreter.specs.Kinds.{flow_of}
+use Rattle.al_source.specs.Answers.{Does}
+use Rattle.al_interpreter.specs.Faults.{stopped}
+use Rattle.al_interpreter.specs.Flows.{flow_of}
 use Rattle.al_interpreter.specs.Turns.{Leads, Turns, one_turn, test_first, trip_first, again_and_again, in_sequence, in_loop}
 use Rattle.al_interpreter.proofs.Binds.{raised}
 use Rattle.al_interpreter.proofs.Sequences.{by_turn, after_in_order, after_in_turns}
 
 module _ {S : Type 0} where
-  pub told_turns : (told : Act S Flow → Answer Flow × State S) (d : Turn) (t : State S) → ((again : Act S Flow) → told again ≡ by_turn again d t) → Turns told (Ok d) t
+  pub told_turns : (told : Act S Flow → Answer Flow × State S) (d : Turn) (t : State S) → ((again : Act S Flow) → told again ≡ by_turn again d t)
+      → Turns told (Ok d) t
   unfolding pure
   told_turns told turn.Again t so = so
   told_turns told (turn.Over f) t so = so
 
   -- a fault, whatever comes again
-  pub told_fault : (told : Act S Flow → Answer Flow × State S) (e : Fault) (t : State S) → ((again : Act S Flow) → Does {A = Flow} (told again) (Err e) t) → Turns told (Err e) t
+  pub told_fault : (told : Act S Flow → Answer Flow × State S) (e : Fault) (t : State S)
+      → ((again : Act S Flow) → Does {A = Flow} stopped (told again) (Err e) t) → Turns told (Err e) t
   told_fault told (fault.Trap c line) t so = so
   told_fault told fault.Memory t so = so (pure Next)
 
-  pub led_fault : {A : Type 0} (told : (A → Act S Flow) → Answer Flow × State S) (next : A → Act S Flow) (e : Fault) (t : State S) → Leads {A = A} told (Err e) t → Does {A = Flow} (told next) (Err e) t
+  pub led_fault : {A : Type 0} (told : (A → Act S Flow) → Answer Flow × State S) (next : A → Act S Flow) (e : Fault) (t : State S)
+      → Leads {A = A} told (Err e) t → Does {A = Flow} stopped (told next) (Err e) t
   led_fault told next (fault.Trap c line) t so = so next
   led_fault told next fault.Memory t so = so
 
@@ -60,24 +64,31 @@ module _ {S : Type 0} (line : ℕ) (test : Act S Val) (body third : Act S Flow) 
   turn_goes : (s t : State S) (b : Bool) (again : Act S Flow) → Leads {A = Bool} (tested s) (Ok b) t → b ≡ true → turned s again ≡ rest again t
   turn_goes s t b again h is = h (chosen again) ∙ ap (λ b. chosen again b t) is
 
-  pub turn_body_fault : (s t u : State S) (b : Bool) (e : Fault) → Leads {A = Bool} (tested s) (Ok b) t → b ≡ true → Does {A = Flow} (body t) (Err e) u → Turns (turned s) (Err e) u
+  pub turn_body_fault : (s t u : State S) (b : Bool) (e : Fault) → Leads {A = Bool} (tested s) (Ok b) t → b ≡ true → Does {A = Flow} stopped (body t) (Err e) u
+      → Turns (turned s) (Err e) u
   unfolding bind
   turn_body_fault s t u b e h is did =
-      told_fault (turned s) e u (λ again. subst (λ (r : Answer Flow × State S). Does {A = Flow} r (Err e) u) (sym (turn_goes s t b again h is)) (raised (body t) (turn_end (third >>= then_flow again)) e u did))
+      told_fault (turned s) e u (λ again. subst (λ (r : Answer Flow × State S). Does {A = Flow} stopped r (Err e) u) (sym (turn_goes s t b again h is))
+      (raised (body t) (turn_end (third >>= then_flow again)) e u did))
 
-  turn_body : (s t u : State S) (b : Bool) (f : Kept) (d : Turn) (again : Act S Flow) → Leads {A = Bool} (tested s) (Ok b) t → b ≡ true → body t ≡ (Ok (flow_of f), u) → in_loop f ≡ d → turned s again ≡ by_turn (third >>= then_flow again) d u
+  turn_body : (s t u : State S) (b : Bool) (f : Kept) (d : Turn) (again : Act S Flow) → Leads {A = Bool} (tested s) (Ok b) t → b ≡ true
+      → body t ≡ (Ok (flow_of f), u) → in_loop f ≡ d → turned s again ≡ by_turn (third >>= then_flow again) d u
   turn_body s t u b f d again h is did ends = turn_goes s t b again h is ∙ after_in_turns body (third >>= then_flow again) f d t u did ends
 
-  pub turn_over : (s t u : State S) (b : Bool) (f g : Kept) → Leads {A = Bool} (tested s) (Ok b) t → b ≡ true → body t ≡ (Ok (flow_of f), u) → in_loop f ≡ turn.Over g → Turns (turned s) (Ok (turn.Over g)) u
+  pub turn_over : (s t u : State S) (b : Bool) (f g : Kept) → Leads {A = Bool} (tested s) (Ok b) t → b ≡ true → body t ≡ (Ok (flow_of f), u)
+      → in_loop f ≡ turn.Over g → Turns (turned s) (Ok (turn.Over g)) u
   unfolding pure
   turn_over s t u b f g h is did ends again = turn_body s t u b f (turn.Over g) again h is did ends
 
-  pub turn_third_fault : (s t u v : State S) (b : Bool) (f : Kept) (e : Fault) → Leads {A = Bool} (tested s) (Ok b) t → b ≡ true → body t ≡ (Ok (flow_of f), u) → in_loop f ≡ turn.Again → Does {A = Flow} (third u) (Err e) v → Turns (turned s) (Err e) v
+  pub turn_third_fault : (s t u v : State S) (b : Bool) (f : Kept) (e : Fault) → Leads {A = Bool} (tested s) (Ok b) t → b ≡ true → body t ≡ (Ok (flow_of f), u)
+      → in_loop f ≡ turn.Again → Does {A = Flow} stopped (third u) (Err e) v → Turns (turned s) (Err e) v
   unfolding bind
   turn_third_fault s t u v b f e h is did ends third_did =
-      told_fault (turned s) e v (λ again. subst (λ (r : Answer Flow × State S). Does {A = Flow} r (Err e) v) (sym (turn_body s t u b f turn.Again again h is did ends)) (raised (third u) (then_flow again) e v third_did))
+      told_fault (turned s) e v (λ again. subst (λ (r : Answer Flow × State S). Does {A = Flow} stopped r (Err e) v)
+      (sym (turn_body s t u b f turn.Again again h is did ends)) (raised (third u) (then_flow again) e v third_did))
 
-  pub turn_third : (s t u v : State S) (b : Bool) (f g : Kept) (d : Turn) → Leads {A = Bool} (tested s) (Ok b) t → b ≡ true → body t ≡ (Ok (flow_of f), u) → in_loop f ≡ turn.Again → third u ≡ (Ok (flow_of g), v) → in_sequence g ≡ d → Turns (turned s) (Ok d) v
+  pub turn_third : (s t u v : State S) (b : Bool) (f g : Kept) (d : Turn) → Leads {A = Bool} (tested s) (Ok b) t → b ≡ true → body t ≡ (Ok (flow_of f), u)
+      → in_loop f ≡ turn.Again → third u ≡ (Ok (flow_of g), v) → in_sequence g ≡ d → Turns (turned s) (Ok d) v
   turn_third s t u v b f g d h is did ends third_did third_ends =
       told_turns (turned s) d v (λ again. turn_body s t u b f turn.Again again h is did ends ∙ after_in_order third again g d u v third_did third_ends)
 
@@ -88,9 +99,12 @@ module _ {S : Type 0} where
   without_third again (turn.Over f) = refl
 
   -- a loop with no third part
-  pub turn_alone : (line : ℕ) (test : Act S Val) (body : Act S Flow) (s t u : State S) (b : Bool) (f : Kept) (d : Turn) → Leads {A = Bool} (tested line test body (pure Next) s) (Ok b) t → b ≡ true → body t ≡ (Ok (flow_of f), u) → in_loop f ≡ d → Turns (turned line test body (pure Next) s) (Ok d) u
+  pub turn_alone : (line : ℕ) (test : Act S Val) (body : Act S Flow) (s t u : State S) (b : Bool) (f : Kept) (d : Turn)
+      → Leads {A = Bool} (tested line test body (pure Next) s) (Ok b) t → b ≡ true → body t ≡ (Ok (flow_of f), u) → in_loop f ≡ d
+      → Turns (turned line test body (pure Next) s) (Ok d) u
   turn_alone line test body s t u b f d h is did ends =
-      told_turns (turned line test body (pure Next) s) d u (λ again. turn_body line test body (pure Next) s t u b f d again h is did ends ∙ ap (λ (p : Act S Flow). p u) (without_third again d))
+      told_turns (turned line test body (pure Next) s) d u (λ again. turn_body line test body (pure Next) s t u b f d again h is did ends
+      ∙ ap (λ (p : Act S Flow). p u) (without_third again d))
 
 -- ---- turns
 
@@ -102,19 +116,24 @@ module _ {S : Type 0} (line : ℕ) (one : Act S Flow → Act S Flow) where
   unfolding bind get_budget
   turns_begin s n is = ap (λ n. again_and_again n line one s) (sym (add-one s.budget)) ∙ ap (λ n. again_and_again n line one s) (sym is)
 
-  turns_open : (told : Answer Flow × State S) (n : ℕ) (s : State S) → told ≡ again_and_again n line one s → 0 < n → told ≡ repeated s (again_and_again (n - 1) line one)
+  turns_open : (told : Answer Flow × State S) (n : ℕ) (s : State S) → told ≡ again_and_again n line one s → 0 < n
+      → told ≡ repeated s (again_and_again (n - 1) line one)
   turns_open told n s so some = let more : n ≡ suc (n - 1) = omega arith in so ∙ ap (λ n. again_and_again n line one s) more
 
-  pub turns_fault : (told : Answer Flow × State S) (n : ℕ) (s t : State S) (e : Fault) → told ≡ again_and_again n line one s → 0 < n → Turns (repeated s) (Err e) t → Does {A = Flow} told (Err e) t
+  pub turns_fault : (told : Answer Flow × State S) (n : ℕ) (s t : State S) (e : Fault) → told ≡ again_and_again n line one s → 0 < n
+      → Turns (repeated s) (Err e) t → Does {A = Flow} stopped told (Err e) t
   turns_fault told n s t (fault.Trap c at) so some h = turns_open told n s so some ∙ h (again_and_again (n - 1) line one)
   turns_fault told n s t fault.Memory so some h = h
 
-  pub turns_over : (told : Answer Flow × State S) (n : ℕ) (s t : State S) (d : Turn) (f : Kept) → told ≡ again_and_again n line one s → 0 < n → Turns (repeated s) (Ok d) t → d ≡ turn.Over f → told ≡ (Ok (flow_of f), t)
+  pub turns_over : (told : Answer Flow × State S) (n : ℕ) (s t : State S) (d : Turn) (f : Kept) → told ≡ again_and_again n line one s → 0 < n
+      → Turns (repeated s) (Ok d) t → d ≡ turn.Over f → told ≡ (Ok (flow_of f), t)
   unfolding pure
   turns_over told n s t turn.Again f so some h is = cc
-  turns_over told n s t (turn.Over g) f so some h is = turns_open told n s so some ∙ h (again_and_again (n - 1) line one) ∙ ap (λ (d : Turn). by_turn {S = S} (pure Next) d t) is
+  turns_over told n s t (turn.Over g) f so some h is =
+      turns_open told n s so some ∙ h (again_and_again (n - 1) line one) ∙ ap (λ (d : Turn). by_turn {S = S} (pure Next) d t) is
 
-  pub turns_again : (told : Answer Flow × State S) (n : ℕ) (s t : State S) (d : Turn) → told ≡ again_and_again n line one s → 0 < n → Turns (repeated s) (Ok d) t → d ≡ turn.Again → told ≡ again_and_again (n - 1) line one t
+  pub turns_again : (told : Answer Flow × State S) (n : ℕ) (s t : State S) (d : Turn) → told ≡ again_and_again n line one s → 0 < n
+      → Turns (repeated s) (Ok d) t → d ≡ turn.Again → told ≡ again_and_again (n - 1) line one t
   turns_again told n s t turn.Again so some h is = turns_open told n s so some ∙ h (again_and_again (n - 1) line one)
   turns_again told n s t (turn.Over g) so some h is = cc
 
@@ -175,25 +194,33 @@ module _ {S : Type 0} (world : World S) (line counter : ℕ) (lo hi : ℤ) (body
   trips_open : (told : Answer Flow × State S) (n : ℤ) (s : State S) → told ≡ trips_from n s → lo ≤ℤ n → n <ℤ hi → told ≡ begun s n (after_trip n)
   trips_open told n s so from more =
       so ∙ ap (λ count. trips_to world count line counter lo (trip_count lo n) body s) (trip_more n hi more)
-      ∙ ap (λ at. begun s at (λ x. body >>= turn_end (trips_to world (trip_count (n +ℤ pos 1) hi) line counter lo (suc (trip_count lo n)) body))) (trip_at lo n from)
+      ∙ ap (λ at. begun s at (λ x. body >>= turn_end (trips_to world (trip_count (n +ℤ pos 1) hi) line counter lo (suc (trip_count lo n)) body)))
+      (trip_at lo n from)
       ∙ ap (λ j. begun s n (λ x. body >>= turn_end (trips_to world (trip_count (n +ℤ pos 1) hi) line counter lo j body))) (trip_next lo n from)
 
-  pub trip_not_begun : (told : Answer Flow × State S) (n : ℤ) (s t : State S) (e : Fault) → told ≡ trips_from n s → lo ≤ℤ n → n <ℤ hi → Leads {A = Unit {0}} (begun s n) (Err e) t → Does {A = Flow} told (Err e) t
+  pub trip_not_begun : (told : Answer Flow × State S) (n : ℤ) (s t : State S) (e : Fault) → told ≡ trips_from n s → lo ≤ℤ n → n <ℤ hi
+      → Leads {A = Unit {0}} (begun s n) (Err e) t → Does {A = Flow} stopped told (Err e) t
   trip_not_begun told n s t e so from more h =
-      subst (λ (r : Answer Flow × State S). Does {A = Flow} r (Err e) t) (sym (trips_open told n s so from more)) (led_fault (begun s n) (after_trip n) e t h)
+      subst (λ (r : Answer Flow × State S). Does {A = Flow} stopped r (Err e) t) (sym (trips_open told n s so from more))
+      (led_fault (begun s n) (after_trip n) e t h)
 
-  trip_begun : (told : Answer Flow × State S) (n : ℤ) (s t : State S) (x : Unit {0}) → told ≡ trips_from n s → lo ≤ℤ n → n <ℤ hi → Leads {A = Unit {0}} (begun s n) (Ok x) t → told ≡ (body >>= turn_end (trips_from (n +ℤ pos 1))) t
+  trip_begun : (told : Answer Flow × State S) (n : ℤ) (s t : State S) (x : Unit {0}) → told ≡ trips_from n s → lo ≤ℤ n → n <ℤ hi
+      → Leads {A = Unit {0}} (begun s n) (Ok x) t → told ≡ (body >>= turn_end (trips_from (n +ℤ pos 1))) t
   trip_begun told n s t x so from more h = trips_open told n s so from more ∙ h (after_trip n)
 
-  pub trip_fault : (told : Answer Flow × State S) (n : ℤ) (s t u : State S) (x : Unit {0}) (e : Fault) → told ≡ trips_from n s → lo ≤ℤ n → n <ℤ hi → Leads {A = Unit {0}} (begun s n) (Ok x) t → Does {A = Flow} (body t) (Err e) u → Does {A = Flow} told (Err e) u
+  pub trip_fault : (told : Answer Flow × State S) (n : ℤ) (s t u : State S) (x : Unit {0}) (e : Fault) → told ≡ trips_from n s → lo ≤ℤ n → n <ℤ hi
+      → Leads {A = Unit {0}} (begun s n) (Ok x) t → Does {A = Flow} stopped (body t) (Err e) u → Does {A = Flow} stopped told (Err e) u
   unfolding bind
   trip_fault told n s t u x e so from more h did =
-      subst (λ (r : Answer Flow × State S). Does {A = Flow} r (Err e) u) (sym (trip_begun told n s t x so from more h)) (raised (body t) (turn_end (trips_from (n +ℤ pos 1))) e u did)
+      subst (λ (r : Answer Flow × State S). Does {A = Flow} stopped r (Err e) u) (sym (trip_begun told n s t x so from more h))
+      (raised (body t) (turn_end (trips_from (n +ℤ pos 1))) e u did)
 
-  pub trip_over : (told : Answer Flow × State S) (n : ℤ) (s t u : State S) (x : Unit {0}) (f : Kept) (d : Turn) → told ≡ trips_from n s → lo ≤ℤ n → n <ℤ hi → Leads {A = Unit {0}} (begun s n) (Ok x) t → body t ≡ (Ok (flow_of f), u) → in_loop f ≡ d → told ≡ by_turn (trips_from (n +ℤ pos 1)) d u
+  pub trip_over : (told : Answer Flow × State S) (n : ℤ) (s t u : State S) (x : Unit {0}) (f : Kept) (d : Turn) → told ≡ trips_from n s → lo ≤ℤ n → n <ℤ hi
+      → Leads {A = Unit {0}} (begun s n) (Ok x) t → body t ≡ (Ok (flow_of f), u) → in_loop f ≡ d → told ≡ by_turn (trips_from (n +ℤ pos 1)) d u
   trip_over told n s t u x f d so from more h did ends = trip_begun told n s t x so from more h ∙ after_in_turns body (trips_from (n +ℤ pos 1)) f d t u did ends
 
-  pub trip_again : (told : Answer Flow × State S) (n m : ℤ) (s t u : State S) (x : Unit {0}) (f : Kept) → told ≡ trips_from n s → lo ≤ℤ n → n <ℤ hi → Leads {A = Unit {0}} (begun s n) (Ok x) t → body t ≡ (Ok (flow_of f), u) → in_loop f ≡ turn.Again → m ≡ n +ℤ pos 1 → told ≡ trips_from m u
+  pub trip_again : (told : Answer Flow × State S) (n m : ℤ) (s t u : State S) (x : Unit {0}) (f : Kept) → told ≡ trips_from n s → lo ≤ℤ n → n <ℤ hi
+      → Leads {A = Unit {0}} (begun s n) (Ok x) t → body t ≡ (Ok (flow_of f), u) → in_loop f ≡ turn.Again → m ≡ n +ℤ pos 1 → told ≡ trips_from m u
   trip_again told n m s t u x f so from more h did ends next =
       trip_over told n s t u x f turn.Again so from more h did ends ∙ ap (λ n. trips_from n u) (sym next)
 

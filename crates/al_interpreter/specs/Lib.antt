@@ -1,7 +1,10 @@
-pub mod Does
+pub mod Faults
+pub mod Settings
 pub mod Frames
+pub mod Flows
+pub mod Starts
+pub mod Doing
 pub mod Calls
-pub mod Kinds
 pub mod Turns
 pub mod Stages
 pub mod Wholes

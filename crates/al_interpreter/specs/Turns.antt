@@ -1,5 +1,5 @@
 -- Turns of a loop, and what is done before one.
-use Rattle.std.specs.Prelude.{◌≡◌, ⊤, ℕ, zero, suc, Bool, if◌then◌else◌, List, Option, Some, None, Result, Ok, Err, ℤ}
+use Rattle.std.specs.Prelude.{◌≡◌, ⊤, ℕ, zero, suc, Bool, if◌then◌else◌, Option, Some, None, Result, Ok, Err, ℤ}
 use Rattle.std.specs.Int.{int_max}
 use Rattle.al_core.specs.declared.choices.Bound.{Bound}
 use Rattle.al_core.specs.declared.values.Val.{Val}
@@ -11,8 +11,8 @@ use Rattle.al_core.specs.declared.typed_tree.TExpr.{TExpr}
 use Rattle.al_core.specs.declared.typed_tree.TStmt.{TStmt}
 use Rattle.al_core.specs.declared.typed_tree.TKind.{TKind}
 use Rattle.al_core.specs.declared.typed_tree.TKind.TheOpen.{TKind-F}
-use Rattle.al_core.specs.Action.{State, Answer, Act, At, pure, lift, spend, get_budget, set_local, ◌>>=◌, ◌>>◌}
-use Rattle.al_core.specs.Meaning.{Flow, Next, Where, bound_value, then_flow, turn_end, test_value, execute}
+use Rattle.al_core.specs.Action.{State, Answer, Act, pure, lift, spend, get_budget, set_local, ◌>>=◌, ◌>>◌}
+use Rattle.al_core.specs.Meaning.{Flow, Next, Where, bound_value, then_flow, turn_end}
 use Rattle.al_interpreter.specs.declared.fault.Fault.{Fault}
 use Rattle.al_interpreter.specs.declared.fault.Fault.TheVariants as fault
 use Rattle.al_interpreter.specs.declared.flow.Flow.{Flow as Kept}
@@ -20,7 +20,9 @@ use Rattle.al_interpreter.specs.declared.flow.Flow.TheVariants as kept
 use Rattle.al_interpreter.specs.declared.flow.Turn.{Turn}
 use Rattle.al_interpreter.specs.declared.flow.Turn.TheVariants as turn
 use Rattle.al_interpreter.specs.declared.loops.Range.{Range}
-use Rattle.al_interpreter.specs.Kinds.{flow_of, any_does}
+use Rattle.al_interpreter.specs.declared.setting.Setting.{Setting}
+use Rattle.al_interpreter.specs.Flows.{flow_of}
+use Rattle.al_interpreter.specs.Doing.{test_value, execute, execute_any}
 
 -- ---- what comes after a statement
 
@@ -47,7 +49,10 @@ module _ {S : Type 0} where
 
   abbrev pub range_first : World S → Option (ℕ × Act S Val) → Bound → ℕ → (Option Range → Act S Flow) → Act S Flow
   range_first world (Some (counter, start)) bound line next =
-      start >>= (λ v. lift line (number v) >>= (λ lo. bound_value world bound line >>= (λ hi. next (Some (record { counter = counter; lo = lo; hi = hi })))))
+      start
+      >>= (λ v. lift line (number v)
+      >>= (λ lo. bound_value world bound line
+      >>= (λ hi. next (Some (record { counter = counter; lo = lo; hi = hi })))))
   range_first world None bound line next = next None
 
   -- what comes after an annotated loop's trips
@@ -71,17 +76,19 @@ loop_in _ = None
 module _ {S : Type 0} where
   abbrev pub one_turn : ℕ → Act S Val → Act S Flow → Act S Flow → Act S Flow → Act S Flow
   one_turn line test body third again =
-      spend line >> (test >>= (λ v. if truth v then body >>= turn_end (third >>= then_flow again) else pure Next))
+      spend line
+      >> (test >>= (λ v. if truth v then body >>= turn_end (third >>= then_flow again) else pure Next))
 
   -- at most so many turns
   abbrev pub again_and_again : ℕ → ℕ → (Act S Flow → Act S Flow) → Act S Flow
   again_and_again zero line one = lift line (Err trap.Steps)
   again_and_again (suc n) line one = one (again_and_again n line one)
 
-module _ {S : Type 0} (world : World S) (here : Where) (input : List ℤ) (call : ℕ → List Val → At S Val) where
+module _ {S : Type 0} (world : World S) (here : Where) (on : Setting) (room : ℕ) where
   abbrev pub loop_turn : Option LoopParts → ℕ → Act S Flow → Act S Flow
   loop_turn (Some p) line again =
-      one_turn line (test_value world here input call p.test line) (execute world here input call p.body) (any_does world here input call p.third) again
+      one_turn line (test_value world here on room p.test line) (execute world here on room p.body)
+      (execute_any world here on room p.third) again
   loop_turn None line again = pure Next
 
   -- as many turns as there are steps left, and one more

@@ -1,11 +1,11 @@
+ghost use Rattle.al_source.specs.Answers.{Does};
 ghost use Rattle.al_core.specs.Meaning as meaning;
-ghost use Rattle.al_core.specs.Meaning.{call_to};
-ghost use Rattle.al_core.specs.Loops as loops;
 ghost use Rattle.al_core.specs.Values.{trip_count};
 ghost use Rattle.al_core.specs.declared.typed_tree.TKind.{out-TKind};
-ghost use Rattle.al_interpreter.specs.Does.{Does, setting_of};
+ghost use Rattle.al_interpreter.specs.Faults.{stopped};
+ghost use Rattle.al_interpreter.specs.Flows.{flowed};
 ghost use Rattle.al_interpreter.specs.Calls.{Calls};
-ghost use Rattle.al_interpreter.specs.Kinds.{does_kind, any_does, first_sets, flowed};
+ghost use Rattle.al_interpreter.specs.Doing as doing;
 ghost use Rattle.al_interpreter.specs.Turns.{Turns, loop_in, loop_turn, loop_turns};
 
 use crate::fault::Fault;
@@ -40,8 +40,10 @@ impl<F> Walker<F> {
             Items<Val>,
             u32,
         ) -> Result<Val, Fault>,
-        requires { Calls (G.world (setting_of on.now)) G.place on.now self.now.room (F.pre self.now.call) (F.post self.now.call) }
-        ensures { Does (meaning.execute (G.world (setting_of on.now)) G.place on.now.input.now (call_to (G.world (setting_of on.now)) G.place on.now.typed.now.funcs on.now.input.now self.now.room) s.now m.old) (flowed result) m.new }
+        requires { Calls (G.world on.now) G.place on.now self.now.room (F.pre self.now.call) (F.post self.now.call) }
+        ensures { Does stopped
+            (doing.execute (G.world on.now) G.place on.now self.now.room s.now m.old)
+            (flowed result) m.new }
     {
         m.spend(s.line)?;
         self.kind(on, m, &s.kind, s.line)
@@ -66,8 +68,10 @@ impl<F> Walker<F> {
             Items<Val>,
             u32,
         ) -> Result<Val, Fault>,
-        requires { Calls (G.world (setting_of on.now)) G.place on.now self.now.room (F.pre self.now.call) (F.post self.now.call) }
-        ensures { Does (any_does (G.world (setting_of on.now)) G.place on.now.input.now (call_to (G.world (setting_of on.now)) G.place on.now.typed.now.funcs on.now.input.now self.now.room) s.now m.old) (flowed result) m.new }
+        requires { Calls (G.world on.now) G.place on.now self.now.room (F.pre self.now.call) (F.post self.now.call) }
+        ensures { Does stopped
+            (doing.execute_any (G.world on.now) G.place on.now self.now.room s.now m.old)
+            (flowed result) m.new }
     {
         match s {
             Some(s) => self.stmt(on, m, s.get()),
@@ -94,8 +98,10 @@ impl<F> Walker<F> {
             Items<Val>,
             u32,
         ) -> Result<Val, Fault>,
-        requires { Calls (G.world (setting_of on.now)) G.place on.now self.now.room (F.pre self.now.call) (F.post self.now.call) }
-        ensures { Does (meaning.execute_all (G.world (setting_of on.now)) G.place on.now.input.now (call_to (G.world (setting_of on.now)) G.place on.now.typed.now.funcs on.now.input.now self.now.room) ss.now m.old) (flowed result) m.new }
+        requires { Calls (G.world on.now) G.place on.now self.now.room (F.pre self.now.call) (F.post self.now.call) }
+        ensures { Does stopped
+            (doing.execute_all (G.world on.now) G.place on.now self.now.room ss.now m.old)
+            (flowed result) m.new }
     {
         for s in ss {
             match self.stmt(on, m, s)?.in_sequence() {
@@ -126,8 +132,9 @@ impl<F> Walker<F> {
             Items<Val>,
             u32,
         ) -> Result<Val, Fault>,
-        requires { Calls (G.world (setting_of on.now)) G.place on.now self.now.room (F.pre self.now.call) (F.post self.now.call) }
-        ensures { Turns (λ again. loop_turn (G.world (setting_of on.now)) G.place on.now.input.now (call_to (G.world (setting_of on.now)) G.place on.now.typed.now.funcs on.now.input.now self.now.room) (loop_in (out-TKind k.now)) line again m.old) result m.new }
+        requires { Calls (G.world on.now) G.place on.now self.now.room (F.pre self.now.call) (F.post self.now.call) }
+        ensures { let turn = loop_turn (G.world on.now) G.place on.now self.now.room (loop_in (out-TKind k.now)) line in
+            Turns (λ again. turn again m.old) result m.new }
     {
         match k {
             TKind::While(e, body) => {
@@ -174,8 +181,10 @@ impl<F> Walker<F> {
             Items<Val>,
             u32,
         ) -> Result<Val, Fault>,
-        requires { Calls (G.world (setting_of on.now)) G.place on.now self.now.room (F.pre self.now.call) (F.post self.now.call) }
-        ensures { Does (loop_turns (G.world (setting_of on.now)) G.place on.now.input.now (call_to (G.world (setting_of on.now)) G.place on.now.typed.now.funcs on.now.input.now self.now.room) (loop_in (out-TKind k.now)) line m.old) (flowed result) m.new }
+        requires { Calls (G.world on.now) G.place on.now self.now.room (F.pre self.now.call) (F.post self.now.call) }
+        ensures { Does stopped
+            (loop_turns (G.world on.now) G.place on.now self.now.room (loop_in (out-TKind k.now)) line m.old)
+            (flowed result) m.new }
     {
         let mut left = u128::from(m.left()) + 1;
         while left > 0 {
@@ -208,8 +217,10 @@ impl<F> Walker<F> {
             Items<Val>,
             u32,
         ) -> Result<Val, Fault>,
-        requires { Calls (G.world (setting_of on.now)) G.place on.now self.now.room (F.pre self.now.call) (F.post self.now.call) }
-        ensures { Does (does_kind (G.world (setting_of on.now)) G.place on.now.input.now (call_to (G.world (setting_of on.now)) G.place on.now.typed.now.funcs on.now.input.now self.now.room) k.now line m.old) (flowed result) m.new }
+        requires { Calls (G.world on.now) G.place on.now self.now.room (F.pre self.now.call) (F.post self.now.call) }
+        ensures { Does stopped
+            (doing.execute_kind (G.world on.now) G.place on.now self.now.room k.now line m.old)
+            (flowed result) m.new }
     {
         match k {
             TKind::Empty => Ok(Flow::Next),
@@ -265,8 +276,9 @@ impl<F> Walker<F> {
             Items<Val>,
             u32,
         ) -> Result<Val, Fault>,
-        requires { Calls (G.world (setting_of on.now)) G.place on.now self.now.room (F.pre self.now.call) (F.post self.now.call) }
-        ensures { Does (meaning.annotated_loop (G.world (setting_of on.now)) G.place number line (first_sets (G.world (setting_of on.now)) G.place on.now.input.now (call_to (G.world (setting_of on.now)) G.place on.now.typed.now.funcs on.now.input.now self.now.room) first.now) (loops.bound_of test.now) (meaning.execute (G.world (setting_of on.now)) G.place on.now.input.now (call_to (G.world (setting_of on.now)) G.place on.now.typed.now.funcs on.now.input.now self.now.room) body.now) m.old) (flowed result) m.new }
+        requires { Calls (G.world on.now) G.place on.now self.now.room (F.pre self.now.call) (F.post self.now.call) }
+        ensures { let does = doing.annotated_loop (G.world on.now) G.place on.now self.now.room in
+            Does stopped (does number line first.now test.now body.now m.old) (flowed result) m.new }
     {
         match self.range(on, m, first, test, line)? {
             None => Ok(Flow::Next),
@@ -302,8 +314,10 @@ impl<F> Walker<F> {
             Items<Val>,
             u32,
         ) -> Result<Val, Fault>,
-        requires { Calls (G.world (setting_of on.now)) G.place on.now self.now.room (F.pre self.now.call) (F.post self.now.call) }
-        ensures { Does (meaning.ordinary_trips (G.world (setting_of on.now)) line range.counter range.lo range.hi (meaning.execute (G.world (setting_of on.now)) G.place on.now.input.now (call_to (G.world (setting_of on.now)) G.place on.now.typed.now.funcs on.now.input.now self.now.room) body.now) m.old) (flowed result) m.new }
+        requires { Calls (G.world on.now) G.place on.now self.now.room (F.pre self.now.call) (F.post self.now.call) }
+        ensures { let body = doing.execute (G.world on.now) G.place on.now self.now.room body.now in
+            let trips = meaning.ordinary_trips (G.world on.now) line range.counter range.lo range.hi body in
+            Does stopped (trips m.old) (flowed result) m.new }
     {
         m.lift(line, range.trips())?;
         let flow = self.trips(on, m, body, range, line)?;
@@ -331,8 +345,11 @@ impl<F> Walker<F> {
             Items<Val>,
             u32,
         ) -> Result<Val, Fault>,
-        requires { Calls (G.world (setting_of on.now)) G.place on.now self.now.room (F.pre self.now.call) (F.post self.now.call) }
-        ensures { Does (meaning.trips_to (G.world (setting_of on.now)) (trip_count range.lo range.hi) line range.counter range.lo 0 (meaning.execute (G.world (setting_of on.now)) G.place on.now.input.now (call_to (G.world (setting_of on.now)) G.place on.now.typed.now.funcs on.now.input.now self.now.room) body.now) m.old) (flowed result) m.new }
+        requires { Calls (G.world on.now) G.place on.now self.now.room (F.pre self.now.call) (F.post self.now.call) }
+        ensures { let body = doing.execute (G.world on.now) G.place on.now self.now.room body.now in
+            let count = trip_count range.lo range.hi in
+            let trips = meaning.trips_to (G.world on.now) count line range.counter range.lo 0 body in
+            Does stopped (trips m.old) (flowed result) m.new }
     {
         for n in range.lo..range.hi {
             m.begin_trip(on, range.counter, n, line)?;

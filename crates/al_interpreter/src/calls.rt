@@ -3,7 +3,7 @@ ghost use Rattle.std.specs.Option.{option_copied};
 ghost use Rattle.al_core.specs.declared.values.Val.TheVariants as value;
 ghost use Rattle.al_core.specs.Meaning as meaning;
 ghost use Rattle.al_core.specs.Run as run;
-ghost use Rattle.al_interpreter.specs.Kinds.{flow_of};
+ghost use Rattle.al_interpreter.specs.Flows.{flow_of};
 
 use crate::flow::Flow;
 use crate::frame::{Frame, Own};

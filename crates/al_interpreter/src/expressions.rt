@@ -1,9 +1,10 @@
 ghost use Rattle.std.specs.Prelude.{◌≡◌};
+ghost use Rattle.al_source.specs.Answers.{Does};
+ghost use Rattle.al_source.specs.Steps.{and_then};
 ghost use Rattle.al_core.specs.Values as spec;
-ghost use Rattle.al_core.specs.Meaning as meaning;
-ghost use Rattle.al_core.specs.Meaning.{call_to};
-ghost use Rattle.al_interpreter.specs.Does.{Does, setting_of};
+ghost use Rattle.al_interpreter.specs.Faults.{stopped};
 ghost use Rattle.al_interpreter.specs.Calls.{Calls};
+ghost use Rattle.al_interpreter.specs.Doing as doing;
 
 use crate::fault::Fault;
 use crate::ground::Ground;
@@ -11,33 +12,21 @@ use crate::machine::Machine;
 use crate::setting::Setting;
 use crate::walker::Walker;
 use al_core::operations::{
-    choose, element, input_at, number, of_test, operate, operate_one, point, same, shift, truth,
+    choose, compare, element, input_at, number, of_test, operate, operate_one, point, shift, truth,
     words_of,
 };
 use al_core::{Obj, TExpr, TPlace, Trap, Val};
 use sqlite_items::{Boxed, Items};
 use std::alloc::Global;
 
-/// Whether two pointers are equal, or whether they differ.
-#[tactic(auto, unfolding(al_core::specs::Values::compare))]
-fn compare(equal: bool, a: Val, b: Val) -> Val
-    ensures { result ≡ spec.compare equal a b }
-{
-    if equal {
-        of_test(same(a, b))
-    } else {
-        of_test(!same(a, b))
-    }
-}
-
 fn input_value(input: &[i64], index: Val) -> Result<Val, Trap>
-    ensures { result ≡ spec.then_ok (spec.number index) (spec.input_at input.now) }
+    ensures { result ≡ and_then (spec.number index) (spec.input_at input.now) }
 {
     input_at(input, number(index)?)
 }
 
 fn object_words(count: Val, size: u32) -> Result<u32, Trap>
-    ensures { result ≡ spec.then_ok (spec.number count) (λ n. spec.words_of n size) }
+    ensures { result ≡ and_then (spec.number count) (λ n. spec.words_of n size) }
 {
     words_of(number(count)?, size)
 }
@@ -62,8 +51,10 @@ impl<F> Walker<F> {
             Items<Val>,
             u32,
         ) -> Result<Val, Fault>,
-        requires { Calls (G.world (setting_of on.now)) G.place on.now self.now.room (F.pre self.now.call) (F.post self.now.call) }
-        ensures { Does (meaning.value (G.world (setting_of on.now)) G.place on.now.input.now (call_to (G.world (setting_of on.now)) G.place on.now.typed.now.funcs on.now.input.now self.now.room) e.now line m.old) result m.new }
+        requires { Calls (G.world on.now) G.place on.now self.now.room (F.pre self.now.call) (F.post self.now.call) }
+        ensures { Does stopped
+            (doing.value (G.world on.now) G.place on.now self.now.room e.now line m.old)
+            result m.new }
     {
         match e {
             TExpr::Number(n) => Ok(Val::Int(*n)),
@@ -127,6 +118,10 @@ impl<F> Walker<F> {
                 let words = m.lift(line, object_words(x, *size))?;
                 m.make(on, words, line)
             }
+            TExpr::Free(a) => {
+                let x = self.value(on, m, a.get(), line)?;
+                m.free(on, x, line)
+            }
         }
     }
 
@@ -149,8 +144,10 @@ impl<F> Walker<F> {
             Items<Val>,
             u32,
         ) -> Result<Val, Fault>,
-        requires { Calls (G.world (setting_of on.now)) G.place on.now self.now.room (F.pre self.now.call) (F.post self.now.call) }
-        ensures { Does (meaning.place (G.world (setting_of on.now)) G.place on.now.input.now (call_to (G.world (setting_of on.now)) G.place on.now.typed.now.funcs on.now.input.now self.now.room) p.now line m.old) result m.new }
+        requires { Calls (G.world on.now) G.place on.now self.now.room (F.pre self.now.call) (F.post self.now.call) }
+        ensures { Does stopped
+            (doing.place (G.world on.now) G.place on.now self.now.room p.now line m.old)
+            result m.new }
     {
         match p {
             TPlace::Global(k) => Ok((Obj::Global(*k), 0)),
@@ -189,8 +186,10 @@ impl<F> Walker<F> {
             Items<Val>,
             u32,
         ) -> Result<Val, Fault>,
-        requires { Calls (G.world (setting_of on.now)) G.place on.now self.now.room (F.pre self.now.call) (F.post self.now.call) }
-        ensures { Does (meaning.values (G.world (setting_of on.now)) G.place on.now.input.now (call_to (G.world (setting_of on.now)) G.place on.now.typed.now.funcs on.now.input.now self.now.room) es.now line m.old) result m.new }
+        requires { Calls (G.world on.now) G.place on.now self.now.room (F.pre self.now.call) (F.post self.now.call) }
+        ensures { Does stopped
+            (doing.values (G.world on.now) G.place on.now self.now.room es.now line m.old)
+            result m.new }
     {
         let mut done = Items::new(self.alloc);
         for e in es {

@@ -1,7 +1,10 @@
+ghost use Rattle.std.specs.Prelude.{◌≡◌, OnOk};
+ghost use Rattle.al_source.specs.Answers.{Does};
 ghost use Rattle.al_core.specs.World.{World};
 ghost use Rattle.al_core.specs.Meaning.{Where};
-ghost use Rattle.al_core.specs.Run.{Setting as Given};
-ghost use Rattle.al_interpreter.specs.Does.{Tells, Prints, Visits, setting_of};
+ghost use Rattle.al_core.specs.Views.{trapped};
+ghost use Rattle.al_interpreter.specs.declared.setting.Setting as given;
+ghost use Rattle.al_interpreter.specs.Faults.{stopped};
 
 use crate::fault::Fault;
 use crate::setting::Setting;
@@ -11,22 +14,25 @@ use std::alloc::{AllocError, Global};
 
 /// What code runs on: a world, as the operations that it has.
 pub trait Ground {
-    ghost world: { Given → World Self };
+    ghost world: { given.Setting → World Self };
 
     /// Whether the code stands inside an iteration of an annotated loop.
     ghost place: { Where };
 
     fn load(&mut self, on: &Setting<'_>, at: Addr, want: Kind) -> Result<Val, ViewFault>
-        ensures { Tells ((world (setting_of on.now)).load at want self.old) result self.new };
+        ensures { Does trapped ((world on.now).load at want self.old) result self.new };
 
     fn store(&mut self, on: &Setting<'_>, at: Addr, val: Val) -> Result<(), ViewFault>
-        ensures { Tells ((world (setting_of on.now)).store at val self.old) result self.new };
+        ensures { Does trapped ((world on.now).store at val self.old) result self.new };
 
     fn make(&mut self, on: &Setting<'_>, words: u32) -> Result<Obj, ViewFault>
-        ensures { Tells ((world (setting_of on.now)).make words self.old) result self.new };
+        ensures { Does trapped ((world on.now).make words self.old) result self.new };
+
+    fn free(&mut self, on: &Setting<'_>, obj: Obj, at: u32) -> Result<(), ViewFault>
+        ensures { Does trapped ((world on.now).free obj at self.old) result self.new };
 
     fn print(&mut self, on: &Setting<'_>, bytes: &[u8]) -> Result<(), AllocError>
-        ensures { Prints ((world (setting_of on.now)).print bytes.now self.old) result self.new };
+        ensures { OnOk result (self.new ≡ (world on.now).print bytes.now self.old) };
 
     /// Runs an annotated loop.
     fn visit(
@@ -38,5 +44,5 @@ pub trait Ground {
         hi: i64,
         locals: Items<Val>,
     ) -> Result<Items<Val>, Fault>
-        ensures { Visits ((world (setting_of on.now)).visit number lo hi locals self.old) result self.new };
+        ensures { Does stopped ((world on.now).visit number lo hi locals self.old) result self.new };
 }

@@ -12,6 +12,7 @@ pub mod loops;
 pub mod machine;
 pub mod parts;
 pub mod printing;
+pub mod program;
 pub mod setting;
 pub mod stage;
 pub mod statements;

@@ -1,21 +1,21 @@
-ghost use Rattle.std.specs.Prelude.{◌≡◌, option_map};
+ghost use Rattle.std.specs.Prelude.{◌≡◌};
 ghost use Rattle.std.specs.Option.{option_copied};
+ghost use Rattle.al_source.specs.Answers.{Does};
 ghost use Rattle.al_core.specs.Action.{visit};
 ghost use Rattle.al_core.specs.Values as arithmetic;
-ghost use Rattle.al_core.specs.Loops as loops;
+ghost use Rattle.al_core.specs.Loops.{bound_of};
 ghost use Rattle.al_core.specs.Meaning as meaning;
-ghost use Rattle.al_core.specs.Meaning.{call_to};
-ghost use Rattle.al_interpreter.specs.Does.{Does, setting_of};
+ghost use Rattle.al_interpreter.specs.Faults.{stopped};
+ghost use Rattle.al_interpreter.specs.Flows.{flow_of, flowed};
 ghost use Rattle.al_interpreter.specs.Calls.{Calls};
-ghost use Rattle.al_interpreter.specs.Kinds as spec;
-ghost use Rattle.al_interpreter.specs.Kinds.{flow_of, flowed};
+ghost use Rattle.al_interpreter.specs.Doing as doing;
 ghost use Rattle.al_interpreter.specs.Turns.{Leads, test_first, trip_first, range_first, loop_end};
 
 use crate::fault::Fault;
 use crate::flow::Flow;
 use crate::ground::Ground;
 use crate::machine::Machine;
-use crate::parts::set_in;
+use crate::parts::{part, start_of};
 use crate::setting::Setting;
 use crate::walker::Walker;
 use al_core::operations::{number, trips, truth};
@@ -29,15 +29,6 @@ pub struct Range {
     pub counter: u32,
     pub lo: i64,
     pub hi: i64,
-}
-
-/// What a loop's first part sets, to what, and the line of that part.
-fn first_set(first: &Option<Boxed<TStmt>>) -> Option<(u32, &TExpr, u32)>
-    ensures { option_map (λ p. (p.0, p.1.now, p.2)) result ≡ spec.first_set first.now }
-{
-    let first = first.as_ref()?.get();
-    let (counter, e) = set_in(&first.kind)?;
-    Some((counter, e, first.line))
 }
 
 impl Range {
@@ -58,7 +49,7 @@ impl<G: Ground> Machine<G> {
         number: u32,
         range: Range,
     ) -> Result<(), Fault>
-        ensures { Does (visit (G.world (setting_of on.now)) number range.lo range.hi self.old) result self.new }
+        ensures { Does stopped (visit (G.world on.now) number range.lo range.hi self.old) result self.new }
     {
         self.visit(alloc, on, number, range.lo, range.hi)
     }
@@ -72,7 +63,7 @@ impl<G: Ground> Machine<G> {
         n: i64,
         line: u32,
     ) -> Result<(), Fault>
-        ensures { Leads (λ next. trip_first (G.world (setting_of on.now)) line counter n next self.old) result self.new }
+        ensures { Leads (λ next. trip_first (G.world on.now) line counter n next self.old) result self.new }
     {
         self.spend(line)?;
         self.set_local(on, counter, Val::Int(n), line)
@@ -87,7 +78,9 @@ impl<G: Ground> Machine<G> {
         range: Range,
         line: u32,
     ) -> Result<Flow, Fault>
-        ensures { Does (meaning.then_flow (loop_end (G.world (setting_of on.now)) line range.counter range.lo range.hi) (flow_of flow) self.old) (flowed result) self.new }
+        ensures { Does stopped
+            (meaning.then_flow (loop_end (G.world on.now) line range.counter range.lo range.hi) (flow_of flow) self.old)
+            (flowed result) self.new }
     {
         match flow {
             Flow::Next => {
@@ -120,15 +113,17 @@ impl<F> Walker<F> {
             Items<Val>,
             u32,
         ) -> Result<Val, Fault>,
-        requires { Calls (G.world (setting_of on.now)) G.place on.now self.now.room (F.pre self.now.call) (F.post self.now.call) }
-        ensures { Leads (λ next. test_first line (meaning.test_value (G.world (setting_of on.now)) G.place on.now.input.now (call_to (G.world (setting_of on.now)) G.place on.now.typed.now.funcs on.now.input.now self.now.room) (option_copied test.entry) line) next m.old) result m.new }
+        requires { Calls (G.world on.now) G.place on.now self.now.room (F.pre self.now.call) (F.post self.now.call) }
+        ensures { let value = doing.test_value (G.world on.now) G.place on.now self.now.room in
+            Leads (λ next. test_first line (value (option_copied test.entry) line) next m.old) result m.new }
     {
         m.spend(line)?;
         let v = self.test(on, m, test, line)?;
         Ok(truth(v))
     }
 
-    /// Evaluates the start of an annotated loop and then reads its bound. A loop whose first part sets no local has none.
+    /// Evaluates the start of an annotated loop and then reads its bound. A loop whose first part sets no local has
+    /// none.
     #[tactic(auto, unfolding(al_core::specs::Action::bind, al_core::specs::Action::pure))]
     pub fn range<G: Ground>(
         &self,
@@ -148,15 +143,17 @@ impl<F> Walker<F> {
             Items<Val>,
             u32,
         ) -> Result<Val, Fault>,
-        requires { Calls (G.world (setting_of on.now)) G.place on.now self.now.room (F.pre self.now.call) (F.post self.now.call) }
-        ensures { Leads (λ next. range_first (G.world (setting_of on.now)) (spec.first_sets (G.world (setting_of on.now)) G.place on.now.input.now (call_to (G.world (setting_of on.now)) G.place on.now.typed.now.funcs on.now.input.now self.now.room) first.now) (loops.bound_of test.now) line next m.old) result m.new }
+        requires { Calls (G.world on.now) G.place on.now self.now.room (F.pre self.now.call) (F.post self.now.call) }
+        ensures { let start = doing.start_value (G.world on.now) G.place on.now self.now.room first.now in
+            Leads (λ next. range_first (G.world on.now) start (bound_of test.now) line next m.old) result m.new }
     {
-        let Some((counter, e, at)) = first_set(first) else {
+        let Some(start) = start_of(part(first)) else {
             return Ok(None);
         };
-        let v = self.value(on, m, e, at)?;
+        let v = self.value(on, m, start.value, start.line)?;
         let lo = m.lift(line, number(v))?;
-        let hi = self.bound(on, m, test, line)?;
+        let hi = self.bound(on, m, test.as_ref(), line)?;
+        let counter = start.counter;
         Ok(Some(Range { counter, lo, hi }))
     }
 }

@@ -1,7 +1,8 @@
 ghost use Rattle.std.specs.Prelude.{◌≡◌, Ok};
+ghost use Rattle.al_source.specs.Answers.{Does};
 ghost use Rattle.al_core.specs.Action as spec;
+ghost use Rattle.al_interpreter.specs.Faults.{stopped, lined};
 ghost use Rattle.al_interpreter.specs.Stages.{is_outside};
-ghost use Rattle.al_interpreter.specs.Does.{Does, lined, setting_of};
 
 use crate::fault::Fault;
 use crate::frame::Frame;
@@ -68,7 +69,7 @@ impl<G: Ground> Machine<G> {
     /// Takes a step.
     #[tactic(auto, unfolding(al_core::specs::Action::spend))]
     pub fn spend(&mut self, line: u32) -> Result<(), Fault>
-        ensures { Does (spec.spend line self.old) result self.new }
+        ensures { Does stopped (spec.spend line self.old) result self.new }
     {
         if self.budget.spend() {
             Ok(())
@@ -80,7 +81,7 @@ impl<G: Ground> Machine<G> {
     /// What was computed with no state.
     #[tactic(auto, unfolding(al_core::specs::Action::lift))]
     pub fn lift<T>(&self, line: u32, r: Result<T, Trap>) -> Result<T, Fault>
-        ensures { Does (spec.lift line r self.now) result self.now }
+        ensures { Does stopped (spec.lift line r self.now) result self.now }
     {
         match r {
             Ok(a) => Ok(a),
@@ -90,7 +91,7 @@ impl<G: Ground> Machine<G> {
 
     #[tactic(auto, unfolding(al_core::specs::Action::bind, al_core::specs::Action::pure, al_core::specs::Action::asks, al_core::specs::Action::get_frame))]
     pub fn get_local(&mut self, on: &Setting<'_>, k: u32, line: u32) -> Result<Val, Fault>
-        ensures { Does (spec.get_local (G.world (setting_of on.now)) k line self.old) result self.new }
+        ensures { Does stopped (spec.get_local (G.world on.now) k line self.old) result self.new }
     {
         if self.frame.is_private(k) {
             return Ok(self.frame.get(k));
@@ -101,7 +102,7 @@ impl<G: Ground> Machine<G> {
 
     #[tactic(auto, unfolding(al_core::specs::Action::bind, al_core::specs::Action::asks, al_core::specs::Action::get_frame, al_core::specs::Action::set_frame))]
     pub fn set_local(&mut self, on: &Setting<'_>, k: u32, v: Val, line: u32) -> Result<(), Fault>
-        ensures { Does (spec.set_local (G.world (setting_of on.now)) k v line self.old) result self.new }
+        ensures { Does stopped (spec.set_local (G.world on.now) k v line self.old) result self.new }
     {
         if self.frame.is_private(k) {
             self.frame.set(k, v);
@@ -119,7 +120,7 @@ impl<G: Ground> Machine<G> {
         want: Kind,
         line: u32,
     ) -> Result<Val, Fault>
-        ensures { Does (spec.load (G.world (setting_of on.now)) at want line self.old) result self.new }
+        ensures { Does stopped (spec.load (G.world on.now) at want line self.old) result self.new }
     {
         let r = self.ground.load(on, Addr::Word(at.0, at.1), want);
         at_line(line, r)
@@ -133,7 +134,7 @@ impl<G: Ground> Machine<G> {
         v: Val,
         line: u32,
     ) -> Result<(), Fault>
-        ensures { Does (spec.store (G.world (setting_of on.now)) at v line self.old) result self.new }
+        ensures { Does stopped (spec.store (G.world on.now) at v line self.old) result self.new }
     {
         let r = self.ground.store(on, Addr::Word(at.0, at.1), v);
         at_line(line, r)
@@ -142,16 +143,31 @@ impl<G: Ground> Machine<G> {
     /// A pointer to a new object.
     #[tactic(auto, unfolding(al_core::specs::Action::bind, al_core::specs::Action::pure, al_core::specs::Action::asks))]
     pub fn make(&mut self, on: &Setting<'_>, words: u32, line: u32) -> Result<Val, Fault>
-        ensures { Does (spec.make (G.world (setting_of on.now)) words line self.old) result self.new }
+        ensures { Does stopped (spec.make (G.world on.now) words line self.old) result self.new }
     {
         let r = self.ground.make(on, words);
         let object = at_line(line, r)?;
         Ok(Val::Ptr(object, 0))
     }
 
+    /// Takes out the object at the end of a pointer. At null it does nothing.
+    #[tactic(auto, unfolding(al_core::specs::Action::bind, al_core::specs::Action::pure, al_core::specs::Action::asks))]
+    pub fn free(&mut self, on: &Setting<'_>, v: Val, line: u32) -> Result<Val, Fault>
+        ensures { Does stopped (spec.free (G.world on.now) v line self.old) result self.new }
+    {
+        match v {
+            Val::Int(_) => Ok(Val::Int(0)),
+            Val::Ptr(object, at) => {
+                let r = self.ground.free(on, object, at);
+                at_line(line, r)?;
+                Ok(Val::Int(0))
+            }
+        }
+    }
+
     #[tactic(auto, unfolding(al_core::specs::Action::asks))]
     pub fn print(&mut self, on: &Setting<'_>, bytes: &[u8], line: u32) -> Result<(), Fault>
-        ensures { Does (spec.print (G.world (setting_of on.now)) bytes.now line self.old) result self.new }
+        ensures { Does stopped (spec.print (G.world on.now) bytes.now line self.old) result self.new }
     {
         let _line = line;
         self.ground.print(on, bytes)?;
@@ -185,7 +201,7 @@ impl<G: Ground> Machine<G> {
         lo: i64,
         hi: i64,
     ) -> Result<(), Fault>
-        ensures { Does (spec.visit (G.world (setting_of on.now)) number lo hi self.old) result self.new }
+        ensures { Does stopped (spec.visit (G.world on.now) number lo hi self.old) result self.new }
     {
         let locals = self.frame.locals(alloc)?;
         let new = self.ground.visit(alloc, on, number, lo, hi, locals)?;

@@ -1,15 +1,16 @@
-ghost use Rattle.std.specs.Prelude.{◌≡◌, option_map};
+ghost use Rattle.std.specs.Prelude.{◌≡◌};
 ghost use Rattle.std.specs.Option.{option_copied};
+ghost use Rattle.al_source.specs.Answers.{Does};
 ghost use Rattle.al_core.specs.Loops as loops;
 ghost use Rattle.al_core.specs.Meaning as meaning;
-ghost use Rattle.al_core.specs.Meaning.{call_to};
 ghost use Rattle.al_core.specs.declared.typed_tree.TExpr.{out-TExpr};
 ghost use Rattle.al_core.specs.declared.typed_tree.TKind.{out-TKind};
 ghost use Rattle.al_core.specs.declared.typed_tree.TKind.TheVariants as kind;
-ghost use Rattle.al_interpreter.specs.Does.{Does, setting_of};
+ghost use Rattle.al_interpreter.specs.Faults.{stopped};
+ghost use Rattle.al_interpreter.specs.Flows.{flowed};
+ghost use Rattle.al_interpreter.specs.Starts.{any_start};
 ghost use Rattle.al_interpreter.specs.Calls.{Calls};
-ghost use Rattle.al_interpreter.specs.Kinds as spec;
-ghost use Rattle.al_interpreter.specs.Kinds.{does_kind, flowed};
+ghost use Rattle.al_interpreter.specs.Doing as doing;
 
 use crate::fault::Fault;
 use crate::flow::Flow;
@@ -19,18 +20,48 @@ use crate::printing::{numbers, text};
 use crate::setting::Setting;
 use crate::walker::Walker;
 use al_core::operations::number as of_value;
-use al_core::{Bound, Piece, TExpr, TKind, Val};
+use al_core::{Bound, Piece, TExpr, TKind, TStmt, Val};
 use sqlite_items::{Boxed, Items};
 use std::alloc::Global;
 
-/// The local that a kind of statement sets, and to what.
+/// The start of an annotated loop: the local that its first part sets, to which expression, and the line of that
+/// part.
+#[derive(Clone, Copy)]
+pub struct Start<'a> {
+    pub counter: u32,
+    pub value: &'a TExpr,
+    pub line: u32,
+}
+
 #[tactic(auto, using(al_core::specs::declared::typed_tree::TKind::the_lemmas))]
-pub fn set_in(k: &TKind) -> Option<(u32, &TExpr)>
-    ensures { option_map (λ p. (p.0, p.1.now)) result ≡ spec.set_in (out-TKind k.now) }
+fn start_in(line: u32, k: &TKind) -> Option<Start<'_>>
+    ensures { any_start result ≡ loops.start_in line (out-TKind k.now) }
 {
     match k {
-        TKind::SetLocal(k, e) => Some((*k, e)),
+        TKind::SetLocal(k, e) => Some(Start {
+            counter: *k,
+            value: e,
+            line,
+        }),
         _ => None,
+    }
+}
+
+/// A first part that sets no local is no start.
+pub fn start_of(first: Option<&TStmt>) -> Option<Start<'_>>
+    ensures { any_start result ≡ loops.start_of (option_copied first.entry) }
+{
+    let first = first?;
+    start_in(first.line, &first.kind)
+}
+
+/// The statement of a part that may be absent.
+pub fn part(s: &Option<Boxed<TStmt>>) -> Option<&TStmt>
+    ensures { option_copied result ≡ s.now }
+{
+    match s {
+        Some(s) => Some(s.get()),
+        None => None,
     }
 }
 
@@ -56,8 +87,8 @@ fn right_side(test: &TExpr) -> Bound
     }
 }
 
-fn bound_of(test: &Option<TExpr>) -> Bound
-    ensures { result ≡ loops.bound_of test.now }
+pub fn bound_of(test: Option<&TExpr>) -> Bound
+    ensures { result ≡ loops.bound_of (option_copied test.entry) }
 {
     match test {
         Some(test) => right_side(test),
@@ -85,8 +116,10 @@ impl<F> Walker<F> {
             Items<Val>,
             u32,
         ) -> Result<Val, Fault>,
-        requires { Calls (G.world (setting_of on.now)) G.place on.now self.now.room (F.pre self.now.call) (F.post self.now.call) }
-        ensures { Does (meaning.test_value (G.world (setting_of on.now)) G.place on.now.input.now (call_to (G.world (setting_of on.now)) G.place on.now.typed.now.funcs on.now.input.now self.now.room) (option_copied e.entry) line m.old) result m.new }
+        requires { Calls (G.world on.now) G.place on.now self.now.room (F.pre self.now.call) (F.post self.now.call) }
+        ensures { Does stopped
+            (doing.test_value (G.world on.now) G.place on.now self.now.room (option_copied e.entry) line m.old)
+            result m.new }
     {
         match e {
             Some(e) => self.value(on, m, e, line),
@@ -113,8 +146,10 @@ impl<F> Walker<F> {
             Items<Val>,
             u32,
         ) -> Result<Val, Fault>,
-        requires { Calls (G.world (setting_of on.now)) G.place on.now self.now.room (F.pre self.now.call) (F.post self.now.call) }
-        ensures { Does (does_kind (G.world (setting_of on.now)) G.place on.now.input.now (call_to (G.world (setting_of on.now)) G.place on.now.typed.now.funcs on.now.input.now self.now.room) (kind.Print format.now es.now) line m.old) (flowed result) m.new }
+        requires { Calls (G.world on.now) G.place on.now self.now.room (F.pre self.now.call) (F.post self.now.call) }
+        ensures { Does stopped
+            (doing.execute_kind (G.world on.now) G.place on.now self.now.room (kind.Print format.now es.now) line m.old)
+            (flowed result) m.new }
     {
         let vs = self.values(on, m, es, line)?;
         let read = numbers(self.alloc, vs.as_slice())?;
@@ -130,7 +165,7 @@ impl<F> Walker<F> {
         &self,
         on: &Setting<'_>,
         m: &mut Machine<G>,
-        test: &Option<TExpr>,
+        test: Option<&TExpr>,
         line: u32,
     ) -> Result<i64, Fault>
     where
@@ -143,8 +178,10 @@ impl<F> Walker<F> {
             Items<Val>,
             u32,
         ) -> Result<Val, Fault>,
-        requires { Calls (G.world (setting_of on.now)) G.place on.now self.now.room (F.pre self.now.call) (F.post self.now.call) }
-        ensures { Does (meaning.bound_value (G.world (setting_of on.now)) (loops.bound_of test.now) line m.old) result m.new }
+        requires { Calls (G.world on.now) G.place on.now self.now.room (F.pre self.now.call) (F.post self.now.call) }
+        ensures { Does stopped
+            (meaning.bound_value (G.world on.now) (loops.bound_of (option_copied test.entry)) line m.old)
+            result m.new }
     {
         match bound_of(test) {
             Bound::Number(n) => Ok(n),

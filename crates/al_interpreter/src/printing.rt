@@ -9,8 +9,8 @@ use itoa::Buffer;
 use sqlite_items::Items;
 use std::alloc::{AllocError, Global};
 
-#[tactic(auto, using(crate::proofs::Printed::number_next, crate::proofs::Printed::number_not, crate::proofs::Printed::numbers_all))]
 /// The numbers of values, up to the first pointer.
+#[tactic(auto, using(crate::proofs::Printed::number_steps))]
 pub fn numbers(alloc: Global, vs: &[Val]) -> Result<Result<Items<i64>, Trap>, AllocError>
     ensures { IfOk result (λ r. r ≡ spec.numbers vs.now) }
 {
@@ -26,7 +26,9 @@ pub fn numbers(alloc: Global, vs: &[Val]) -> Result<Result<Items<i64>, Trap>, Al
 
 /// Prints a number where a format says so, and answers the numbers that are left.
 fn number_of<'a>(bytes: &mut Vec<u8>, rest: &'a [i64]) -> Result<&'a [i64], AllocError>
-    ensures { IfOk result (λ left. (format : List Piece) → bytes.old.items ++ spec.text (piece.Number ∷ format) rest.now ≡ bytes.new.items ++ spec.text format left.now) }
+    ensures { IfOk result (λ left. (format : List Piece)
+        → bytes.old.items ++ spec.text (piece.Number ∷ format) rest.now
+        ≡ bytes.new.items ++ spec.text format left.now) }
 {
     match rest {
         [] => Ok(rest),

@@ -1,9 +1,9 @@
-ghost use Rattle.std.specs.Prelude.{◌≡◌};
-ghost use Rattle.al_core.specs.Meaning.{call_to};
+ghost use Rattle.al_source.specs.Answers.{Does};
 ghost use Rattle.al_core.specs.declared.typed_tree.TKind.TheVariants as kind;
-ghost use Rattle.al_interpreter.specs.Does.{Does, setting_of};
+ghost use Rattle.al_interpreter.specs.Faults.{stopped};
+ghost use Rattle.al_interpreter.specs.Flows.{flowed};
 ghost use Rattle.al_interpreter.specs.Calls.{Calls};
-ghost use Rattle.al_interpreter.specs.Kinds.{does_kind, flowed};
+ghost use Rattle.al_interpreter.specs.Doing as doing;
 
 use crate::fault::Fault;
 use crate::flow::Flow;
@@ -36,8 +36,10 @@ impl<F> Walker<F> {
             Items<Val>,
             u32,
         ) -> Result<Val, Fault>,
-        requires { Calls (G.world (setting_of on.now)) G.place on.now self.now.room (F.pre self.now.call) (F.post self.now.call) }
-        ensures { Does (does_kind (G.world (setting_of on.now)) G.place on.now.input.now (call_to (G.world (setting_of on.now)) G.place on.now.typed.now.funcs on.now.input.now self.now.room) (kind.SetLocal k e.now) line m.old) (flowed result) m.new }
+        requires { Calls (G.world on.now) G.place on.now self.now.room (F.pre self.now.call) (F.post self.now.call) }
+        ensures { Does stopped
+            (doing.execute_kind (G.world on.now) G.place on.now self.now.room (kind.SetLocal k e.now) line m.old)
+            (flowed result) m.new }
     {
         let v = self.value(on, m, e, line)?;
         m.set_local(on, k, v, line)?;
@@ -63,8 +65,10 @@ impl<F> Walker<F> {
             Items<Val>,
             u32,
         ) -> Result<Val, Fault>,
-        requires { Calls (G.world (setting_of on.now)) G.place on.now self.now.room (F.pre self.now.call) (F.post self.now.call) }
-        ensures { Does (does_kind (G.world (setting_of on.now)) G.place on.now.input.now (call_to (G.world (setting_of on.now)) G.place on.now.typed.now.funcs on.now.input.now self.now.room) (kind.Store p.now e.now) line m.old) (flowed result) m.new }
+        requires { Calls (G.world on.now) G.place on.now self.now.room (F.pre self.now.call) (F.post self.now.call) }
+        ensures { Does stopped
+            (doing.execute_kind (G.world on.now) G.place on.now self.now.room (kind.Store p.now e.now) line m.old)
+            (flowed result) m.new }
     {
         let to = self.place(on, m, p, line)?;
         let new = self.value(on, m, e, line)?;
@@ -92,8 +96,10 @@ impl<F> Walker<F> {
             Items<Val>,
             u32,
         ) -> Result<Val, Fault>,
-        requires { Calls (G.world (setting_of on.now)) G.place on.now self.now.room (F.pre self.now.call) (F.post self.now.call) }
-        ensures { Does (does_kind (G.world (setting_of on.now)) G.place on.now.input.now (call_to (G.world (setting_of on.now)) G.place on.now.typed.now.funcs on.now.input.now self.now.room) (kind.UpdateLocal op k e.now) line m.old) (flowed result) m.new }
+        requires { Calls (G.world on.now) G.place on.now self.now.room (F.pre self.now.call) (F.post self.now.call) }
+        ensures { Does stopped
+            (doing.execute_kind (G.world on.now) G.place on.now self.now.room (kind.UpdateLocal op k e.now) line m.old)
+            (flowed result) m.new }
     {
         let x = m.get_local(on, k, line)?;
         let y = self.value(on, m, e, line)?;
@@ -122,8 +128,10 @@ impl<F> Walker<F> {
             Items<Val>,
             u32,
         ) -> Result<Val, Fault>,
-        requires { Calls (G.world (setting_of on.now)) G.place on.now self.now.room (F.pre self.now.call) (F.post self.now.call) }
-        ensures { Does (does_kind (G.world (setting_of on.now)) G.place on.now.input.now (call_to (G.world (setting_of on.now)) G.place on.now.typed.now.funcs on.now.input.now self.now.room) (kind.UpdateAt op p.now e.now) line m.old) (flowed result) m.new }
+        requires { Calls (G.world on.now) G.place on.now self.now.room (F.pre self.now.call) (F.post self.now.call) }
+        ensures { Does stopped
+            (doing.execute_kind (G.world on.now) G.place on.now self.now.room (kind.UpdateAt op p.now e.now) line m.old)
+            (flowed result) m.new }
     {
         let at = self.place(on, m, p, line)?;
         let x = m.load(on, at, Kind::Int, line)?;
@@ -151,8 +159,10 @@ impl<F> Walker<F> {
             Items<Val>,
             u32,
         ) -> Result<Val, Fault>,
-        requires { Calls (G.world (setting_of on.now)) G.place on.now self.now.room (F.pre self.now.call) (F.post self.now.call) }
-        ensures { Does (does_kind (G.world (setting_of on.now)) G.place on.now.input.now (call_to (G.world (setting_of on.now)) G.place on.now.typed.now.funcs on.now.input.now self.now.room) (kind.Call e.now) line m.old) (flowed result) m.new }
+        requires { Calls (G.world on.now) G.place on.now self.now.room (F.pre self.now.call) (F.post self.now.call) }
+        ensures { Does stopped
+            (doing.execute_kind (G.world on.now) G.place on.now self.now.room (kind.Call e.now) line m.old)
+            (flowed result) m.new }
     {
         self.value(on, m, e, line)?;
         Ok(Flow::Next)
@@ -176,8 +186,10 @@ impl<F> Walker<F> {
             Items<Val>,
             u32,
         ) -> Result<Val, Fault>,
-        requires { Calls (G.world (setting_of on.now)) G.place on.now self.now.room (F.pre self.now.call) (F.post self.now.call) }
-        ensures { Does (does_kind (G.world (setting_of on.now)) G.place on.now.input.now (call_to (G.world (setting_of on.now)) G.place on.now.typed.now.funcs on.now.input.now self.now.room) (kind.Return e.now) line m.old) (flowed result) m.new }
+        requires { Calls (G.world on.now) G.place on.now self.now.room (F.pre self.now.call) (F.post self.now.call) }
+        ensures { Does stopped
+            (doing.execute_kind (G.world on.now) G.place on.now self.now.room (kind.Return e.now) line m.old)
+            (flowed result) m.new }
     {
         match e {
             Some(e) => {

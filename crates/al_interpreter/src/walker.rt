@@ -1,6 +1,7 @@
-ghost use Rattle.al_core.specs.Meaning.{call_to};
-ghost use Rattle.al_interpreter.specs.Does.{Does, setting_of};
+ghost use Rattle.al_source.specs.Answers.{Does};
+ghost use Rattle.al_interpreter.specs.Faults.{stopped};
 ghost use Rattle.al_interpreter.specs.Calls.{Calls};
+ghost use Rattle.al_interpreter.specs.Doing as doing;
 
 use crate::fault::Fault;
 use crate::ground::Ground;
@@ -10,7 +11,8 @@ use al_core::Val;
 use sqlite_items::Items;
 use std::alloc::Global;
 
-/// What walks a tree where so many more calls may be active. It takes the function that calls do, so that the walk is proved by itself.
+/// What walks a tree where so many more calls may be active. It takes the function that calls do, so that the walk is
+/// proved by itself.
 #[derive(Clone, Copy)]
 pub struct Walker<F> {
     pub alloc: Global,
@@ -37,8 +39,10 @@ impl<F> Walker<F> {
             Items<Val>,
             u32,
         ) -> Result<Val, Fault>,
-        requires { Calls (G.world (setting_of on.now)) G.place on.now self.now.room (F.pre self.now.call) (F.post self.now.call) }
-        ensures { Does (call_to (G.world (setting_of on.now)) G.place on.now.typed.now.funcs on.now.input.now self.now.room f args line m.old) result m.new }
+        requires { Calls (G.world on.now) G.place on.now self.now.room (F.pre self.now.call) (F.post self.now.call) }
+        ensures { Does stopped
+            (doing.call (G.world on.now) G.place on.now self.now.room f args line m.old)
+            result m.new }
     {
         (self.call)(self.alloc, on, self.room, m, f, args, line)
     }

@@ -1,7 +1,7 @@
-ghost use Rattle.al_core.specs.Meaning as meaning;
-ghost use Rattle.al_interpreter.specs.Does.{Does, setting_of};
-ghost use Rattle.al_interpreter.specs.Wholes as spec;
-ghost use Rattle.al_interpreter.specs.Wholes.{iterates, iterates_with, main_does};
+ghost use Rattle.al_source.specs.Answers.{Does};
+ghost use Rattle.al_interpreter.specs.Faults.{stopped};
+ghost use Rattle.al_interpreter.specs.Doing.{call};
+ghost use Rattle.al_interpreter.specs.Wholes.{iterates, iterates_with, main_does, main_with};
 
 use crate::calls::{body_of, frame_of, line_of, returned};
 use crate::fault::Fault;
@@ -10,6 +10,7 @@ use crate::setting::Setting;
 use crate::stage::Stage;
 use crate::walker::Walker;
 use al_core::{TStmt, Trap, Val};
+use al_source::limits::ACTIVE_CALLS;
 use sqlite_items::{Items, at};
 use std::alloc::Global;
 
@@ -24,13 +25,13 @@ pub fn call_to<G: Stage>(
     args: Items<Val>,
     line: u32,
 ) -> Result<Val, Fault>
-    ensures { Does (meaning.call_to (G.world (setting_of on.now)) G.place on.now.typed.now.funcs on.now.input.now room f args line m.old) result m.new }
+    ensures { Does stopped (call (G.world on.now) G.place on.now room f args line m.old) result m.new }
 {
     if room == 0 {
         return m.lift(line, Err(Trap::Depth));
     }
     m.spend(line)?;
-    let f = at(on.typed.funcs.as_slice(), f as usize);
+    let f = at(on.program.typed().funcs.as_slice(), f as usize);
     let old = m.enter(frame_of(f, args)?);
     let walker = Walker {
         alloc,
@@ -53,7 +54,9 @@ fn iterate_with<G: Stage>(
     body: &TStmt,
     n: i64,
 ) -> Result<(), Fault>
-    ensures { Does (iterates_with (G.world (setting_of on.now)) G.place room on.now.typed.now.funcs on.now.input.now counter line body.now n m.old) result m.new }
+    ensures { Does stopped
+        (iterates_with (G.world on.now) G.place on.now room counter line body.now n m.old)
+        result m.new }
 {
     m.spend(line)?;
     m.set_local(on, counter, Val::Int(n), line)?;
@@ -66,7 +69,7 @@ fn iterate_with<G: Stage>(
     Ok(())
 }
 
-/// An iteration of an annotated loop: a step, then the counter's value, then the body. One call is active, so 255 more may be.
+/// An iteration of an annotated loop: a step, then the counter's value, then the body. One call is active in it.
 pub fn iterate<G: Stage>(
     alloc: Global,
     on: &Setting<'_>,
@@ -76,9 +79,9 @@ pub fn iterate<G: Stage>(
     body: &TStmt,
     n: i64,
 ) -> Result<(), Fault>
-    ensures { Does (iterates (G.world (setting_of on.now)) G.place on.now.typed.now.funcs on.now.input.now counter line body.now n m.old) result m.new }
+    ensures { Does stopped (iterates (G.world on.now) G.place on.now counter line body.now n m.old) result m.new }
 {
-    iterate_with(alloc, on, 255, m, counter, line, body, n)
+    iterate_with(alloc, on, ACTIVE_CALLS - 1, m, counter, line, body, n)
 }
 
 /// The call of `main`, at the line of its definition, where so many calls may be active.
@@ -88,15 +91,26 @@ fn main_with<G: Stage>(
     room: u32,
     m: &mut Machine<G>,
 ) -> Result<Val, Fault>
-    ensures { Does (spec.main_with (G.world (setting_of on.now)) G.place room on.now.typed.now on.now.input.now m.old) result m.new }
+    ensures { Does stopped (main_with (G.world on.now) G.place on.now room m.old) result m.new }
 {
-    let line = line_of(at(on.typed.funcs.as_slice(), on.typed.main as usize));
-    call_to(alloc, on, room, m, on.typed.main, Items::new(alloc), line)
+    let line = line_of(at(
+        on.program.typed().funcs.as_slice(),
+        on.program.typed().main as usize,
+    ));
+    call_to(
+        alloc,
+        on,
+        room,
+        m,
+        on.program.typed().main,
+        Items::new(alloc),
+        line,
+    )
 }
 
-/// Calls `main`. Up to 256 calls may be active.
+/// Calls `main`. So many calls may be active as the limit says.
 pub fn run_main<G: Stage>(alloc: Global, on: &Setting<'_>, m: &mut Machine<G>) -> Result<Val, Fault>
-    ensures { Does (main_does (G.world (setting_of on.now)) G.place on.now.typed.now on.now.input.now m.old) result m.new }
+    ensures { Does stopped (main_does (G.world on.now) G.place on.now m.old) result m.new }
 {
-    main_with(alloc, on, 256, m)
+    main_with(alloc, on, ACTIVE_CALLS, m)
 }

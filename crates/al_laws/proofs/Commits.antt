@@ -1,55 +1,44 @@
 -- The first chunk of a round commits, and each chunk is committed once.
-use Rattle.std.proofs.Common.{◌≡◌, ◌≢◌, ℕ, zero, suc, ◌+◌, ◌≤◌, ◌<◌, List, [], ◌∷◌, ◌++◌, length, take, drop, Bool, true, false, ◌&&◌, ◌||◌, refl, sym, ap, subst, ◌∙◌, arith, length-append, append_assoc}
+use Rattle.std.proofs.Common.{◌≡◌, ◌≢◌, ℕ, zero, suc, ◌+◌, ◌≤◌, ◌<◌, List, [], ◌∷◌, ◌++◌, length, take, drop, Bool, true, false, ◌&&◌, ◌||◌, refl, sym, ap, subst, ◌∙◌, arith, length-append}
 use Rattle.std.proofs.lemmas.Bool.{ne_eqb, eqb-true, eqb-false}
-use Rattle.std.proofs.Math.Bool.{true≢false}
 use Rattle.std.specs.Prelude.{if◌then◌else◌, ◌==◌, map, not}
-use Rattle.std.specs.List.{list_any}
 use Rattle.std.specs.FinSet as set
-use Rattle.std.specs.FinSet.{FinSet, contains-empty}
 use Rattle.al_source.specs.declared.annotations.Policy.{Policy}
 use Rattle.al_source.specs.declared.annotations.Policy.TheVariants as policy
 use Rattle.al_core.specs.declared.choices.Choice.{Choice}
-use Rattle.al_core.specs.declared.values.Addr.{Addr}
 use Rattle.al_core.specs.declared.values.Trap.{Trap}
 use Rattle.al_core.specs.declared.reports.Ending.{Ending}
 use Rattle.al_core.specs.declared.reports.Ending.TheVariants as ending
-use Rattle.al_core.specs.declared.reports.Verdict.{Verdict}
 use Rattle.al_core.specs.declared.reports.Verdict.TheVariants as verdict
 use Rattle.al_core.specs.declared.reports.Judged.{Judged}
-use Rattle.al_core.specs.Orders.{addr_cmp}
 use Rattle.al_core.specs.Memory.{Memory}
 use Rattle.al_core.specs.Iteration.{Execution}
 use Rattle.al_core.specs.Chunk.{Outcome, outcome, chunk_count}
-use Rattle.al_core.specs.Clash.{meets, clashes}
-use Rattle.al_core.specs.Round.{Judging, is_in_order, commit_or_trap, verdict_of, judged_by, judged, judge_all, nothing_judged, round}
-use Rattle.al_core.specs.Lockstep.{Rounds, is_committed, cons_if, not_committed, commits, with_round, next_round, still_pending, rounds_from, up_from, all_chunks, lockstep, commits_of}
+use Rattle.al_core.specs.Clash.{meets_lines, clashes}
+use Rattle.al_core.specs.Verdicts.{Judging, nothing_judged, is_in_order, commit_or_trap, verdict_of, judged, verdicts_from, verdicts, is_committed, cons_if}
+use Rattle.al_core.specs.Round.{Round, with_chunks, outcomes, round}
+use Rattle.al_core.specs.Lockstep.{Rounds, not_committed, commits, with_round, still_pending, unless_trapped, rounds_from, up_from, all_chunks, no_rounds, lockstep, commits_of}
+use Rattle.al_laws.proofs.Meeting.{meets_nothing}
 use Rattle.al_laws.specs.Rounds.{FirstCommits, times, RoundsAtMostChunks, CommittedAtMostOnce, AllCommitted}
 
--- ---- nothing meets the empty set
+-- ---- the first chunk of a round commits
 
-meets_none : (items : List Addr) → list_any (set.contains (set.empty {R = addr_cmp})) items ≡ false
-meets_none [] = refl
-meets_none (a ∷ rest) = ap (λ b. b || list_any (set.contains (set.empty {R = addr_cmp})) rest) (contains-empty addr_cmp a) ∙ meets_none rest
+clashes_nothing : (p : Policy) (g : ℕ) (o : Outcome) → clashes p g o set.empty ≡ false
+clashes_nothing policy.Full g o = ap (λ b. b || meets_lines g o.touched set.empty) (meets_nothing g o.reads) ∙ meets_nothing g o.touched
+clashes_nothing policy.Raw g o = meets_nothing g o.reads
+clashes_nothing policy.Waw g o = meets_nothing g o.touched
+clashes_nothing policy.None g o = refl
 
-meets_empty : (s : FinSet addr_cmp) → meets s set.empty ≡ false
-unfolding meets
-meets_empty s = meets_none (set.items s)
-
-clashes_empty : (p : Policy) (o : Outcome) → clashes p o set.empty ≡ false
-clashes_empty policy.Full o = ap (λ b. b || meets o.touched set.empty) (meets_empty o.reads) ∙ meets_empty o.touched
-clashes_empty policy.Raw o = meets_empty o.reads
-clashes_empty policy.Waw o = meets_empty o.touched
-clashes_empty policy.None o = refl
-
-and_false : (b : Bool) → (b && false) ≡ false
+pub and_false : (b : Bool) → (b && false) ≡ false
 and_false true = refl
 and_false false = refl
 
-first_verdict : (choice : Choice) (m : Memory) (o : Outcome) → verdict_of choice (nothing_judged m) o ≡ commit_or_trap o.ending
+pub first_verdict : (choice : Choice) (o : Outcome) → verdict_of choice nothing_judged o ≡ commit_or_trap o.ending
 unfolding verdict_of
-first_verdict choice m o =
-    ap (λ b. if b || false then verdict.After else if clashes choice.policy o set.empty then verdict.Fail else commit_or_trap o.ending) (and_false (is_in_order choice.order))
-    ∙ ap (λ b. if b then verdict.Fail else commit_or_trap o.ending) (clashes_empty choice.policy o)
+first_verdict choice o =
+    ap (λ b. if b || false then verdict.After else if clashes choice.policy choice.line o set.empty then verdict.Fail else commit_or_trap o.ending)
+    (and_false (is_in_order choice.order))
+    ∙ ap (λ b. if b then verdict.Fail else commit_or_trap o.ending) (clashes_nothing choice.policy choice.line o)
 
 committed_first : (e : Ending) → is_committed (commit_or_trap e) ≡ true
 committed_first ending.Done = refl
@@ -57,56 +46,40 @@ committed_first (ending.Trap t line) = refl
 
 -- ---- the verdicts of a round
 
-settled_verdicts : (choice : Choice) (c : ℕ) (v : Verdict) (s : Judging) (o : Outcome) → (judged_by choice c v s o).verdicts ≡ s.verdicts ++ record { chunk = c; verdict = v } ∷ []
-settled_verdicts choice c verdict.Commit s o = refl
-settled_verdicts choice c verdict.CommitTrap s o = refl
-settled_verdicts choice c verdict.Fail s o = refl
-settled_verdicts choice c verdict.After s o = refl
-
-judged_verdicts : (choice : Choice) (c : ℕ) (s : Judging) (o : Outcome) → (judged choice s c o).verdicts ≡ s.verdicts ++ record { chunk = c; verdict = verdict_of choice s o } ∷ []
-unfolding judged
-judged_verdicts choice c s o = settled_verdicts choice c (verdict_of choice s o) s o
-
+-- the chunks with their verdicts, after what was judged earlier
 abbrev pub more_verdicts : Execution → Choice → Memory → List ℕ → Judging → List Judged
-more_verdicts x choice m [] s = []
-more_verdicts x choice m (c ∷ cs) s =
-    record { chunk = c; verdict = verdict_of choice s (outcome x choice.reds m c) } ∷ more_verdicts x choice m cs (judged choice s c (outcome x choice.reds m c))
+more_verdicts x choice m cs earlier = with_chunks cs (verdicts_from choice earlier (outcomes x choice.reds m cs))
 
-append_none : {A : Type 0} (l : List A) → l ≡ l ++ []
-append_none [] = refl
-append_none (a ∷ rest) = ap (λ l. a ∷ l) (append_none rest)
+pub round_verdicts : (x : Execution) (choice : Choice) (cs : List ℕ) (m : Memory) → (round x choice cs m).verdicts ≡ more_verdicts x choice m cs nothing_judged
+unfolding round verdicts
+round_verdicts x choice cs m = refl
 
-all_verdicts : (x : Execution) (choice : Choice) (m : Memory) (cs : List ℕ) (s : Judging) → (judge_all x choice m cs s).verdicts ≡ s.verdicts ++ more_verdicts x choice m cs s
-all_verdicts x choice m [] s = append_none s.verdicts
-all_verdicts x choice m (c ∷ cs) s =
-    let o = outcome x choice.reds m c in
-    all_verdicts x choice m cs (judged choice s c o) ∙ ap (λ l. l ++ more_verdicts x choice m cs (judged choice s c o)) (judged_verdicts choice c s o) ∙ append_assoc s.verdicts _ _
-
-pub round_verdicts : (x : Execution) (choice : Choice) (cs : List ℕ) (m : Memory) → (round x choice cs m).verdicts ≡ more_verdicts x choice m cs (nothing_judged m)
-unfolding round
-round_verdicts x choice cs m = all_verdicts x choice m cs (nothing_judged m)
-
-first_committed : (x : Execution) (choice : Choice) (c : ℕ) (m : Memory) → is_committed (verdict_of choice (nothing_judged m) (outcome x choice.reds m c)) ≡ true
-first_committed x choice c m = ap is_committed (first_verdict choice m (outcome x choice.reds m c)) ∙ committed_first (outcome x choice.reds m c).ending
+pub first_committed : (choice : Choice) (o : Outcome) → is_committed (verdict_of choice nothing_judged o) ≡ true
+first_committed choice o = ap is_committed (first_verdict choice o) ∙ committed_first o.ending
 
 pub first_commits : FirstCommits
-first_commits x choice c cs m = (verdict_of choice (nothing_judged m) (outcome x choice.reds m c), _, round_verdicts x choice (c ∷ cs) m, first_committed x choice c m)
+first_commits x choice c cs m =
+    let o = outcome x choice.reds m c in
+    (verdict_of choice nothing_judged o, _, round_verdicts x choice (c ∷ cs) m, first_committed choice o)
 
 -- ---- the number of rounds
 
-rounds_bound : (n : ℕ) (x : Execution) (choice : Choice) (lanes : ℕ) (pending : List ℕ) (s : Rounds) → length (rounds_from n x choice lanes pending s).rounds ≤ length s.rounds + n
+-- a round of the chunks that are pending
+abbrev pub next_round : Execution → Choice → ℕ → List ℕ → Rounds → Round
+next_round x choice lanes pending s = round x choice (take lanes pending) s.memory
+
+rounds_bound : (n : ℕ) (x : Execution) (choice : Choice) (lanes : ℕ) (pending : List ℕ) (s : Rounds)
+    → length (rounds_from n x choice lanes pending s).rounds ≤ length s.rounds + n
 rounds_bound zero x choice lanes pending s = omega arith
 rounds_bound (suc n) x choice lanes [] s = omega arith
 rounds_bound (suc n) x choice lanes (c ∷ cs) s =
     let r = next_round x choice lanes (c ∷ cs) s in
     let one = length-append s.rounds (r.verdicts ∷ []) in
-    elim r.trapped as (λ b. length (if b then with_round r s else rounds_from n x choice lanes (still_pending lanes (c ∷ cs) r) (with_round r s)).rounds ≤ length s.rounds + suc n) [
-      | true ↦ omega (arith, one)
-      | false ↦ omega (arith, one, rounds_bound n x choice lanes (still_pending lanes (c ∷ cs) r) (with_round r s))
+    let more = rounds_from n x choice lanes (still_pending lanes (c ∷ cs) r) (with_round r s) in
+    elim r.ending as (λ e. length (unless_trapped e (with_round r s) more).rounds ≤ length s.rounds + suc n) [
+      | ending.Done ↦ omega (arith, one, rounds_bound n x choice lanes (still_pending lanes (c ∷ cs) r) (with_round r s))
+      | ending.Trap t line ↦ omega (arith, one)
     ]
-
-abbrev pub no_rounds : Memory → Rounds
-no_rounds m = record { memory = m; printed = []; ending = ending.Done; rounds = []; span = 0 }
 
 pub rounds_at_most_chunks : RoundsAtMostChunks
 unfolding lockstep
@@ -127,46 +100,62 @@ times_split c (suc n) (d ∷ l) = omega (arith, times_split c n l)
 times_judged : (c : ℕ) (js : List Judged) → times c (commits js) + times c (not_committed js) ≡ times c (map (λ j. j.chunk) js)
 times_judged c [] = omega arith
 times_judged c (j ∷ js) =
-    elim (is_committed j.verdict) as (λ b. times c (cons_if b j.chunk (commits js)) + times c (cons_if (not b) j.chunk (not_committed js)) ≡ (if j.chunk == c then 1 else 0) + times c (map (λ j. j.chunk) js)) [
+    elim (is_committed j.verdict) as
+    (λ b. times c (cons_if b j.chunk (commits js)) + times c (cons_if (not b) j.chunk (not_committed js)) ≡ (if j.chunk == c then 1 else 0) + times c
+    (map (λ j. j.chunk) js)) [
       | true ↦ omega (arith, times_judged c js)
       | false ↦ omega (arith, times_judged c js)
     ]
 
-chunks_judged : (x : Execution) (choice : Choice) (m : Memory) (cs : List ℕ) (s : Judging) → map (λ j. j.chunk) (more_verdicts x choice m cs s) ≡ cs
-chunks_judged x choice m [] s = refl
-chunks_judged x choice m (c ∷ cs) s = ap (λ l. c ∷ l) (chunks_judged x choice m cs _)
+pub chunks_judged : (x : Execution) (choice : Choice) (m : Memory) (cs : List ℕ) (earlier : Judging)
+    → map (λ j. j.chunk) (more_verdicts x choice m cs earlier) ≡ cs
+chunks_judged x choice m [] earlier = refl
+chunks_judged x choice m (c ∷ cs) earlier = ap (λ l. c ∷ l) (chunks_judged x choice m cs (judged choice earlier (outcome x choice.reds m c)))
 
-times_round : (c : ℕ) (x : Execution) (choice : Choice) (cs : List ℕ) (m : Memory) → times c (commits (round x choice cs m).verdicts) + times c (not_committed (round x choice cs m).verdicts) ≡ times c cs
+times_round : (c : ℕ) (x : Execution) (choice : Choice) (cs : List ℕ) (m : Memory)
+    → times c (commits (round x choice cs m).verdicts) + times c (not_committed (round x choice cs m).verdicts) ≡ times c cs
 times_round c x choice cs m =
-    times_judged c (round x choice cs m).verdicts ∙ ap (λ l. times c (map (λ j. j.chunk) l)) (round_verdicts x choice cs m) ∙ ap (times c) (chunks_judged x choice m cs (nothing_judged m))
+    times_judged c (round x choice cs m).verdicts ∙ ap (λ l. times c (map (λ j. j.chunk) l)) (round_verdicts x choice cs m)
+    ∙ ap (times c) (chunks_judged x choice m cs nothing_judged)
 
 commits_append : (c : ℕ) (rs : List (List Judged)) (r : List Judged) → times c (commits_of (rs ++ r ∷ [])) ≡ times c (commits_of rs) + times c (commits r)
 commits_append c [] r = omega (arith, times_append c (commits r) [])
-commits_append c (q ∷ rs) r = omega (arith, times_append c (commits q) (commits_of (rs ++ r ∷ [])), times_append c (commits q) (commits_of rs), commits_append c rs r)
+commits_append c (q ∷ rs) r =
+    omega (arith, times_append c (commits q) (commits_of (rs ++ r ∷ [])), times_append c (commits q) (commits_of rs), commits_append c rs r)
 
 -- what is committed and what is pending, before and after a round
 times_next : (c : ℕ) (x : Execution) (choice : Choice) (lanes : ℕ) (pending : List ℕ) (s : Rounds) →
-    times c (commits_of (with_round (next_round x choice lanes pending s) s).rounds) + times c (still_pending lanes pending (next_round x choice lanes pending s)) ≡ times c (commits_of s.rounds) + times c pending
+    times c (commits_of (with_round (next_round x choice lanes pending s) s).rounds) + times c
+    (still_pending lanes pending (next_round x choice lanes pending s)) ≡ times c (commits_of s.rounds) + times c pending
 times_next c x choice lanes pending s =
     let r = next_round x choice lanes pending s in
-    omega (arith, commits_append c s.rounds r.verdicts, times_append c (not_committed r.verdicts) (drop lanes pending), times_round c x choice (take lanes pending) s.memory, times_split c lanes pending)
+    omega (
+      arith,
+      commits_append c s.rounds r.verdicts,
+      times_append c (not_committed r.verdicts) (drop lanes pending),
+      times_round c x choice (take lanes pending) s.memory,
+      times_split c lanes pending,
+    )
 
-times_rounds : (c n : ℕ) (x : Execution) (choice : Choice) (lanes : ℕ) (pending : List ℕ) (s : Rounds) → times c (commits_of (rounds_from n x choice lanes pending s).rounds) ≤ times c (commits_of s.rounds) + times c pending
+times_rounds : (c n : ℕ) (x : Execution) (choice : Choice) (lanes : ℕ) (pending : List ℕ) (s : Rounds)
+    → times c (commits_of (rounds_from n x choice lanes pending s).rounds) ≤ times c (commits_of s.rounds) + times c pending
 times_rounds c zero x choice lanes pending s = omega arith
 times_rounds c (suc n) x choice lanes [] s = omega arith
 times_rounds c (suc n) x choice lanes (d ∷ ds) s =
     let r = next_round x choice lanes (d ∷ ds) s in
     let next = times_next c x choice lanes (d ∷ ds) s in
-    elim r.trapped as (λ b. times c (commits_of (if b then with_round r s else rounds_from n x choice lanes (still_pending lanes (d ∷ ds) r) (with_round r s)).rounds) ≤ times c (commits_of s.rounds) + times c (d ∷ ds)) [
-      | true ↦ omega (arith, next)
-      | false ↦ omega (arith, next, times_rounds c n x choice lanes (still_pending lanes (d ∷ ds) r) (with_round r s))
+    let more = rounds_from n x choice lanes (still_pending lanes (d ∷ ds) r) (with_round r s) in
+    elim r.ending as (λ e. times c (commits_of (unless_trapped e (with_round r s) more).rounds) ≤ times c (commits_of s.rounds) + times c (d ∷ ds)) [
+      | ending.Done ↦ omega (arith, next, times_rounds c n x choice lanes (still_pending lanes (d ∷ ds) r) (with_round r s))
+      | ending.Trap t line ↦ omega (arith, next)
     ]
 
 -- ---- all chunks, each once
 
 times_below : (c n k : ℕ) → c < k → times c (up_from n k) ≡ 0
 times_below c zero k h = omega arith
-times_below c (suc n) k h = ap (λ b. (if b then 1 else 0) + times c (up_from n (suc k))) (ne_eqb k c (omega arith)) ∙ omega (arith, times_below c n (suc k) (omega arith))
+times_below c (suc n) k h = ap (λ b. (if b then 1 else 0) + times c (up_from n (suc k))) (ne_eqb k c (omega arith))
+    ∙ omega (arith, times_below c n (suc k) (omega arith))
 
 times_at : (c n k : ℕ) → k ≤ c → c < k + n → times c (up_from n k) ≡ 1
 times_at c zero k h g = absurd (omega arith)
@@ -186,7 +175,8 @@ times_most c (suc n) k =
 
 pub committed_at_most_once : CommittedAtMostOnce
 unfolding lockstep
-committed_at_most_once x choice lanes m c = omega (arith, times_rounds c (chunk_count x) x choice lanes (all_chunks x) (no_rounds m), times_most c (chunk_count x) 0)
+committed_at_most_once x choice lanes m c =
+    omega (arith, times_rounds c (chunk_count x) x choice lanes (all_chunks x) (no_rounds m), times_most c (chunk_count x) 0)
 
 -- ---- a round without a committed trap takes a chunk away
 
@@ -197,61 +187,53 @@ is_trap (ending.Trap t line) = Unit {0}
 not_done : (t : Trap) (line : ℕ) → ending.Trap t line ≢ ending.Done
 not_done t line e = subst (λ (e : Ending). is_trap e) e tt
 
-or_false : (a b : Bool) → (a || b) ≡ false → b ≡ false
-or_false true b e = absurd (true≢false e)
-or_false false b e = e
-
-abbrev Coherent : Judging → Type 0
-Coherent s = s.trapped ≡ true → s.ending ≢ ending.Done
-
-coherent_by : (choice : Choice) (c : ℕ) (s : Judging) (o : Outcome) (stop clash : Bool) (e : Ending) → o.ending ≡ e → (stop ≡ false → s.trapped ≡ false) → Coherent s
-    → Coherent (judged_by choice c (if stop then verdict.After else if clash then verdict.Fail else commit_or_trap e) s o)
-coherent_by choice c s o true clash e is free h = h
-coherent_by choice c s o false true e is free h = h
-coherent_by choice c s o false false ending.Done is free h = λ t d. true≢false (sym t ∙ free refl)
-coherent_by choice c s o false false (ending.Trap t line) is free h = λ _ d. not_done t line (sym is ∙ d)
-
-coherent_judged : (choice : Choice) (c : ℕ) (s : Judging) (o : Outcome) → Coherent s → Coherent (judged choice s c o)
-unfolding judged verdict_of
-coherent_judged choice c s o h =
-    coherent_by choice c s o ((is_in_order choice.order && s.failed) || s.trapped) (clashes choice.policy o s.written) o.ending refl (or_false (is_in_order choice.order && s.failed) s.trapped) h
-
-coherent_all : (x : Execution) (choice : Choice) (m : Memory) (cs : List ℕ) (s : Judging) → Coherent s → Coherent (judge_all x choice m cs s)
-coherent_all x choice m [] s h = h
-coherent_all x choice m (c ∷ cs) s h = coherent_all x choice m cs (judged choice s c (outcome x choice.reds m c)) (coherent_judged choice c s (outcome x choice.reds m c) h)
-
-coherent_round : (x : Execution) (choice : Choice) (cs : List ℕ) (m : Memory) → Coherent (round x choice cs m)
-unfolding round
-coherent_round x choice cs m = coherent_all x choice m cs (nothing_judged m) (λ e. absurd (true≢false (sym e)))
-
 pub fewer : (js : List Judged) → length (not_committed js) ≤ length js
 fewer [] = omega arith
-fewer (j ∷ js) = elim (is_committed j.verdict) as (λ b. length (cons_if (not b) j.chunk (not_committed js)) ≤ suc (length js)) [ true ↦ omega (arith, fewer js) | false ↦ omega (arith, fewer js) ]
+fewer (j ∷ js) = elim (is_committed j.verdict) as (λ b. length (cons_if (not b) j.chunk (not_committed js)) ≤ suc (length js)) [
+  | true ↦ omega (arith, fewer js)
+  | false ↦ omega (arith, fewer js)
+]
 
 fewer_after_first : (j : Judged) (js : List Judged) → is_committed j.verdict ≡ true → length (not_committed (j ∷ js)) ≤ length js
 fewer_after_first j js e = subst (λ b. length (cons_if (not b) j.chunk (not_committed js)) ≤ length js) (sym e) (fewer js)
 
-pub verdict_count : (x : Execution) (choice : Choice) (m : Memory) (cs : List ℕ) (s : Judging) → length (more_verdicts x choice m cs s) ≡ length cs
-verdict_count x choice m [] s = refl
-verdict_count x choice m (c ∷ cs) s = ap suc (verdict_count x choice m cs _)
+pub verdict_count : (x : Execution) (choice : Choice) (m : Memory) (cs : List ℕ) (earlier : Judging) → length (more_verdicts x choice m cs earlier) ≡ length cs
+verdict_count x choice m [] earlier = refl
+verdict_count x choice m (c ∷ cs) earlier = ap suc (verdict_count x choice m cs (judged choice earlier (outcome x choice.reds m c)))
 
 fewer_pending : (x : Execution) (choice : Choice) (c : ℕ) (cs : List ℕ) (m : Memory) → length (not_committed (round x choice (c ∷ cs) m).verdicts) ≤ length cs
 fewer_pending x choice c cs m =
+    let o = outcome x choice.reds m c in
+    let later = judged choice nothing_judged o in
     subst (λ js. length (not_committed js) ≤ length cs) (sym (round_verdicts x choice (c ∷ cs) m))
-    (omega (arith, fewer_after_first (record { chunk = c; verdict = verdict_of choice (nothing_judged m) (outcome x choice.reds m c) }) (more_verdicts x choice m cs (judged choice (nothing_judged m) c (outcome x choice.reds m c))) (first_committed x choice c m), verdict_count x choice m cs (judged choice (nothing_judged m) c (outcome x choice.reds m c))))
+    (omega (
+      arith,
+      verdict_count x choice m cs later,
+      fewer_after_first (record {
+        chunk = c;
+        verdict = verdict_of choice nothing_judged o;
+      }) (more_verdicts x choice m cs later) (first_committed choice o),
+    ))
 
-length_split : (lanes : ℕ) (l : List ℕ) → length (take lanes l) + length (drop lanes l) ≡ length l
+pub length_split : (lanes : ℕ) (l : List ℕ) → length (take lanes l) + length (drop lanes l) ≡ length l
 length_split zero l = omega arith
 length_split (suc n) [] = omega arith
 length_split (suc n) (d ∷ l) = omega (arith, length_split n l)
 
 -- after a round of at least one lane
-pending_falls : (x : Execution) (choice : Choice) (lanes d : ℕ) (ds : List ℕ) (s : Rounds) → 0 < lanes → length (still_pending lanes (d ∷ ds) (next_round x choice lanes (d ∷ ds) s)) ≤ length ds
+pub pending_falls : (x : Execution) (choice : Choice) (lanes d : ℕ) (ds : List ℕ) (s : Rounds) → 0 < lanes
+    → length (still_pending lanes (d ∷ ds) (next_round x choice lanes (d ∷ ds) s)) ≤ length ds
 pending_falls x choice zero d ds s h = absurd (omega arith)
 pending_falls x choice (suc n) d ds s h =
-    omega (arith, length-append (not_committed (next_round x choice (suc n) (d ∷ ds) s).verdicts) (drop n ds), fewer_pending x choice d (take n ds) s.memory, length_split n ds)
+    omega (
+      arith,
+      length-append (not_committed (next_round x choice (suc n) (d ∷ ds) s).verdicts) (drop n ds),
+      fewer_pending x choice d (take n ds) s.memory,
+      length_split n ds,
+    )
 
-times_done : (c n : ℕ) (x : Execution) (choice : Choice) (lanes : ℕ) (pending : List ℕ) (s : Rounds) → 0 < lanes → length pending ≤ n → (rounds_from n x choice lanes pending s).ending ≡ ending.Done
+times_done : (c n : ℕ) (x : Execution) (choice : Choice) (lanes : ℕ) (pending : List ℕ) (s : Rounds) → 0 < lanes → length pending ≤ n
+    → (rounds_from n x choice lanes pending s).ending ≡ ending.Done
     → times c (commits_of (rounds_from n x choice lanes pending s).rounds) ≡ times c (commits_of s.rounds) + times c pending
 times_done c zero x choice lanes [] s h l e = omega arith
 times_done c zero x choice lanes (d ∷ ds) s h l e = absurd (omega arith)
@@ -260,17 +242,19 @@ times_done c (suc n) x choice lanes (d ∷ ds) s h l e =
     let r = next_round x choice lanes (d ∷ ds) s in
     let next = times_next c x choice lanes (d ∷ ds) s in
     let shorter = pending_falls x choice lanes d ds s h in
-    elim r.trapped as (λ b. r.trapped ≡ b → (if b then with_round r s else rounds_from n x choice lanes (still_pending lanes (d ∷ ds) r) (with_round r s)).ending ≡ ending.Done
-    → times c (commits_of (if b then with_round r s else rounds_from n x choice lanes (still_pending lanes (d ∷ ds) r) (with_round r s)).rounds) ≡ times c (commits_of s.rounds) + times c (d ∷ ds)) [
-      | true ↦ λ t e. absurd (coherent_round x choice (take lanes (d ∷ ds)) s.memory t e)
-      | false ↦ λ t e. times_done c n x choice lanes (still_pending lanes (d ∷ ds) r) (with_round r s) h (omega (arith, shorter)) e ∙ next
+    let more = rounds_from n x choice lanes (still_pending lanes (d ∷ ds) r) (with_round r s) in
+    elim r.ending as (λ z. r.ending ≡ z → (unless_trapped z (with_round r s) more).ending ≡ ending.Done
+    → times c (commits_of (unless_trapped z (with_round r s) more).rounds) ≡ times c (commits_of s.rounds) + times c (d ∷ ds)) [
+      | ending.Done ↦ λ t e. times_done c n x choice lanes (still_pending lanes (d ∷ ds) r) (with_round r s) h (omega (arith, shorter)) e ∙ next
+      | ending.Trap trap line ↦ λ t e. absurd (not_done trap line (sym t ∙ e))
     ] refl e
 
-up_length : (n k : ℕ) → length (up_from n k) ≡ n
+pub up_length : (n k : ℕ) → length (up_from n k) ≡ n
 up_length zero k = refl
 up_length (suc n) k = ap suc (up_length n (suc k))
 
 pub all_committed : AllCommitted
 unfolding lockstep
 all_committed x choice lanes m h e c l =
-    times_done c (chunk_count x) x choice lanes (all_chunks x) (no_rounds m) h (omega (arith, up_length (chunk_count x) 0)) e ∙ omega (arith, times_at c (chunk_count x) 0 (omega arith) (omega arith))
+    times_done c (chunk_count x) x choice lanes (all_chunks x) (no_rounds m) h (omega (arith, up_length (chunk_count x) 0)) e
+    ∙ omega (arith, times_at c (chunk_count x) 0 (omega arith) (omega arith))

@@ -18,3 +18,13 @@ pub mod Fits
 pub mod Footprint
 pub mod Depends
 pub mod HeadsRead
+pub mod Meeting
+pub mod Turns
+pub mod Operations
+pub mod Splits
+pub mod Printed
+pub mod Unread
+pub mod Applying
+pub mod Naming
+pub mod Untouched
+pub mod Ends

@@ -6,3 +6,10 @@ pub mod DirectRuns
 pub mod Bounds
 pub mod Footprints
 pub mod Heads
+pub mod Meeting
+pub mod Turns
+pub mod Ends
+pub mod Iterations
+pub mod Commits
+pub mod Names
+pub mod PrivateMemories

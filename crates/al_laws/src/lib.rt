@@ -4,6 +4,11 @@
 pub mod bounds;
 pub mod budgets;
 pub mod chunks;
+pub mod committing;
+pub mod iterations;
+pub mod loops;
+pub mod names;
 pub mod records;
 pub mod reductions;
 pub mod rounds;
+pub mod sets;

@@ -68,6 +68,9 @@ module _ {A B : Type 0} (on_expr : TExpr-F A B → A) (on_place : TPlace-F A B �
   pub on-Calloc : (x : TExpr) (size : ℕ) → fold-TExpr A B on_expr on_place (e.Calloc x size) ≡ on_expr (TExpr-F.Calloc (fold-TExpr A B on_expr on_place x) size)
   on-Calloc x size = of_expr (TExpr-F.Calloc x size) _ (e.rolls-Calloc x size)
 
+  pub on-Free : (x : TExpr) → fold-TExpr A B on_expr on_place (e.Free x) ≡ on_expr (TExpr-F.Free (fold-TExpr A B on_expr on_place x))
+  on-Free x = of_expr (TExpr-F.Free x) _ (e.rolls-Free x)
+
   pub on-Global : (k : ℕ) → fold-TPlace A B on_expr on_place (p.Global k) ≡ on_place (TPlace-F.Global k)
   on-Global k = of_place (TPlace-F.Global k) _ (p.rolls-Global k)
 
@@ -80,4 +83,4 @@ module _ {A B : Type 0} (on_expr : TExpr-F A B → A) (on_place : TPlace-F A B �
   pub on-Elem : (q : TPlace) (x : TExpr) (size : ℕ) → fold-TPlace A B on_expr on_place (p.Elem q x size) ≡ on_place (TPlace-F.Elem (fold-TPlace A B on_expr on_place q) (fold-TExpr A B on_expr on_place x) size)
   on-Elem q x size = of_place (TPlace-F.Elem q x size) _ (p.rolls-Elem q x size)
 
-pub ruleset expr_nodes = (each, on-Number, on-Local, on-Load, on-Addr, on-Unary, on-Binary, on-Same, on-And, on-Or, on-Call, on-Input, on-Inputs, on-Choose, on-Calloc, on-Global, on-At, on-Plus, on-Elem)
+pub ruleset expr_nodes = (each, on-Number, on-Local, on-Load, on-Addr, on-Unary, on-Binary, on-Same, on-And, on-Or, on-Call, on-Input, on-Inputs, on-Choose, on-Calloc, on-Free, on-Global, on-At, on-Plus, on-Elem)

@@ -3,10 +3,10 @@ pub mod Induction
 pub mod ExprNodes
 pub mod StmtNodes
 pub mod Terms
-pub mod LoopNodes
+pub mod ParaNodes
+pub mod OnlyUpdates
 pub mod Called
 pub mod Paths
 pub mod Reaching
 pub mod Noted
 pub mod Chosen
-pub mod Choosing

@@ -14,6 +14,10 @@ module _ {A : Type 0} (p : A → Bool) where
   all_each [] = refl
   all_each (x ∷ xs) = ap (λ b. p x && b) (all_each xs)
 
+  pub all_paired : (xs : List A) → list_all {X = A × Bool} (λ s. s.1) (map (λ x. (x, p x)) xs) ≡ list_all p xs
+  all_paired [] = refl
+  all_paired (x ∷ xs) = ap (λ b. p x && b) (all_paired xs)
+
 module _ {A : Type 0} where
   pub called_each : (f : A → List ℕ) (xs : List A) → all_called (map f xs) ≡ flat_map f xs
   called_each f [] = refl

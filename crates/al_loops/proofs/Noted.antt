@@ -1,103 +1,123 @@
 -- The entries of all loops, one after another.
-use Rattle.std.proofs.Common.{◌≡◌, ◌<◌, ◌+◌, ℕ, List, [], ◌∷◌, ◌++◌, length, drop, get_or, map, Option, Some, None, Result, Ok, Err, refl, sym, ap, subst, ◌∙◌, append_assoc}
+use Rattle.std.proofs.Common.{◌≡◌, ◌<◌, ◌+◌, ℕ, zero, suc, List, [], ◌∷◌, ◌++◌, length, drop, get_or, map, Option, Some, None, Result, Ok, Err, refl, sym, ap, subst, ◌∙◌, append_assoc, arith}
 use Rattle.std.proofs.lemmas.List.{append-nil, drop_more, length-map, get_or-map}
 use Rattle.std.specs.Prelude.{slice_get}
+use Rattle.al_source.specs.Steps.{and_then}
+use Rattle.al_source.specs.Answers.{Fails}
 use Rattle.al_core.specs.declared.choices.LoopInfo.{LoopInfo}
-use Rattle.al_core.specs.declared.typed_tree.TFunc.{TFunc}
-use Rattle.al_core.specs.declared.typed_tree.TLocal.{TLocal}
+use Rattle.al_core.specs.declared.for_loops.PlacedLoop.{PlacedLoop as Found}
 use Rattle.al_core.specs.declared.typed_tree.TNote.{TNote}
 use Rattle.al_core.specs.declared.typed_tree.Typed.{Typed}
+use Rattle.al_core.specs.Loops.{PlacedLoop, program_loops}
+use Rattle.al_core.specs.LoopsInPlace.{placed_of}
 use Rattle.al_rules.specs.declared.faults.NoteFault.{NoteFault}
-use Rattle.al_rules.specs.Checks.{and_then}
-use Rattle.al_rules.specs.ForLoops.{ForLoop, for_loops_in}
-use Rattle.al_rules.specs.Notes.{entry_of, with_entry, entries_by, entries, entries_in, notes_of}
-use Rattle.al_rules.specs.declared.faults.NoteFault.TheVariants.{At, Memory}
-use Rattle.al_loops.specs.declared.loops.Loop.{Loop}
-use Rattle.al_loops.specs.Answers.{Gives, Puts}
-use Rattle.al_loops.specs.Found.{loop_of}
-use Rattle.al_loops.specs.Entries.{noted_by, noted_one, noted}
+use Rattle.al_rules.specs.Notes.{entry_of, entries, notes_of}
+use Rattle.al_loops.specs.Entries.{Noted, noted_by, noted_one, noted_from}
 
-abbrev Told : Type 0
-Told = Result (List LoopInfo) NoteFault
+-- ---- entries after those that are there
 
--- entries after those that are there
-abbrev onto : List LoopInfo → Told → Told
+abbrev onto : List LoopInfo → Noted → Noted
 onto done told = and_then told (λ more. Ok (done ++ more))
 
-onto_none : (told : Told) → onto [] told ≡ told
+onto_none : (told : Noted) → onto [] told ≡ told
 onto_none (Ok infos) = refl
 onto_none (Err fault) = refl
 
-onto_one : (done : List LoopInfo) (info : LoopInfo) (rest : Told) → onto (done ++ info ∷ []) rest ≡ onto done (and_then rest (λ infos. Ok (info ∷ infos)))
+onto_one : (done : List LoopInfo) (info : LoopInfo) (rest : Noted)
+    → onto (done ++ info ∷ []) rest ≡ onto done (and_then rest (λ infos. Ok (info ∷ infos)))
 onto_one done info (Ok infos) = ap Ok (append_assoc done (info ∷ []) infos)
 onto_one done info (Err fault) = refl
 
-onto_entry : (typed : Typed) (locals : List TLocal) (done : List LoopInfo) (ls : List ForLoop) (entry : Result LoopInfo NoteFault) → ((d : List LoopInfo) → noted typed locals d ls ≡ onto d (entries typed locals ls)) → and_then (and_then entry (λ info. Ok (done ++ info ∷ []))) (λ more. noted typed locals more ls) ≡ onto done (with_entry entry (entries typed locals ls))
-onto_entry typed locals done ls (Ok info) ih = ih (done ++ info ∷ []) ∙ onto_one done info (entries typed locals ls)
-onto_entry typed locals done ls (Err fault) ih = refl
+-- ---- the notes from a place on
 
-onto_by : (typed : Typed) (locals : List TLocal) (done : List LoopInfo) (l : ForLoop) (ls : List ForLoop) (note : Option TNote) → ((d : List LoopInfo) → noted typed locals d ls ≡ onto d (entries typed locals ls)) → and_then (noted_by typed locals done l note) (λ more. noted typed locals more ls) ≡ onto done (entries_by typed locals l note (entries typed locals ls))
-onto_by typed locals done l ls None ih = ih done
-onto_by typed locals done l ls (Some note) ih = onto_entry typed locals done ls (entry_of typed locals l note) ih
+none_left : (n : ℕ) (notes : List TNote) → slice_get notes n ≡ None → drop n notes ≡ []
+none_left zero [] e = refl
+none_left zero (note ∷ notes) e = absurd cc
+none_left (suc n) [] e = refl
+none_left (suc n) (note ∷ notes) e = none_left n notes e
 
-noted_is : (typed : Typed) (locals : List TLocal) (ls : List ForLoop) (done : List LoopInfo) → noted typed locals done ls ≡ onto done (entries typed locals ls)
+one_left : (n : ℕ) (notes : List TNote) (note : TNote) → slice_get notes n ≡ Some note → drop n notes ≡ note ∷ drop (suc n) notes
+one_left zero [] note e = absurd cc
+one_left zero (x ∷ notes) note e = ap (λ y. y ∷ notes) (same e)
+  where
+    same : Some x ≡ Some note → x ≡ note
+    same e = cc
+one_left (suc n) [] note e = absurd cc
+one_left (suc n) (x ∷ notes) note e = one_left n notes note e
+
+no_more : (n : ℕ) (notes : List TNote) → drop n notes ≡ [] → drop (suc n) notes ≡ []
+no_more zero [] e = refl
+no_more zero (x ∷ notes) e = absurd cc
+no_more (suc n) [] e = refl
+no_more (suc n) (x ∷ notes) e = no_more n notes e
+
+one_more : (n : ℕ) (notes : List TNote) → drop (suc n) notes ≡ drop (n + 1) notes
+one_more n notes = ap (λ k. drop k notes) (next n)
+  where
+    next : (n : ℕ) → suc n ≡ n + 1
+    next n = omega arith
+
+-- ---- the same entries
+
+no_entries : (typed : Typed) (n : ℕ) (ls : List PlacedLoop) → entries typed n ls [] ≡ Ok []
+no_entries typed n [] = refl
+no_entries typed n (l ∷ ls) = refl
+
+abbrev Same : Typed → ℕ → List PlacedLoop → Type 0
+Same typed n ls = (done : List LoopInfo) → noted_from typed done n ls ≡ onto done (entries typed n ls (drop n typed.loops))
+
+module _ (typed : Typed) (n : ℕ) (l : PlacedLoop) (ls : List PlacedLoop) (later : Same typed (n + 1) ls) where
+  with_note : (done : List LoopInfo) (note : TNote) (entry : Result LoopInfo NoteFault)
+      → and_then (and_then entry (λ info. Ok (done ++ info ∷ []))) (λ more. noted_from typed more (n + 1) ls)
+      ≡ onto done (and_then entry (λ info. and_then (entries typed (n + 1) ls (drop (n + 1) typed.loops)) (λ infos. Ok (info ∷ infos))))
+  with_note done note (Ok info) =
+      later (done ++ info ∷ []) ∙ onto_one done info (entries typed (n + 1) ls (drop (n + 1) typed.loops))
+  with_note done note (Err fault) = refl
+
+  by_note : (done : List LoopInfo) (m : Option TNote) → slice_get typed.loops n ≡ m
+      → and_then (noted_by typed done n l m) (λ more. noted_from typed more (n + 1) ls)
+      ≡ onto done (entries typed n (l ∷ ls) (drop n typed.loops))
+  by_note done None at =
+      let end = none_left n typed.loops at in
+      later done
+      ∙ ap (λ notes. onto done (entries typed (n + 1) ls notes)) (sym (one_more n typed.loops) ∙ no_more n typed.loops end)
+      ∙ ap (onto done) (no_entries typed (n + 1) ls)
+      ∙ ap (λ notes. onto done (entries typed n (l ∷ ls) notes)) (sym end)
+  by_note done (Some note) at =
+      with_note done note (entry_of typed n l note)
+      ∙ ap (λ notes. onto done (entries typed n (l ∷ ls) notes)) (sym (one_left n typed.loops note at ∙ ap (λ notes. note ∷ notes) (one_more n typed.loops)))
+
+same_entries : (typed : Typed) (ls : List PlacedLoop) (n : ℕ) → Same typed n ls
 unfolding noted_one
-noted_is typed locals [] done = ap Ok (sym (append-nil done))
-noted_is typed locals (l ∷ ls) done = onto_by typed locals done l ls (slice_get typed.loops l.number) (noted_is typed locals ls)
+same_entries typed [] n done = ap Ok (sym (append-nil done))
+same_entries typed (l ∷ ls) n done =
+    by_note typed n l ls (same_entries typed ls (n + 1)) done (slice_get typed.loops n) refl
 
--- the same of functions
-abbrev pub noted_in : Typed → List LoopInfo → List TFunc → Told
-noted_in typed done [] = Ok done
-noted_in typed done (f ∷ fs) = and_then (noted typed f.locals done (for_loops_in f.body)) (λ more. noted_in typed more fs)
-
-onto_both : (done here : List LoopInfo) (rest : Told) → onto (done ++ here) rest ≡ onto done (and_then rest (λ rest. Ok (here ++ rest)))
-onto_both done here (Ok infos) = ap Ok (append_assoc done here infos)
-onto_both done here (Err fault) = refl
-
-onto_func : (typed : Typed) (done : List LoopInfo) (fs : List TFunc) (here : Told) → ((d : List LoopInfo) → noted_in typed d fs ≡ onto d (entries_in typed fs)) → and_then (onto done here) (λ more. noted_in typed more fs) ≡ onto done (and_then here (λ here. and_then (entries_in typed fs) (λ rest. Ok (here ++ rest))))
-onto_func typed done fs (Ok here) ih = ih (done ++ here) ∙ onto_both done here (entries_in typed fs)
-onto_func typed done fs (Err fault) ih = refl
-
-noted_in_is : (typed : Typed) (fs : List TFunc) (done : List LoopInfo) → noted_in typed done fs ≡ onto done (entries_in typed fs)
-noted_in_is typed [] done = ap Ok (sym (append-nil done))
-noted_in_is typed (f ∷ fs) done =
-    ap (λ (told : Told). and_then told (λ more. noted_in typed more fs)) (noted_is typed f.locals (for_loops_in f.body) done)
-    ∙ onto_func typed done fs (entries typed f.locals (for_loops_in f.body)) (noted_in_is typed fs)
-
--- the program
-pub notes_are : (typed : Typed) → notes_of typed ≡ noted_in typed [] typed.funcs
+-- the program's
+pub notes_are : (typed : Typed) → notes_of typed ≡ noted_from typed [] 0 (program_loops typed)
 unfolding notes_of
-notes_are typed = sym (noted_in_is typed typed.funcs [] ∙ onto_none (entries_in typed typed.funcs))
+notes_are typed =
+    sym (same_entries typed (program_loops typed) 0 [] ∙ onto_none (entries typed 0 (program_loops typed) (drop 0 typed.loops)))
 
--- ---- steps of the loops
+-- ---- steps of the loop
 
-module _ (typed : Typed) (locals : List TLocal) (done : List LoopInfo) (items : List Loop) (i : ℕ) (l : Loop) (within : i < length items) (is : l ≡ get_or items i l) where
-  next_loop : drop i (map loop_of items) ≡ loop_of l ∷ drop (i + 1) (map loop_of items)
+module _ (typed : Typed) (done : List LoopInfo) (items : List Found) (i : ℕ) (l : Found) (within : i < length items)
+    (is : l ≡ get_or items i l) where
+  next_loop : drop i (map placed_of items) ≡ placed_of l ∷ drop (i + 1) (map placed_of items)
   next_loop =
-      drop_more (map loop_of items) i (loop_of l) (subst (λ (n : ℕ). i < n) (sym (length-map items loop_of)) within)
-      ∙ ap (λ (x : ForLoop). x ∷ drop (i + 1) (map loop_of items)) (get_or-map loop_of items i l (loop_of l) within ∙ ap loop_of (sym is))
+      drop_more (map placed_of items) i (placed_of l) (subst (λ (n : ℕ). i < n) (sym (length-map items placed_of)) within)
+      ∙ ap (λ (x : PlacedLoop). x ∷ drop (i + 1) (map placed_of items))
+      (get_or-map placed_of items i l (placed_of l) within ∙ ap placed_of (sym is))
 
-  pub noted_next : (more : List LoopInfo) → noted_one typed locals done (loop_of l) ≡ Ok more → noted typed locals done (drop i (map loop_of items)) ≡ noted typed locals more (drop (i + 1) (map loop_of items))
+  pub noted_next : (more : List LoopInfo) → noted_one typed done i (placed_of l) ≡ Ok more
+      → noted_from typed done i (drop i (map placed_of items)) ≡ noted_from typed more (i + 1) (drop (i + 1) (map placed_of items))
   noted_next more one = rw (next_loop, one) refl
 
-  pub noted_stops : (fault : NoteFault) → noted_one typed locals done (loop_of l) ≡ Err fault → noted typed locals done (drop i (map loop_of items)) ≡ Err fault
+  pub noted_stops : (fault : NoteFault) → noted_one typed done i (placed_of l) ≡ Err fault
+      → noted_from typed done i (drop i (map placed_of items)) ≡ Err fault
   noted_stops fault one = rw (next_loop, one) refl
 
-module _ (typed : Typed) (done : List LoopInfo) (funcs : List TFunc) (i : ℕ) (f : TFunc) (all : funcs ≡ typed.funcs) (within : i < length funcs) (is : f ≡ get_or funcs i f) where
-  next_func : drop i typed.funcs ≡ f ∷ drop (i + 1) typed.funcs
-  next_func = rw (← all) (drop_more funcs i f within ∙ ap (λ (x : TFunc). x ∷ drop (i + 1) funcs) (sym is))
-
-  pub funcs_next : (more : List LoopInfo) → noted typed f.locals done (for_loops_in f.body) ≡ Ok more → noted_in typed done (drop i typed.funcs) ≡ noted_in typed more (drop (i + 1) typed.funcs)
-  funcs_next more one = rw (next_func, one) refl
-
-  pub funcs_stop : (fault : NoteFault) → noted typed f.locals done (for_loops_in f.body) ≡ Err fault → noted_in typed done (drop i typed.funcs) ≡ Err fault
-  funcs_stop fault one = rw (next_func, one) refl
-
 -- a fault of a part is that of the whole
-pub puts_fault : (fault : NoteFault) (new : List LoopInfo) (part whole : Told) → ((e : NoteFault) → part ≡ Err e → whole ≡ Err e) → Puts (Err fault) new part → Puts (Err fault) new whole
-puts_fault (At kind line) new part whole h is = h (At kind line) is
-puts_fault Memory new part whole h is = is
-
-pub gives_fault : (fault : NoteFault) (new : List LoopInfo) (part whole : Told) → ((e : NoteFault) → part ≡ Err e → whole ≡ Err e) → Puts (Err fault) new part → Gives (Err fault) whole
-gives_fault (At kind line) new part whole h is = h (At kind line) is
-gives_fault Memory new part whole h is = is
+pub fails_whole : (part whole : Noted) (fault : Option NoteFault) → ((e : NoteFault) → part ≡ Err e → whole ≡ Err e) → Fails part fault → Fails whole fault
+fails_whole part whole (Some e) h is = h e is
+fails_whole part whole None h is = is

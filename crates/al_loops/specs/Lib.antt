@@ -1,5 +1,3 @@
 pub mod Walks
-pub mod Found
-pub mod Answers
 pub mod Entries
 pub mod Reach

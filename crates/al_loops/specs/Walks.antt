@@ -59,7 +59,8 @@ kind_called (TKind-F.Call e) = calls e
 kind_called (TKind-F.Print format es) = flat_map calls es
 kind_called (TKind-F.If e a b) = calls e ++ a ++ if_called b
 kind_called (TKind-F.While e a) = calls e ++ a
-kind_called (TKind-F.For first test third body number) = if_called first ++ any_joined calls test ++ if_called third ++ body
+kind_called (TKind-F.For first test third body number) =
+    if_called first ++ any_joined calls test ++ if_called third ++ body
 kind_called (TKind-F.Block ss) = all_called ss
 kind_called (TKind-F.Return e) = any_joined calls e
 kind_called TKind-F.Break = []

@@ -15,7 +15,9 @@ fn in_expr(e: &TExpr, out: &mut Items<u32>) -> Result<(), AllocError>
     match e {
         TExpr::Number(_) | TExpr::Local(_) | TExpr::Inputs => Ok(()),
         TExpr::Load(_, p) | TExpr::Addr(p) => in_place(p.get(), out),
-        TExpr::Unary(_, x) | TExpr::Input(x) | TExpr::Calloc(x, _) => in_expr(x.get(), out),
+        TExpr::Unary(_, x) | TExpr::Input(x) | TExpr::Calloc(x, _) | TExpr::Free(x) => {
+            in_expr(x.get(), out)
+        }
         TExpr::Binary(_, x, y) => {
             in_expr(x.get(), out)?;
             in_expr(y.get(), out)?;

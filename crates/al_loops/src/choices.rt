@@ -1,12 +1,10 @@
-ghost use Rattle.std.specs.Prelude.{◌≡◌, ◌==◌, ◌∷◌, [], ◌++◌, map, option_map, IfOk, OnOk};
-ghost use Rattle.std.specs.List.{find, flat_map};
-ghost use Rattle.std.specs.Option.{option_copied};
+ghost use Rattle.std.specs.Prelude.{◌≡◌, ◌∷◌, [], ◌++◌, map, IfOk, OnOk};
+ghost use Rattle.std.specs.List.{flat_map};
+ghost use Rattle.al_core.specs.Lines.{by_words};
 ghost use Rattle.al_rules.specs.Candidates as spec;
-ghost use Rattle.al_loops.specs.Found.{loop_of};
 
-use crate::loops::{self, Loop};
 use crate::reductions::reductions;
-use al_core::{Choice, CommitOrder, LoopInfo, Policy, Red, TStmt, Typed};
+use al_core::{Choice, CommitOrder, LoopInfo, Policy, Red, Typed, program_loops};
 use sqlite_items::Items;
 use std::alloc::{AllocError, Global};
 
@@ -16,14 +14,10 @@ fn choice(
     order: CommitOrder,
     reds: &[Red],
 ) -> Result<Choice, AllocError>
-    ensures { IfOk result (λ choice. choice ≡ record { policy = policy; order = order; reds = reds.now }) }
+    ensures { IfOk result (λ choice. choice ≡ by_words policy order reds.now) }
 {
     let reds = Items::from_slice(alloc, reds)?;
-    Ok(Choice {
-        policy,
-        order,
-        reds,
-    })
+    Ok(Choice::by_words(policy, order, reds))
 }
 
 fn add_both(
@@ -71,20 +65,9 @@ fn choices(alloc: Global, reds: &[Red]) -> Result<Items<Choice>, AllocError>
     Ok(list)
 }
 
-/// The body of the loop of that number.
-fn body<'a>(loops: &[Loop<'a>], number: u32) -> Option<&'a TStmt>
-    ensures { option_copied result ≡ option_map (λ l. l.body) (find (λ l. l.number == number) (map loop_of loops.now)) }
-{
-    for l in loops {
-        if l.number == number {
-            return Some(l.body);
-        }
-    }
-    None
-}
-
-/// The choices that are tried for a loop by its entry, in the order in which they are tried. They do not depend on its written annotation.
-#[tactic(auto, using(crate::proofs::LoopNodes::loops_in), unfolding(al_rules::specs::Candidates::choices))]
+/// The choices that are tried for a loop by its entry, in the order in which they are tried. They do not depend on its
+/// written annotation.
+#[tactic(auto, unfolding(al_rules::specs::Candidates::choices))]
 pub fn candidates(
     alloc: Global,
     typed: &Typed,
@@ -92,14 +75,10 @@ pub fn candidates(
 ) -> Result<Items<Choice>, AllocError>
     ensures { IfOk result (λ list. list ≡ spec.choices typed.now info.now) }
 {
-    let Some(f) = typed.funcs.get(info.func as usize) else {
+    let loops = program_loops(alloc, typed)?;
+    let Some(l) = loops.get(info.number as usize) else {
         return Ok(Items::new(alloc));
     };
-    let mut loops = Items::new(alloc);
-    loops::in_stmts(f.body.as_slice(), &mut loops)?;
-    let Some(stmt) = body(loops.as_slice(), info.number) else {
-        return Ok(Items::new(alloc));
-    };
-    let reds = reductions(alloc, typed, info, stmt)?;
+    let reds = reductions(alloc, typed, info, l.parts.body)?;
     choices(alloc, reds.as_slice())
 }

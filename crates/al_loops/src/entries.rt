@@ -2,18 +2,17 @@ ghost use Rattle.std.specs.Prelude.{◌≡◌, ◌||◌, IfOk};
 ghost use Rattle.std.specs.List.{list_any};
 ghost use Rattle.al_core.specs.Orders as orders;
 ghost use Rattle.al_rules.specs.Bodies as bodies;
-ghost use Rattle.al_rules.specs.ForLoops.{for_loops_in};
 ghost use Rattle.al_rules.specs.Notes as spec;
-ghost use Rattle.al_loops.specs.Answers.{Gives, Puts};
-ghost use Rattle.al_loops.specs.Entries.{noted, noted_one};
-ghost use Rattle.al_loops.specs.Found.{loop_of};
+ghost use Rattle.al_rules.specs.Faults.{noted};
+ghost use Rattle.al_source.specs.Answers.{Gives, Puts};
+ghost use Rattle.al_core.specs.LoopsInPlace.{placed_of};
+ghost use Rattle.al_loops.specs.Entries.{noted_one};
 
 use crate::forms::form;
-use crate::loops::{self, Loop};
 use crate::reach::reached;
 use crate::variables::{is_counter_or_bound, is_misused, is_same, is_taken};
 use crate::{assigns, leaves};
-use al_core::{Bound, Choice, LoopInfo, Red, TFunc, TLocal, TNote, TStmt, Typed};
+use al_core::{Bound, Choice, LoopInfo, PlacedLoop, Red, TNote, TStmt, Typed, program_loops};
 use al_rules::{NoteFault, NoteKind};
 use sqlite_items::Items;
 use std::alloc::{AllocError, Global};
@@ -135,6 +134,7 @@ fn info(
         policy: note.own.policy,
         order: note.own.order,
         reds: Items::from_slice(alloc, note.own.reds.as_slice())?,
+        line: note.own.line,
     };
     Ok(LoopInfo {
         number,
@@ -148,69 +148,58 @@ fn info(
     })
 }
 
-/// The entry of a loop of a function with these locals.
+/// The entry of the loop of this number, with its note.
 fn entry(
     alloc: Global,
     typed: &Typed,
-    locals: &[TLocal],
-    l: Loop<'_>,
+    number: u32,
+    l: PlacedLoop<'_>,
     note: &TNote,
 ) -> Result<LoopInfo, NoteFault>
-    ensures { Gives result (spec.entry_of typed.now locals.now (loop_of l.entry) note.now) }
+    ensures { Gives noted (spec.entry_of typed.now number (placed_of l.entry) note.now) result }
 {
-    let Some((counter, bound)) = form(locals, l) else {
+    let Some((counter, bound)) = form(l.func.locals.as_slice(), l.parts) else {
         return Err(NoteFault::At(NoteKind::Form, note.line));
     };
-    let info = info(alloc, l.number, note, counter, bound)?;
-    match wrong(alloc, typed, &info, l.body)? {
-        Some(kind) => Err(NoteFault::At(kind, note.line)),
+    let info = info(alloc, number, note, counter, bound)?;
+    match wrong(alloc, typed, &info, l.parts.body)? {
+        Some(kind) => Err(NoteFault::At(kind, info.line)),
         None => Ok(info),
     }
 }
 
+/// Adds the entry of the loop at this place, where there is a note for it. A number that does not fit would be one of
+/// more loops than a memory holds.
 #[tactic(auto, unfolding(crate::specs::Entries::noted_one))]
 fn add_entry(
     alloc: Global,
     typed: &Typed,
-    locals: &[TLocal],
-    l: Loop<'_>,
+    place: usize,
+    l: PlacedLoop<'_>,
     infos: &mut Items<LoopInfo>,
 ) -> Result<(), NoteFault>
-    ensures { Puts result infos.new (noted_one typed.now locals.now infos.old (loop_of l.entry)) }
+    ensures { Puts noted (noted_one typed.now infos.old place (placed_of l.entry)) result infos.new }
 {
-    match typed.loops.get(l.number as usize) {
-        Some(note) => {
-            infos.push(entry(alloc, typed, locals, l, note)?)?;
-            Ok(())
-        }
-        None => Ok(()),
-    }
-}
-
-fn add_entries(
-    alloc: Global,
-    typed: &Typed,
-    f: &TFunc,
-    infos: &mut Items<LoopInfo>,
-) -> Result<(), NoteFault>
-    ensures { Puts result infos.new (noted typed.now f.now.locals infos.old (for_loops_in f.now.body)) }
-{
-    let mut loops = Items::new(alloc);
-    loops::in_stmts(f.body.as_slice(), &mut loops)?;
-    for l in loops.as_slice() {
-        add_entry(alloc, typed, f.locals.as_slice(), *l, infos)?;
-    }
+    let Some(note) = typed.loops.get(place) else {
+        return Ok(());
+    };
+    let Ok(number) = u32::try_from(place) else {
+        return Err(NoteFault::Memory);
+    };
+    let info = entry(alloc, typed, number, l, note)?;
+    infos.push(info)?;
     Ok(())
 }
 
-/// The entries of the annotated loops, in source order, or the first fault: loops are taken in source order, and for each the kinds of fault in the order of `NoteKind`. The line is that of the `for`.
-#[tactic(auto, using(crate::proofs::Noted::notes_are))]
+/// The entries of the annotated loops, in source order, or the first fault: loops are taken in source order, and for
+/// each the kinds of fault in the order of `NoteKind`. The line is that of the `for`.
 pub fn notes(alloc: Global, typed: &Typed) -> Result<Items<LoopInfo>, NoteFault>
-    ensures { Gives result (spec.notes_of typed.now) }
+    ensures { Gives noted (spec.notes_of typed.now) result }
 {
+    let loops = program_loops(alloc, typed)?;
     let mut infos = Items::new(alloc);
-    for f in typed.funcs.as_slice() {
-        add_entries(alloc, typed, f, &mut infos)?;
+    for (place, l) in loops.as_slice().iter().enumerate() {
+        add_entry(alloc, typed, place, *l, &mut infos)?;
     }
     Ok(infos)
 }

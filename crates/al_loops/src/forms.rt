@@ -1,14 +1,14 @@
-//! The form of an annotated loop: `for (i = lo; i < bound; i += 1)`, where `i` is an integer local and the bound a number or another integer local.
+//! The form of an annotated loop: `for (i = lo; i < bound; i += 1)`, where `i` is an integer local and the bound a
+//! number or another integer local.
 
 ghost use Rattle.std.specs.Prelude.{◌≡◌, option_map};
 ghost use Rattle.std.specs.Option.{option_copied};
 ghost use Rattle.al_core.specs.declared.typed_tree.TExpr.{out-TExpr};
 ghost use Rattle.al_core.specs.declared.typed_tree.TKind.{out-TKind};
+ghost use Rattle.al_core.specs.LoopsInPlace.{loop_of};
 ghost use Rattle.al_rules.specs.ForLoops as spec;
-ghost use Rattle.al_loops.specs.Found.{loop_of};
 
-use crate::loops::Loop;
-use al_core::{BinOp, Bound, Kind, TExpr, TKind, TLocal, TStmt};
+use al_core::{BinOp, Bound, ForLoop, Kind, TExpr, TKind, TLocal, TStmt};
 
 /// Whether the local of that number is an integer.
 pub fn is_integer(locals: &[TLocal], n: u32) -> bool
@@ -113,7 +113,7 @@ fn counts(counter: u32, third: Option<&TStmt>) -> bool
 }
 
 /// The counter and the bound of a loop of the form, in a function with these locals.
-pub fn form(locals: &[TLocal], l: Loop<'_>) -> Option<(u32, Bound)>
+pub fn form(locals: &[TLocal], l: ForLoop<'_>) -> Option<(u32, Bound)>
     ensures { result ≡ spec.form_of locals.now (loop_of l.entry) }
 {
     let counter = counter(locals, l.first)?;

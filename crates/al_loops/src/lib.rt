@@ -1,4 +1,5 @@
-//! The annotated loops of a typed program: the entry of each, or the first fault, and the choices that are tried for one.
+//! The annotated loops of a typed program: the entry of each, or the first fault, and the choices that are tried for
+//! one.
 #![tactic(auto)]
 
 mod assigns;
@@ -7,7 +8,6 @@ mod choices;
 mod entries;
 mod forms;
 mod leaves;
-mod loops;
 mod mentions;
 mod names;
 mod reach;

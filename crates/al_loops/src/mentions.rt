@@ -35,7 +35,9 @@ pub fn in_expr(a: Addr, e: &TExpr) -> bool
         TExpr::Number(_) | TExpr::Inputs => false,
         TExpr::Local(k) => is_local(a, *k),
         TExpr::Load(_, p) | TExpr::Addr(p) => in_place(a, p.get()),
-        TExpr::Unary(_, x) | TExpr::Input(x) | TExpr::Calloc(x, _) => in_expr(a, x.get()),
+        TExpr::Unary(_, x) | TExpr::Input(x) | TExpr::Calloc(x, _) | TExpr::Free(x) => {
+            in_expr(a, x.get())
+        }
         TExpr::Binary(_, x, y) | TExpr::Same(_, x, y) | TExpr::Choose(_, x, y) => in_expr(
             a,
             x.get(),

@@ -16,7 +16,9 @@ fn in_expr(e: &TExpr, out: &mut Items<Addr>) -> Result<(), AllocError>
         TExpr::Number(_) | TExpr::Inputs => Ok(()),
         TExpr::Local(k) => out.push(Addr::Local(*k)),
         TExpr::Load(_, p) | TExpr::Addr(p) => in_place(p.get(), out),
-        TExpr::Unary(_, x) | TExpr::Input(x) | TExpr::Calloc(x, _) => in_expr(x.get(), out),
+        TExpr::Unary(_, x) | TExpr::Input(x) | TExpr::Calloc(x, _) | TExpr::Free(x) => {
+            in_expr(x.get(), out)
+        }
         TExpr::Binary(_, x, y) => {
             in_expr(x.get(), out)?;
             in_expr(y.get(), out)?;

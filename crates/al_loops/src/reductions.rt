@@ -1,5 +1,6 @@
 ghost use Rattle.std.specs.Prelude.{◌≡◌, [], take, slice_get, IfOk};
 ghost use Rattle.std.specs.List.{find, filter_map, list_any};
+ghost use Rattle.al_source.specs.declared.limits.TheConstants.{TRIED_REDUCTIONS};
 ghost use Rattle.al_core.specs.Orders as orders;
 ghost use Rattle.al_rules.specs.Candidates as spec;
 ghost use Rattle.al_loops.specs.Reach.{IsReach};
@@ -10,11 +11,9 @@ use crate::reach::reached;
 use crate::updates::updates;
 use crate::variables::{is_counter_or_bound, is_misused, is_same, is_taken};
 use al_core::{Addr, Kind, LoopInfo, Obj, Red, RedOp, TStmt, Typed};
+use al_source::limits::TRIED_REDUCTIONS;
 use sqlite_items::Items;
 use std::alloc::{AllocError, Global};
-
-/// How many reducible variables count.
-const MOST_REDUCTIONS: usize = 8;
 
 fn is_among(a: Addr, seen: &[Addr]) -> bool
     ensures { result ≡ list_any (orders.addr_eq a) seen.now }
@@ -131,11 +130,12 @@ impl Body<'_> {
 
     fn reductions(&self, alloc: Global, names: &[Addr]) -> Result<Items<Red>, AllocError>
         requires { IsReach self.now.typed.now self.now.stmt.now self.now.marks.now }
-        ensures { IfOk result (λ reds. reds ≡ take spec.most_reductions (filter_map (spec.reduction_of self.now.typed.now self.now.info.now self.now.stmt.now) names.now)) }
+        ensures { IfOk result (λ reds. reds ≡ take TRIED_REDUCTIONS
+            (filter_map (spec.reduction_of self.now.typed.now self.now.info.now self.now.stmt.now) names.now)) }
     {
         let mut reds = Items::new(alloc);
         for a in names {
-            if reds.len() < MOST_REDUCTIONS {
+            if reds.len() < TRIED_REDUCTIONS {
                 if let Some(red) = self.reduction(*a) {
                     reds.push(red)?;
                 }
@@ -145,7 +145,8 @@ impl Body<'_> {
     }
 }
 
-/// The reducible variables of a loop with this body that count: the first 8, in order of first mention.
+/// The reducible variables of a loop with this body that count: the first `TRIED_REDUCTIONS`, in order of first
+/// mention.
 pub fn reductions(
     alloc: Global,
     typed: &Typed,

@@ -19,7 +19,9 @@ fn in_expr(a: Addr, e: &TExpr) -> bool
             let (lies, taken) = in_place(a, p.get());
             lies || taken
         }
-        TExpr::Unary(_, x) | TExpr::Input(x) | TExpr::Calloc(x, _) => in_expr(a, x.get()),
+        TExpr::Unary(_, x) | TExpr::Input(x) | TExpr::Calloc(x, _) | TExpr::Free(x) => {
+            in_expr(a, x.get())
+        }
         TExpr::Binary(_, x, y) | TExpr::Same(_, x, y) | TExpr::Choose(_, x, y) => in_expr(
             a,
             x.get(),

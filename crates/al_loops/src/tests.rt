@@ -90,11 +90,8 @@ fn globals(alloc: Global) -> Result<Items<TGlobal>, Fail> {
 }
 
 fn loops(alloc: Global, line: u32, reds: &[Red]) -> Result<Items<TNote>, Fail> {
-    let own = Choice {
-        policy: Policy::Raw,
-        order: CommitOrder::InOrder,
-        reds: Items::from_slice(alloc, reds)?,
-    };
+    let reds = Items::from_slice(alloc, reds)?;
+    let own = Choice::by_words(Policy::Raw, CommitOrder::InOrder, reds);
     let mut list = Items::new(alloc);
     list.push(TNote {
         func: 0,
@@ -106,7 +103,8 @@ fn loops(alloc: Global, line: u32, reds: &[Red]) -> Result<Items<TNote>, Fail> {
     Ok(list)
 }
 
-/// A program of two globals, whose function 0 is `main` with 3 locals, all declared before the loop, and this statement.
+/// A program of two globals, whose function 0 is `main` with 3 locals, all declared before the loop, and this
+/// statement.
 fn program(alloc: Global, s: Boxed<TStmt>, line: u32, reds: &[Red]) -> Result<Typed, Fail> {
     let mut funcs = Items::new(alloc);
     funcs.push(func(alloc, 3, s)?)?;

@@ -2,11 +2,13 @@ ghost use Rattle.std.specs.Prelude.{◌≡◌, option_map};
 ghost use Rattle.std.specs.List.{list_any, list_all};
 ghost use Rattle.al_core.specs.Accepted as spec;
 ghost use Rattle.al_core.specs.declared.typed_tree.TExpr.{out-TExpr};
+ghost use Rattle.al_core.specs.Loops.{start_of, start_in};
+ghost use Rattle.al_core.specs.declared.typed_tree.TKind.{out-TKind};
 ghost use Rattle.al_core.specs.declared.typed_tree.TPlace.{out-TPlace};
 ghost use Rattle.al_rules.specs.Bodies as bodies;
 
 use crate::mentions::{self, is_global, is_local};
-use al_core::{Addr, BinOp, RedOp, TExpr, TKind, TPlace, TStmt};
+use al_core::{Addr, BinOp, Kind, RedOp, TExpr, TKind, TPlace, TStmt};
 use sqlite_items::Boxed;
 
 /// Whether `s op= e` updates by the operator.
@@ -50,7 +52,7 @@ fn is_variable(op: RedOp, a: Addr, e: &TExpr) -> bool
 {
     match e {
         TExpr::Local(k) => is_local(a, *k),
-        TExpr::Load(_, p) => is_place(op, a, p.get()),
+        TExpr::Load(Kind::Int, p) => is_place(op, a, p.get()),
         _ => false,
     }
 }
@@ -73,9 +75,38 @@ fn is_update(op: RedOp, a: Addr, by: BinOp, e: &TExpr) -> bool
     updates_by(op, by) && !mentions::in_expr(a, e)
 }
 
+#[tactic(auto, using(al_core::specs::declared::typed_tree::TKind::the_lemmas))]
+fn sets_other(op: RedOp, a: Addr, line: u32, k: &TKind) -> bool
+    ensures { result ≡ spec.starts_other op a (start_in line (out-TKind k.now)) }
+{
+    match k {
+        TKind::SetLocal(k, _) => !is_local(a, *k),
+        _ => true,
+    }
+}
+
+fn starts_other(op: RedOp, a: Addr, first: &Option<Boxed<TStmt>>) -> bool
+    ensures { result ≡ spec.starts_other op a (start_of first.now) }
+{
+    match first {
+        Some(s) => sets_other(op, a, s.get().line, &s.get().kind),
+        None => true,
+    }
+}
+
+/// Whether the loop is not annotated, or its first part sets no reduction variable.
+fn is_plain_start(op: RedOp, a: Addr, number: Option<u32>, first: &Option<Boxed<TStmt>>) -> bool
+    ensures { result ≡ spec.is_plain_start op a number (option_map (λ s. (s, spec.only_updates op a s)) first.now) }
+{
+    match number {
+        Some(_) => starts_other(op, a, first),
+        None => true,
+    }
+}
+
 /// Whether the statement mentions the variable in nothing but its updates by the operator.
 #[cycle(only)]
-#[tactic(auto, using(crate::proofs::StmtNodes::stmt_nodes), unfolding(al_core::specs::Accepted::only_updates))]
+#[tactic(auto, using(crate::proofs::ParaNodes::para_nodes), unfolding(al_core::specs::Accepted::only_updates))]
 pub fn only_updates(op: RedOp, a: Addr, s: &TStmt) -> bool
     ensures { result ≡ spec.only_updates op a s.now }
 {
@@ -115,8 +146,9 @@ pub fn only_updates(op: RedOp, a: Addr, s: &TStmt) -> bool
             !mentions::in_expr(a, e) && only_updates(op, a, s.get()) && part_only_updates(op, a, t)
         }
         TKind::While(e, s) => !mentions::in_expr(a, e) && only_updates(op, a, s.get()),
-        TKind::For(first, test, third, body, _) => {
-            part_only_updates(op, a, first)
+        TKind::For(first, test, third, body, number) => {
+            is_plain_start(op, a, *number, first)
+                && part_only_updates(op, a, first)
                 && !mentions::in_test(a, test)
                 && part_only_updates(op, a, third)
                 && only_updates(op, a, body.get())
@@ -128,7 +160,7 @@ pub fn only_updates(op: RedOp, a: Addr, s: &TStmt) -> bool
 
 #[cycle(only)]
 fn part_only_updates(op: RedOp, a: Addr, s: &Option<Boxed<TStmt>>) -> bool
-    ensures { result ≡ spec.if_only op a (option_map (spec.only_updates op a) s.now) }
+    ensures { result ≡ spec.if_only op a (option_map (λ s. (s, spec.only_updates op a s)) s.now) }
 {
     match s {
         Some(s) => only_updates(op, a, s.get()),

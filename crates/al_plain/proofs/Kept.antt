@@ -37,7 +37,8 @@ module _ {K : Type 0} (C R : K → K → Ordering) (order : C ≡ R) (o : IsTota
   pub set_contains : (s : BTreeSet K) (q : K) → sorted.contains C s q ≡ set.contains (from_list {R = R} s.keys) q
   set_contains s q = ap (λ c. sorted.contains c s q) order ∙ sym (set.contains-from_list o s.keys q)
 
-  pub set_insert : (s t : BTreeSet K) (k : K) → ((q : K) → sorted.contains C t q ≡ cond (is_at (C k) q) true (sorted.contains C s q)) → from_list {R = R} t.keys ≡ set.insert (from_list s.keys) k
+  pub set_insert : (s t : BTreeSet K) (k : K) → ((q : K) → sorted.contains C t q ≡ cond (is_at (C k) q) true (sorted.contains C s q))
+      → from_list {R = R} t.keys ≡ set.insert (from_list s.keys) k
   set_insert s t k e = set.same_set o same _ _ (λ q.
       sym (set_contains t q) ∙ e q
       ∙ (λ i. cond (at_turned k q i) true (set_contains s q i))
@@ -54,13 +55,15 @@ module _ {K : Type 0} (C R : K → K → Ordering) (order : C ≡ R) (o : IsTota
     pub map_get : (m : BTreeMap K X) (q : K) → tree.get C m q ≡ map.get (from_entries {R = R} m.entries) q
     map_get m q = ap (λ c. tree.get c m q) order ∙ found m.entries q ∙ sym (map.get-from_entries o m.entries q)
 
-    pub map_insert : (m n : BTreeMap K X) (k : K) (v : X) → ((q : K) → tree.get C n q ≡ cond (is_at (C k) q) (Some v) (tree.get C m q)) → from_entries {R = R} n.entries ≡ map.insert (from_entries m.entries) k v
+    pub map_insert : (m n : BTreeMap K X) (k : K) (v : X) → ((q : K) → tree.get C n q ≡ cond (is_at (C k) q) (Some v) (tree.get C m q))
+        → from_entries {R = R} n.entries ≡ map.insert (from_entries m.entries) k v
     map_insert m n k v e = map.same_map o same _ _ (λ q.
         sym (map_get n q) ∙ e q
         ∙ (λ i. cond (at_turned k q i) (Some v) (map_get m q i))
         ∙ sym (map.get-insert o (from_entries m.entries) k v q))
 
-    pub map_remove : (m n : BTreeMap K X) (k : K) → ((q : K) → tree.get C n q ≡ cond (is_at (C k) q) None (tree.get C m q)) → from_entries {R = R} n.entries ≡ map.remove (from_entries m.entries) k
+    pub map_remove : (m n : BTreeMap K X) (k : K) → ((q : K) → tree.get C n q ≡ cond (is_at (C k) q) None (tree.get C m q))
+        → from_entries {R = R} n.entries ≡ map.remove (from_entries m.entries) k
     map_remove m n k e = map.same_map o same _ _ (λ q.
         sym (map_get n q) ∙ e q
         ∙ (λ i. cond (at_turned k q i) None (map_get m q i))
@@ -109,7 +112,8 @@ module _ {K : Type 0} {R : K → K → Ordering} (o : IsTotalOrder R) (same : Is
         | false ↦ λ t r. let x = one_of p ks r in (x.0, x.1, ap (λ b. eq_by_cmp R x.0 k || b) x.2 ∙ or_true (eq_by_cmp R x.0 k))
       ] refl h
 
-  any_within : (p : K → Bool) (xs ys : List K) → ((x : K) → list_any (eq_by_cmp R x) xs ≡ list_any (eq_by_cmp R x) ys) → list_any p xs ≡ true → list_any p ys ≡ true
+  any_within : (p : K → Bool) (xs ys : List K) → ((x : K) → list_any (eq_by_cmp R x) xs ≡ list_any (eq_by_cmp R x) ys) → list_any p xs ≡ true
+      → list_any p ys ≡ true
   any_within p xs ys e h = let x = one_of p xs h in any_of p x.0 ys x.1 (sym (e x.0) ∙ x.2)
 
   same_truth : (a b : Bool) → (a ≡ true → b ≡ true) → (b ≡ true → a ≡ true) → a ≡ b
@@ -119,7 +123,8 @@ module _ {K : Type 0} {R : K → K → Ordering} (o : IsTotalOrder R) (same : Is
 
   pub any_kept : (p : K → Bool) (ks : List K) → list_any p (set.items (from_list {R = R} ks)) ≡ list_any p ks
   any_kept p ks =
-      let e : (x : K) → list_any (eq_by_cmp R x) (set.items (from_list {R = R} ks)) ≡ list_any (eq_by_cmp R x) ks = λ x. sym (set.contains-items (from_list ks) x) ∙ set.contains-from_list o ks x in
+      let e : (x : K) → list_any (eq_by_cmp R x) (set.items (from_list {R = R} ks))
+      ≡ list_any (eq_by_cmp R x) ks = λ x. sym (set.contains-items (from_list ks) x) ∙ set.contains-from_list o ks x in
       same_truth _ _ (any_within p (set.items (from_list ks)) ks e) (any_within p ks (set.items (from_list ks)) (λ x. sym (e x)))
 
   or_moved : (a b c : Bool) → ((a || b) || c) ≡ (b || (a || c))

@@ -4,10 +4,10 @@ pub mod AddressSets
 pub mod Replaced
 pub mod Indices
 pub mod Lists
-pub mod LoopNodes
 pub mod InTurn
 pub mod ChunkRuns
 pub mod Committed
+pub mod RoundsKept
 pub mod Counted
 pub mod Trips
 pub mod RoundsFitted

@@ -8,9 +8,9 @@ use Rattle.al_core.specs.declared.values.Obj.{Obj}
 use Rattle.al_core.specs.declared.values.Val.{Val}
 use Rattle.al_core.specs.Orders.{obj_cmp, obj_eq}
 use Rattle.al_core.specs.Memory.{with_words}
-use Rattle.al_core.specs.Applied.{added}
+use Rattle.al_core.specs.Applied.{with_made}
 use Rattle.al_laws.proofs.Orders.{obj_total, obj_apart, obj_equal}
-use Rattle.al_laws.proofs.Overlay.{added_objects}
+use Rattle.al_laws.proofs.Overlay.{get_with_made}
 
 same_cond : {A : Type 0} (b : Bool) (x y z : A) → cond b x (cond b y z) ≡ cond b x z
 same_cond true x y z = refl
@@ -23,7 +23,8 @@ module _ (m : FinMap obj_cmp (List Val)) (o : Obj) where
       ∙ same_cond (obj_eq q o) (Some ws) None (map.get m q)
       ∙ sym (map.get-insert obj_total m o ws q))
 
-  pub with_words_of : (w : ℕ) (v : Val) (ws : List Val) → map.get m o ≡ Some ws → map.insert (map.remove m o) o (slice_set ws w v) ≡ with_words m o w v (map.get m o)
+  pub with_words_of : (w : ℕ) (v : Val) (ws : List Val) → map.get m o ≡ Some ws
+      → map.insert (map.remove m o) o (slice_set ws w v) ≡ with_words m o w v (map.get m o)
   with_words_of w v ws e = put_back (slice_set ws w v) ∙ ap (with_words m o w v) (sym e)
 
   pub with_none : (w : ℕ) (v : Val) → map.get m o ≡ None → map.remove m o ≡ with_words m o w v (map.get m o)
@@ -40,6 +41,8 @@ or_empty q None = map.get-empty obj_cmp q
 or_empty q (Some ws) = refl
 
 -- objects that are added to none
-pub added_to_none : (es : List (Obj × List Val)) → T (is_sorted obj_cmp es) → (added es (record { objects = map.empty; locals = [] })).objects ≡ map.from_entries es
+pub added_to_none : (es : List (Obj × List Val)) → T (is_sorted obj_cmp es)
+    → (with_made es (record { objects = map.empty; locals = [] })).objects ≡ map.from_entries es
 added_to_none es h =
-    map.same_map obj_total obj_apart _ _ (λ q. added_objects es (record { objects = map.empty; locals = [] }) q h ∙ or_empty q (find obj_cmp q es) ∙ sym (map.get-from_entries obj_total es q))
+    map.same_map obj_total obj_apart _ _ (λ q. get_with_made es (record { objects = map.empty; locals = [] }) q h ∙ or_empty q (find obj_cmp q es)
+    ∙ sym (map.get-from_entries obj_total es q))

@@ -1,6 +1,7 @@
 -- No execution of a run has more rounds than chunks.
-use Rattle.std.proofs.Common.{◌≡◌, ℕ, ◌≤◌, List, [], ◌∷◌, ◌++◌, length, Option, Some, None, Result, Ok, Err, Bool, true, false, refl, sym, ap, subst}
+use Rattle.std.proofs.Common.{◌≡◌, ℕ, ◌≤◌, List, [], ◌∷◌, ◌++◌, length, Option, Some, None, Result, Ok, Err, Bool, true, false, refl, sym, ap, subst, append-nil}
 use Rattle.std.specs.Prelude.{ℤ, map, slice_get}
+use Rattle.al_source.specs.declared.limits.TheConstants.{ACTIVE_CALLS}
 use Rattle.al_core.specs.declared.reports.Event.{Event}
 use Rattle.al_core.specs.declared.reports.Event.TheVariants as event
 use Rattle.al_core.specs.declared.reports.Judged.{Judged}
@@ -13,7 +14,7 @@ use Rattle.al_core.specs.Loops.{Loop, loop_at}
 use Rattle.al_core.specs.Meaning.{Outside}
 use Rattle.al_core.specs.Iteration.{Execution}
 use Rattle.al_core.specs.Lockstep.{lockstep}
-use Rattle.al_core.specs.Run.{Mode, Plainly, InRounds, InChunks, Setting, Counts, Whole, by_mode, execution, at_loop, if_trips, visit_loop, outside, line_of, start, whole_run}
+use Rattle.al_core.specs.Run.{Mode, Plainly, InRounds, InChunks, Setting, Whole, by_mode, execution, at_loop, if_trips, visit_loop, outside, line_of, start, whole_run}
 use Rattle.al_core.specs.Report.{rounds_until, watched}
 use Rattle.al_laws.proofs.Abstraction.{of_call}
 use Rattle.al_laws.proofs.Commits.{rounds_at_most_chunks}
@@ -48,15 +49,19 @@ module _ (number execution line trips chunks : ℕ) (rs : List (List Judged)) wh
 abbrev Holds : Whole → Type 0
 Holds w = RoundsFit w.counts.events
 
-by_mode_fits : (x : Execution) (lanes : ℕ) (n : Counts) (m : Memory) (mode : Mode) → RoundsFit n.events → RoundsFit (by_mode x lanes n m mode).counts.events
-by_mode_fits x lanes n m Plainly f = f
-by_mode_fits x lanes n m (InRounds choice) f = more_fit _ _ _ _ _ (lockstep x choice lanes m).rounds n.events (rounds_at_most_chunks x choice lanes m) f
-by_mode_fits x lanes n m (InChunks cs) f = f
+by_mode_fits : (x : Execution) (lanes : ℕ) (m : Memory) (mode : Mode) (es : List Event) → RoundsFit es
+    → RoundsFit (es ++ (by_mode x lanes m mode).counts.events)
+by_mode_fits x lanes m Plainly es f = subst RoundsFit (sym (append-nil es)) f
+by_mode_fits x lanes m (InRounds choice) es f =
+    more_fit _ _ _ _ _ (lockstep x choice lanes m).rounds es (rounds_at_most_chunks x choice lanes m) f
+by_mode_fits x lanes m (InChunks cs) es f = subst RoundsFit (sym (append-nil es)) f
 
 module _ (g : Setting) where
   trips_fit : (l : Loop) (lo hi : ℤ) (locals : List Val) (w : Whole) (r : Result ℕ Trap) → Holds w → Holds (if_trips g l lo hi locals w r).1
   trips_fit l lo hi locals w (Err t) f = f
-  trips_fit l lo hi locals w (Ok n) f = by_mode_fits (execution g l w.executions lo n) g.sizes.lanes w.counts (at_loop w.content locals) (g.modes l.info.number w.executions) f
+  trips_fit l lo hi locals w (Ok n) f =
+      by_mode_fits (execution g l w.executions lo n) g.sizes.lanes (at_loop w.content locals) (g.modes l.info.number w.executions)
+      w.counts.events f
 
   visit_fits : (lo hi : ℤ) (locals : List Val) (w : Whole) (l : Option Loop) → Holds w → Holds (visit_loop g lo hi locals w l).1
   visit_fits lo hi locals w (Some l) f = trips_fit l lo hi locals w (trips lo hi) f
@@ -67,13 +72,16 @@ module _ (g : Setting) where
     load = λ a want. record { by = λ w f. f };
     store = λ a v. record { by = λ w f. f };
     make = λ words. record { by = λ w f. f };
+    free = λ o at. record { by = λ w f. f };
     print = λ bytes. record { by = λ w f. f };
     visit = λ loop lo hi locals. record { by = λ w f. visit_fits lo hi locals w (loop_at g.typed loop) f };
   }
 
   pub run_fits : RoundsFit (whole_run g).1.world.counts.events
   unfolding whole_run
-  run_fits = (of_call (outside g) (outside g) (λ A. Keeps Holds {A = A}) (keeps_closed Holds (outside g) world_fits) Outside g.typed.funcs g.input 256 g.typed.main [] (line_of (slice_get g.typed.funcs g.typed.main))).by (start g) tt
+  run_fits =
+      (of_call (outside g) (outside g) (λ A. Keeps Holds {A = A}) (keeps_closed Holds (outside g) world_fits) Outside g.typed.funcs g.input ACTIVE_CALLS
+      g.typed.main [] (line_of (slice_get g.typed.funcs g.typed.main))).by (start g) tt
 
 pub watched_fit : (watch : Bool) (r : Report) → RoundsFit r.events → RoundsFit (watched watch r).events
 watched_fit true r f = f

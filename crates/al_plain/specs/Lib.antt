@@ -1,10 +1,11 @@
 pub mod Codes
 pub mod Makers
+pub mod Meeting
 pub mod Found
 pub mod Executions
 pub mod Outcomes
 pub mod Pending
+pub mod Keeping
 pub mod Counting
-pub mod Results
 pub mod Bounded
 pub mod Told

@@ -3,7 +3,7 @@ use Rattle.std.specs.Prelude.{ℕ, List, [], Option, Some, None, map}
 use Rattle.al_core.specs.declared.reports.Ending.{Ending}
 use Rattle.al_core.specs.Memory.{Memory}
 use Rattle.al_core.specs.Access.{AccessRecord}
-use Rattle.al_core.specs.Chunk.{Outcome, writes_of, made_objects, gathered, fresh_accesses}
+use Rattle.al_core.specs.Chunk.{Outcome, writes_of, made_objects, sum_of, fresh_accesses}
 
 -- from what a chunk recorded, its private memory, what it printed, how it ended and its steps
 abbrev pub outcome_from : AccessRecord → Memory → List ℕ → Ending → ℕ → Outcome
@@ -12,7 +12,8 @@ outcome_from a m printed ending steps = record {
   touched = a.touched;
   writes = writes_of m a.touched;
   made = made_objects m a.made;
-  accumulators = map gathered a.accumulators;
+  freed = a.freed;
+  accumulators = map sum_of a.accumulators;
   printed = printed;
   ending = ending;
   steps = steps;

@@ -11,13 +11,14 @@ use sqlite_items::{Items, at};
 use std::alloc::{AllocError, Global};
 use std::marker::Model;
 
-/// What a chunk records: what it read before it wrote it, what it wrote, what it made, and the accumulators of its
-/// reductions.
+/// What a chunk records: what it read before it wrote it, what it wrote, what it made, which other objects it freed,
+/// and the accumulators of its reductions.
 #[derive(Drop)]
 pub struct Accesses {
     pub reads: Addresses,
     pub touched: Addresses,
     pub made: Names,
+    pub freed: Items<Obj>,
     pub reds: Items<Red>,
     pub accumulators: Items<Val>,
 }
@@ -30,7 +31,14 @@ impl Model for Accesses {
 
     ghost coded = { accesses_code };
 
-    ghost view = { λ a. record { reads = a.reads; touched = a.touched; made = a.made; reds = a.reds; accumulators = a.accumulators } };
+    ghost view = { λ a. record {
+      reads = a.reads;
+      touched = a.touched;
+      made = a.made;
+      freed = a.freed;
+      reds = a.reds;
+      accumulators = a.accumulators;
+    } };
 }
 
 /// The identity in each accumulator.
@@ -72,6 +80,7 @@ impl Accesses {
             reads: Addresses::new(alloc),
             touched: Addresses::new(alloc),
             made: Names::new(alloc),
+            freed: Items::new(alloc),
             reds: Items::from_slice(alloc, reds)?,
             accumulators: identities(alloc, reds)?,
         })
@@ -149,5 +158,27 @@ impl Accesses {
     {
         self.made.insert(o)?;
         self.touched.insert(Addr::Head(o))
+    }
+
+    /// Records that an object is freed which the chunk did not make, and whether it is there.
+    fn record_other_free(&mut self, o: Obj, there: bool) -> Result<(), AllocError>
+        ensures { OnOk result (self.new ≡ spec.record_free self.old o there) }
+    {
+        self.reads.insert(Addr::Head(o))?;
+        if there {
+            self.touched.insert(Addr::Head(o))?;
+            self.freed.push(o)?;
+        }
+        Ok(())
+    }
+
+    /// Records that an object is freed. Of one that the chunk made nothing is recorded.
+    pub fn record_free(&mut self, o: Obj, there: bool) -> Result<(), AllocError>
+        ensures { OnOk result (spec.free_recorded (Some self.old) o there ≡ Some self.new) }
+    {
+        if self.made.contains(o) {
+            return Ok(());
+        }
+        self.record_other_free(o, there)
     }
 }

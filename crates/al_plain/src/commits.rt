@@ -9,7 +9,8 @@ use crate::addresses::Addresses;
 use crate::memory::Memory;
 use crate::names::Names;
 use crate::outcomes::Outcome;
-use al_core::{Red, Val, red_apply};
+use al_core::{Obj, Red, Val, red_apply};
+use sqlite_items::Items;
 use std::alloc::{AllocError, Global};
 
 /// Lays the written words over a memory.
@@ -19,7 +20,7 @@ fn lay(
     from: &Memory,
     onto: &mut Memory,
 ) -> Result<(), AllocError>
-    ensures { OnOk result (onto.new ≡ spec.laid (map.entries (chunk.writes_of from.now touched.now)) onto.old) }
+    ensures { OnOk result (onto.new ≡ spec.with_writes (map.entries (chunk.writes_of from.now touched.now)) onto.old) }
 {
     for a in touched.items(alloc)?.as_slice() {
         if let Some(v) = from.value_at(*a) {
@@ -29,19 +30,30 @@ fn lay(
     Ok(())
 }
 
-/// Adds the objects that were made.
+/// Adds the objects that were made and are still there.
 fn add_made(alloc: Global, made: &Names, from: &Memory, onto: &mut Memory) -> Result<(), AllocError>
-    ensures { OnOk result (onto.new ≡ spec.added (map.entries (chunk.made_objects from.now made.now)) onto.old) }
+    ensures { OnOk result (onto.new ≡ spec.with_made (map.entries (chunk.made_objects from.now made.now)) onto.old) }
 {
     for o in made.items(alloc)?.as_slice() {
-        onto.add(*o, from.words(alloc, *o)?)?;
+        if let Some(words) = from.words(*o) {
+            onto.add(*o, Items::from_slice(alloc, words.as_slice())?)?;
+        }
     }
     Ok(())
 }
 
+/// Takes the freed objects out.
+fn take_out(freed: &[Obj], onto: &mut Memory)
+    ensures { onto.new ≡ spec.without_freed freed.now onto.old }
+{
+    for o in freed {
+        onto.remove(*o);
+    }
+}
+
 /// What a reduction gathered.
-fn gathered(v: Val) -> i64
-    ensures { result ≡ chunk.gathered v }
+fn sum_of(v: Val) -> i64
+    ensures { result ≡ chunk.sum_of v }
 {
     match v {
         Val::Int(n) => n,
@@ -51,7 +63,7 @@ fn gathered(v: Val) -> i64
 
 /// A reduction variable becomes its old value joined with a number.
 fn join(r: &Red, n: i64, onto: &mut Memory) -> Result<(), AllocError>
-    ensures { OnOk result (onto.new ≡ spec.joined r.now n onto.old (value_at onto.old r.now.at)) }
+    ensures { OnOk result (onto.new ≡ spec.with_sum r.now n onto.old (value_at onto.old r.now.at)) }
 {
     match onto.value_at(r.at) {
         Some(Val::Int(old)) => onto.put(r.at, Val::Int(red_apply(r.op, old, n))),
@@ -61,11 +73,11 @@ fn join(r: &Red, n: i64, onto: &mut Memory) -> Result<(), AllocError>
 
 #[tactic(auto, using(crate::proofs::Committed::none_gathered))]
 fn reduce(reds: &[Red], accumulators: &[Val], onto: &mut Memory) -> Result<(), AllocError>
-    ensures { OnOk result (onto.new ≡ spec.reduced reds.now (prelude.map chunk.gathered accumulators.now) onto.old) }
+    ensures { OnOk result (onto.new ≡ spec.with_sums reds.now (prelude.map chunk.sum_of accumulators.now) onto.old) }
 {
     match (reds, accumulators) {
         ([r, reds @ ..], [v, accumulators @ ..]) => {
-            join(r, gathered(*v), onto)?;
+            join(r, sum_of(*v), onto)?;
             reduce(reds, accumulators, onto)
         }
         ([], _) => Ok(()),
@@ -81,6 +93,7 @@ impl Outcome {
     {
         lay(alloc, &self.accesses.touched, &self.memory, onto)?;
         add_made(alloc, &self.accesses.made, &self.memory, onto)?;
+        take_out(self.accesses.freed.as_slice(), onto);
         reduce(reds, self.accesses.accumulators.as_slice(), onto)
     }
 }

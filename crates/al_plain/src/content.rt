@@ -1,16 +1,18 @@
 ghost use Rattle.std.specs.Prelude.{◌≡◌, [], ◌++◌, replicate, Some, None, pos, IfOk, OnOk};
+ghost use Rattle.al_source.specs.Answers.{Does};
 ghost use Rattle.al_core.specs.declared.values.Val.TheVariants as value;
 ghost use Rattle.al_core.specs.Access as spec;
-ghost use Rattle.al_core.specs.Access.{load as load_of, store as store_of, make as make_of, print as print_of};
-ghost use Rattle.al_core.specs.Views.{Gives};
+ghost use Rattle.al_core.specs.Access.{load as load_of, store as store_of, make as make_of, free as free_of, print as print_of};
+ghost use Rattle.al_core.specs.Views.{trapped};
 ghost use Rattle.al_core.specs.Run.{at_loop};
 ghost use Rattle.std.specs.FinMap as map;
-ghost use Rattle.al_plain.specs.Makers.{allocator_of};
+ghost use Rattle.al_plain.specs.Makers.{allocator_of, none_yet};
 
 use crate::accesses::Accesses;
 use crate::memory::{Memory, read_as};
 use crate::objects::Objects;
 use al_core::{Addr, Kind, Obj, Trap, Val, View, ViewFault};
+use al_source::limits::{ITERATION_WORDS, OUTER_WORDS};
 use sqlite_items::Items;
 use std::alloc::{AllocError, Global};
 use std::marker::Model;
@@ -39,12 +41,12 @@ impl Maker {
     }
 
     /// How many words it may allocate, each object counted as its words plus one.
-    fn limit(self) -> u32
+    fn limit(self) -> u64
         ensures { result ≡ spec.word_limit (allocator_of self) }
     {
         match self {
-            Maker::Outer => 4_194_304,
-            Maker::Iteration { .. } => 1_048_576,
+            Maker::Outer => OUTER_WORDS,
+            Maker::Iteration { .. } => ITERATION_WORDS,
         }
     }
 }
@@ -63,6 +65,7 @@ pub struct Content {
 
 impl Model for Content {
     ghost use Rattle.std.specs.Prelude.{◌≤◌};
+    ghost use Rattle.al_source.specs.declared.limits.TheConstants.{OUTER_WORDS};
     ghost use Rattle.al_core.specs.Access.{Content};
     ghost use Rattle.al_plain.specs.Codes.{content_code};
     ghost use Rattle.al_plain.specs.Makers.{allocator_of};
@@ -71,9 +74,14 @@ impl Model for Content {
 
     ghost coded = { content_code };
 
-    ghost view = { λ c. record { memory = c.memory; allocations = record { allocator = allocator_of c.maker; next = c.next; words = c.words }; printed = c.printed; accesses = c.accesses } };
+    ghost view = { λ c. record {
+      memory = c.memory;
+      allocations = record { allocator = allocator_of c.maker; next = c.next; words = c.words };
+      printed = c.printed;
+      accesses = c.accesses;
+    } };
 
-    ghost invariant = { λ c. (c.next ≤ c.words) × (c.words ≤ 4194304) };
+    ghost invariant = { λ c. (c.next ≤ c.words) × (c.words ≤ OUTER_WORDS) };
 }
 
 /// So many words that hold 0.
@@ -84,7 +92,7 @@ pub fn zeros(alloc: Global, count: usize) -> Result<Items<Val>, AllocError>
 }
 
 fn seen<T>(r: Result<T, Trap>) -> Result<T, ViewFault>
-    ensures { (c : spec.Content) → Gives result (r, c) c }
+    ensures { (c : spec.Content) → Does trapped (r, c) result c }
 {
     match r {
         Ok(a) => Ok(a),
@@ -95,7 +103,12 @@ fn seen<T>(r: Result<T, Trap>) -> Result<T, ViewFault>
 impl Content {
     /// A memory on which code runs directly.
     pub fn direct(alloc: Global, memory: Memory, maker: Maker) -> Content
-        ensures { result ≡ record { memory = memory; allocations = record { allocator = allocator_of maker; next = 0; words = 0 }; printed = []; accesses = None } }
+        ensures { result ≡ record {
+          memory = memory;
+          allocations = none_yet maker;
+          printed = [];
+          accesses = None;
+        } }
     {
         Content {
             alloc,
@@ -110,7 +123,12 @@ impl Content {
 
     /// A private memory, with what is recorded on it.
     pub fn recording(alloc: Global, memory: Memory, maker: Maker, accesses: Accesses) -> Content
-        ensures { result ≡ record { memory = memory; allocations = record { allocator = allocator_of maker; next = 0; words = 0 }; printed = []; accesses = Some accesses } }
+        ensures { result ≡ record {
+          memory = memory;
+          allocations = none_yet maker;
+          printed = [];
+          accesses = Some accesses;
+        } }
     {
         Content {
             alloc,
@@ -125,7 +143,7 @@ impl Content {
 
     /// From now on another allocates, who has not made an object yet.
     pub fn begin(&mut self, maker: Maker)
-        ensures { self.new ≡ record self.old { allocations = record { allocator = allocator_of maker; next = 0; words = 0 } } }
+        ensures { self.new ≡ record self.old { allocations = none_yet maker } }
     {
         self.maker = maker;
         self.next = 0;
@@ -157,7 +175,10 @@ impl Content {
         printed: Items<u8>,
     ) -> Result<Items<Val>, AllocError>
         ensures locals { IfOk result (λ locals. locals ≡ memory.locals) }
-        ensures rest { OnOk result (self.new ≡ record self.old { memory = record { objects = memory.objects; locals = [] }; printed = self.old.printed ++ printed }) }
+        ensures rest { OnOk result (self.new ≡ record self.old {
+          memory = record { objects = memory.objects; locals = [] };
+          printed = self.old.printed ++ printed;
+        }) }
     {
         self.memory = memory;
         self.printed.append(printed)?;
@@ -175,14 +196,34 @@ impl Content {
         }
     }
 
+    /// Records an object that is freed, where there is a record.
+    fn record_free(&mut self, o: Obj, there: bool) -> Result<(), AllocError>
+        ensures { OnOk result (self.new ≡ record self.old { accesses = spec.free_recorded self.old.accesses o there }) }
+    {
+        match &mut self.accesses {
+            Some(accesses) => accesses.record_free(o, there),
+            None => Ok(()),
+        }
+    }
+
     /// A store that finds the memory as it is told.
     fn store_found(&mut self, at: Addr, val: Val, found: Option<Val>) -> Result<(), ViewFault>
-        ensures { Gives result (spec.store_in self.old at val found) self.new }
+        ensures { Does trapped (spec.store_in self.old at val found) result self.new }
     {
         match found {
             Some(_) => Ok(self.memory.put(at, val)?),
             None => Err(ViewFault::Trap(self.memory.missing_or_outside(at))),
         }
+    }
+}
+
+/// Whether a place may be freed: the first word of an object that is no global.
+fn is_freeable(o: Obj, at: u32) -> bool
+    ensures { result ≡ spec.is_freeable o at }
+{
+    match o {
+        Obj::Global(_) => false,
+        Obj::Serial(_) | Obj::Iter(_, _, _) => at == 0,
     }
 }
 
@@ -228,7 +269,7 @@ impl View for Content {
     #[tactic(auto, unfolding(al_core::specs::Access::make))]
     fn make(&mut self, words: u32) -> Result<Obj, ViewFault> {
         let total = u64::from(self.words) + u64::from(words) + 1;
-        if total > u64::from(self.maker.limit()) {
+        if total > self.maker.limit() {
             return Err(ViewFault::Trap(Trap::Alloc));
         }
         let o = self.maker.name(self.next);
@@ -237,6 +278,20 @@ impl View for Content {
         self.next += 1;
         self.words = total as u32;
         Ok(o)
+    }
+
+    #[tactic(auto, unfolding(al_core::specs::Access::free))]
+    fn free(&mut self, obj: Obj, at: u32) -> Result<(), ViewFault> {
+        if !is_freeable(obj, at) {
+            return Err(ViewFault::Trap(Trap::BadFree));
+        }
+        let there = self.memory.has_object(obj);
+        self.record_free(obj, there)?;
+        if !there {
+            return Err(ViewFault::Trap(Trap::Freed));
+        }
+        self.memory.remove(obj);
+        Ok(())
     }
 
     #[tactic(auto, unfolding(al_core::specs::Access::print))]

@@ -1,6 +1,6 @@
 ghost use Rattle.std.specs.Prelude.{◌≡◌, ◌+◌, [], IfOk, OnOk};
 ghost use Rattle.al_core.specs.Run as spec;
-ghost use Rattle.al_plain.specs.Counting.{entered, with_round, with_rounds};
+ghost use Rattle.al_plain.specs.Counting.{entered, with_round, with_rounds, with_steps};
 ghost use Rattle.al_plain.specs.Executions.{execution_of};
 
 use crate::iterations::Execution;
@@ -34,7 +34,14 @@ impl Model for Counts {
 
     ghost coded = { counts_code };
 
-    ghost view = { λ n. record { loops = n.loops; rounds = n.rounds; attempts = n.attempts; aborted = n.aborted; span = n.span; events = n.events } };
+    ghost view = { λ n. record {
+      loops = n.loops;
+      rounds = n.rounds;
+      attempts = n.attempts;
+      aborted = n.aborted;
+      span = n.span;
+      events = n.events;
+    } };
 }
 
 fn sum(a: u64, b: usize) -> Result<u64, AllocError>
@@ -91,25 +98,51 @@ impl Counts {
         Ok(())
     }
 
-    pub fn count_steps(&mut self, steps: u128) -> Result<(), AllocError>
-        ensures { OnOk result (self.new ≡ spec.count_steps steps self.old) }
+    fn count_steps(&mut self, steps: u128) -> Result<(), AllocError>
+        ensures { OnOk result (self.new ≡ with_steps steps self.old) }
     {
         self.span = self.span.checked_add(steps).ok_or(AllocError)?;
         Ok(())
     }
 
-    /// Counts an execution in rounds.
-    #[tactic(auto, using(crate::proofs::Counted::counted))]
-    pub fn count_rounds(
-        &mut self,
-        alloc: Global,
-        x: &Execution<'_>,
-        r: &Rounds,
-    ) -> Result<(), AllocError>
-        ensures { OnOk result (self.new ≡ spec.count_rounds (execution_of x.now) r.now self.old) }
+    /// The counts of an execution that spent so many steps outside rounds.
+    pub fn of_steps(alloc: Global, steps: u128) -> Counts
+        ensures { result ≡ spec.counts_of_steps steps }
     {
-        self.enter(x)?;
-        self.count_each(alloc, r.rounds.as_slice())?;
-        self.count_steps(r.span)
+        let mut n = Counts::none(alloc);
+        n.span = steps;
+        n
+    }
+
+    /// The counts of an execution in rounds.
+    #[tactic(auto, using(crate::proofs::Counted::counted))]
+    pub fn of_rounds(alloc: Global, x: &Execution<'_>, r: &Rounds) -> Result<Counts, AllocError>
+        ensures { IfOk result (λ n. n ≡ spec.counts_of_rounds (execution_of x.now) r.now) }
+    {
+        let mut n = Counts::none(alloc);
+        n.enter(x)?;
+        n.count_each(alloc, r.rounds.as_slice())?;
+        n.count_steps(r.span)?;
+        Ok(n)
+    }
+
+    /// Adds the counts of what came next.
+    pub fn add(&mut self, more: Counts) -> Result<(), AllocError>
+        ensures { OnOk result (self.new ≡ spec.counts_with self.old more) }
+    {
+        let Counts {
+            loops,
+            rounds,
+            attempts,
+            aborted,
+            span,
+            events,
+        } = more;
+        self.loops = self.loops.checked_add(loops).ok_or(AllocError)?;
+        self.rounds = self.rounds.checked_add(rounds).ok_or(AllocError)?;
+        self.attempts = self.attempts.checked_add(attempts).ok_or(AllocError)?;
+        self.aborted = self.aborted.checked_add(aborted).ok_or(AllocError)?;
+        self.count_steps(span)?;
+        self.events.append(events)
     }
 }

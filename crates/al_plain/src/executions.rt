@@ -2,7 +2,8 @@ ghost use Rattle.std.specs.Prelude.{◌≡◌, slice_get, IfOk};
 ghost use Rattle.std.specs.Option.{option_copied};
 ghost use Rattle.al_core.specs.Run as spec;
 ghost use Rattle.al_core.specs.Report.{mode_of, by_choices};
-ghost use Rattle.al_plain.specs.Results.{result_of, Ends};
+ghost use Rattle.al_source.specs.Answers.{Gives};
+ghost use Rattle.al_interpreter.specs.Faults.{stopped};
 ghost use Rattle.al_plain.specs.Executions.{execution_of, IsBounded};
 
 use crate::counts::Counts;
@@ -14,32 +15,41 @@ use al_core::{Choice, Ending, Val};
 use al_interpreter::Fault;
 use sqlite_items::{Items, at};
 use std::alloc::{AllocError, Global};
+use std::marker::Model;
 
-/// What an execution has come to.
+/// What an execution comes to: the memory, what it printed, how it ended, and its counts.
 #[derive(Drop)]
 pub struct LoopResult {
     pub memory: Memory,
     pub printed: Items<u8>,
     pub ending: Ending,
+    pub counts: Counts,
 }
 
-fn plainly(
-    alloc: Global,
-    x: &Execution<'_>,
-    counts: &mut Counts,
-    memory: Memory,
-) -> Result<LoopResult, AllocError>
+impl Model for LoopResult {
+    ghost use Rattle.al_core.specs.Run.{LoopResult};
+    ghost use Rattle.al_plain.specs.Codes.{result_code};
+
+    ghost Value = { LoopResult };
+
+    ghost coded = { result_code };
+
+    ghost view = { λ r. record { memory = r.memory; printed = r.printed; ending = r.ending; counts = r.counts } };
+}
+
+fn plainly(alloc: Global, x: &Execution<'_>, memory: Memory) -> Result<LoopResult, AllocError>
     requires { IsBounded x.now }
-    ensures { IfOk result (λ r. result_of r counts.new ≡ spec.by_mode (execution_of x.now) x.now.on.knobs.lanes counts.old memory spec.Plainly) }
+    ensures { IfOk result (λ r. r ≡ spec.by_mode (execution_of x.now) x.now.on.knobs.lanes memory spec.Plainly) }
 {
     let r = plain_loop(alloc, x, memory)?;
-    counts.count_steps(r.steps)?;
+    let counts = Counts::of_steps(alloc, r.steps);
     let ending = r.ending;
     let (memory, printed) = r.into_memory();
     Ok(LoopResult {
         memory,
         printed,
         ending,
+        counts,
     })
 }
 
@@ -47,37 +57,34 @@ fn in_rounds(
     alloc: Global,
     x: &Execution<'_>,
     choice: &Choice,
-    counts: &mut Counts,
     memory: Memory,
 ) -> Result<LoopResult, AllocError>
     requires { IsBounded x.now }
-    ensures { IfOk result (λ r. result_of r counts.new ≡ spec.by_mode (execution_of x.now) x.now.on.knobs.lanes counts.old memory (spec.InRounds choice.now)) }
+    ensures { let mode = spec.InRounds choice.now in
+        IfOk result (λ r. r ≡ spec.by_mode (execution_of x.now) x.now.on.knobs.lanes memory mode) }
 {
     let r = lockstep(alloc, x, choice, memory)?;
-    counts.count_rounds(alloc, x, &r)?;
+    let counts = Counts::of_rounds(alloc, x, &r)?;
     let ending = r.ending;
     let (memory, printed) = r.into_memory();
     Ok(LoopResult {
         memory,
         printed,
         ending,
+        counts,
     })
 }
 
 /// Runs an execution in rounds, where its loop has a choice, and else plain.
-pub fn execute(
-    alloc: Global,
-    x: &Execution<'_>,
-    counts: &mut Counts,
-    memory: Memory,
-) -> Result<LoopResult, AllocError>
+pub fn execute(alloc: Global, x: &Execution<'_>, memory: Memory) -> Result<LoopResult, AllocError>
     requires { IsBounded x.now }
-    ensures { IfOk result (λ r. result_of r counts.new ≡ spec.by_mode (execution_of x.now) x.now.on.knobs.lanes counts.old memory (by_choices x.now.on.choices.now x.now.looped.number x.now.number)) }
+    ensures { let mode = by_choices x.now.on.choices.now x.now.looped.number x.now.number in
+        IfOk result (λ r. r ≡ spec.by_mode (execution_of x.now) x.now.on.knobs.lanes memory mode) }
 {
     match at(x.on.choices, x.looped.number as usize) {
-        Some(Some(choice)) => in_rounds(alloc, x, choice, counts, memory),
-        Some(None) => plainly(alloc, x, counts, memory),
-        None => plainly(alloc, x, counts, memory),
+        Some(Some(choice)) => in_rounds(alloc, x, choice, memory),
+        Some(None) => plainly(alloc, x, memory),
+        None => plainly(alloc, x, memory),
     }
 }
 
@@ -88,7 +95,7 @@ pub fn after_loop(
     ending: Ending,
     mut locals: Items<Val>,
 ) -> Result<Items<Val>, Fault>
-    ensures { Ends (spec.after_loop (execution_of x.now) hi ending locals) result }
+    ensures { Gives stopped (spec.after_loop (execution_of x.now) hi ending locals) result }
 {
     match ending {
         Ending::Done => {

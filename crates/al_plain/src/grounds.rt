@@ -1,6 +1,9 @@
 ghost use Rattle.al_core.specs.Access.{in_iteration};
 ghost use Rattle.al_core.specs.Meaning.{Inside};
-ghost use Rattle.al_interpreter.specs.Does.{Tells, Prints, Visits, setting_of};
+ghost use Rattle.al_source.specs.Answers.{Does};
+ghost use Rattle.al_core.specs.Views.{trapped};
+ghost use Rattle.al_interpreter.specs.Faults.{stopped};
+ghost use Rattle.al_interpreter.specs.Settings.{setting_of};
 ghost use Rattle.al_interpreter.specs.Stages.{is_outside};
 ghost use Rattle.std.specs.Prelude.{◌≡◌};
 
@@ -28,6 +31,10 @@ impl Ground for Content {
 
     fn make(&mut self, _on: &Setting<'_>, words: u32) -> Result<Obj, ViewFault> {
         View::make(self, words)
+    }
+
+    fn free(&mut self, _on: &Setting<'_>, obj: Obj, at: u32) -> Result<(), ViewFault> {
+        View::free(self, obj, at)
     }
 
     fn print(&mut self, _on: &Setting<'_>, bytes: &[u8]) -> Result<(), AllocError> {

@@ -1,46 +1,36 @@
-ghost use Rattle.std.specs.Prelude.{◌≡◌, IfOk, OnOk};
-ghost use Rattle.al_core.specs.Round as spec;
-ghost use Rattle.al_plain.specs.Executions.{execution_of, IsBounded};
+ghost use Rattle.std.specs.Prelude.{◌≡◌, ◌++◌, IfOk, OnOk};
+ghost use Rattle.al_core.specs.Verdicts as spec;
 
 use crate::addresses::Addresses;
-use crate::iterations::Execution;
-use crate::memory::Memory;
 use crate::outcomes::Outcome;
-use al_core::{Choice, CommitOrder, Ending, Judged, Verdict};
+use al_core::{Choice, CommitOrder, Ending, Verdict};
 use sqlite_items::Items;
 use std::alloc::{AllocError, Global};
 use std::marker::Model;
 
-/// What a round has come to so far.
+/// What a verdict depends on beside the outcome itself.
 #[derive(Drop)]
 pub struct Judging {
-    pub memory: Memory,
-    /// The addresses that its committed chunks wrote.
-    pub written: Addresses,
-    pub failed: bool,
-    pub trapped: bool,
-    pub verdicts: Items<Judged>,
-    pub printed: Items<u8>,
-    pub ending: Ending,
-    /// The most steps of a chunk.
-    pub longest: u128,
+    /// The addresses that the committed outcomes wrote.
+    written: Addresses,
+    /// Whether an outcome failed.
+    failed: bool,
+    /// Whether a trap was committed.
+    trapped: bool,
 }
 
 impl Model for Judging {
-    ghost use Rattle.std.specs.Prelude.{◌<◌, ◌^◌};
-    ghost use Rattle.al_core.specs.Round.{Judging};
+    ghost use Rattle.al_core.specs.Verdicts.{Judging};
     ghost use Rattle.al_plain.specs.Codes.{judging_code};
 
     ghost Value = { Judging };
 
     ghost coded = { judging_code };
 
-    ghost view = { λ j. record { memory = j.memory; written = j.written; failed = j.failed; trapped = j.trapped; verdicts = j.verdicts; printed = j.printed; ending = j.ending; longest = j.longest } };
-
-    ghost invariant = { λ j. j.longest < 2 ^ 89 };
+    ghost view = { λ j. record { written = j.written; failed = j.failed; trapped = j.trapped } };
 }
 
-/// Whether after a failed chunk no later one may commit.
+/// Whether after a failed outcome no later one may commit.
 fn is_in_order(order: CommitOrder) -> bool
     ensures { result ≡ spec.is_in_order order }
 {
@@ -60,60 +50,38 @@ fn commit_or_trap(ending: Ending) -> Verdict
 }
 
 impl Judging {
-    fn nothing(alloc: Global, memory: Memory) -> Judging
-        ensures { result ≡ spec.nothing_judged memory }
+    fn nothing(alloc: Global) -> Judging
+        ensures { result ≡ spec.nothing_judged }
     {
         Judging {
-            memory,
             written: Addresses::new(alloc),
             failed: false,
             trapped: false,
-            verdicts: Items::new(alloc),
-            printed: Items::new(alloc),
-            ending: Ending::Done,
-            longest: 0,
         }
     }
 
     /// The verdict on an outcome.
-    #[tactic(auto, unfolding(al_core::specs::Round::verdict_of))]
+    #[tactic(auto, unfolding(al_core::specs::Verdicts::verdict_of))]
     fn verdict(&self, alloc: Global, choice: &Choice, o: &Outcome) -> Result<Verdict, AllocError>
         ensures { IfOk result (λ v. v ≡ spec.verdict_of choice.now self.now o.now) }
     {
         if (is_in_order(choice.order) && self.failed) || self.trapped {
             return Ok(Verdict::After);
         }
-        if o.clashes(alloc, choice.policy, &self.written)? {
+        if o.clashes(alloc, choice.policy, choice.line, &self.written)? {
             return Ok(Verdict::Fail);
         }
         Ok(commit_or_trap(o.ending))
     }
 
-    fn commit(&mut self, alloc: Global, choice: &Choice, o: &Outcome) -> Result<(), AllocError>
-        ensures { OnOk result (self.new ≡ spec.committed choice.now self.old o.now) }
+    /// Goes on after an outcome with this verdict.
+    fn go_on(&mut self, alloc: Global, verdict: Verdict, o: &Outcome) -> Result<(), AllocError>
+        ensures { OnOk result (self.new ≡ spec.after_verdict verdict self.old o.now) }
     {
-        o.apply(alloc, choice.reds.as_slice(), &mut self.memory)?;
-        self.written.join(alloc, &o.accesses.touched)?;
-        self.printed
-            .append(Items::from_slice(alloc, o.printed.as_slice())?)?;
-        self.ending = o.ending;
-        Ok(())
-    }
-
-    /// Commits a chunk or not. Of one that does not commit nothing is kept.
-    fn settle(
-        &mut self,
-        alloc: Global,
-        choice: &Choice,
-        v: Verdict,
-        o: &Outcome,
-    ) -> Result<(), AllocError>
-        ensures { OnOk result (self.new ≡ spec.settled choice.now v self.old o.now) }
-    {
-        match v {
-            Verdict::Commit => self.commit(alloc, choice, o)?,
+        match verdict {
+            Verdict::Commit => self.written.join(alloc, &o.accesses.touched)?,
             Verdict::CommitTrap => {
-                self.commit(alloc, choice, o)?;
+                self.written.join(alloc, &o.accesses.touched)?;
                 self.trapped = true;
             }
             Verdict::Fail => self.failed = true,
@@ -122,41 +90,40 @@ impl Judging {
         Ok(())
     }
 
-    /// Judges a chunk's outcome.
-    #[tactic(auto, unfolding(al_core::specs::Round::judged))]
-    fn judge(
-        &mut self,
-        alloc: Global,
-        choice: &Choice,
-        c: u64,
-        o: &Outcome,
-    ) -> Result<(), AllocError>
-        ensures { OnOk result (self.new ≡ spec.judged choice.now self.old c o.now) }
+    /// Judges an outcome.
+    #[tactic(auto, unfolding(al_core::specs::Verdicts::judged))]
+    fn judge(&mut self, alloc: Global, choice: &Choice, o: &Outcome) -> Result<Verdict, AllocError>
+        ensures verdict { IfOk result (λ v. v ≡ spec.verdict_of choice.now self.old o.now) }
+        ensures after { OnOk result (self.new ≡ spec.judged choice.now self.old o.now) }
     {
         let verdict = self.verdict(alloc, choice, o)?;
-        self.settle(alloc, choice, verdict, o)?;
-        self.verdicts.push(Judged { chunk: c, verdict })?;
-        self.longest = self.longest.max(o.steps);
-        Ok(())
+        self.go_on(alloc, verdict, o)?;
+        Ok(verdict)
     }
 }
 
-/// A round: each chunk runs on the memory at its start, and they are judged in order.
-#[tactic(auto, unfolding(al_core::specs::Round::round))]
-pub fn round(
+/// The verdicts of the outcomes of a round, one after another.
+#[tactic(auto, unfolding(al_core::specs::Verdicts::verdicts))]
+pub fn verdicts(
     alloc: Global,
-    x: &Execution<'_>,
     choice: &Choice,
-    lanes: &[u64],
-    memory: &Memory,
-) -> Result<Judging, AllocError>
-    requires { IsBounded x.now }
-    ensures { IfOk result (λ r. r ≡ spec.round (execution_of x.now) choice.now lanes.now memory.now) }
+    outcomes: &[Outcome],
+) -> Result<Items<Verdict>, AllocError>
+    ensures { IfOk result (λ vs. vs ≡ spec.verdicts choice.now outcomes.now) }
 {
-    let mut so_far = Judging::nothing(alloc, memory.copy(alloc)?);
-    for c in lanes {
-        let o = Outcome::run(alloc, x, choice.reds.as_slice(), memory, *c)?;
-        so_far.judge(alloc, choice, *c, &o)?;
+    let mut earlier = Judging::nothing(alloc);
+    let mut all = Items::new(alloc);
+    for o in outcomes {
+        all.push(earlier.judge(alloc, choice, o)?)?;
     }
-    Ok(so_far)
+    Ok(all)
+}
+
+pub fn is_committed(verdict: Verdict) -> bool
+    ensures { result ≡ spec.is_committed verdict }
+{
+    match verdict {
+        Verdict::Commit | Verdict::CommitTrap => true,
+        Verdict::Fail | Verdict::After => false,
+    }
 }

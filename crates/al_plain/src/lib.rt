@@ -15,6 +15,7 @@ pub mod memory;
 pub mod names;
 pub mod objects;
 pub mod outcomes;
+pub mod round;
 pub mod rounds;
 pub mod runs;
 pub mod whole;

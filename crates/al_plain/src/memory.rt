@@ -1,4 +1,5 @@
-ghost use Rattle.std.specs.Prelude.{◌≡◌, IfOk, OnOk, IsTrue};
+ghost use Rattle.std.specs.Prelude.{◌≡◌, IfOk, OnOk};
+ghost use Rattle.std.specs.Option.{option_copied};
 ghost use Rattle.std.specs.FinMap as map;
 ghost use Rattle.al_core.specs.Memory as spec;
 ghost use Rattle.al_core.specs.Access as access;
@@ -90,14 +91,18 @@ impl Memory {
         self.objects.insert(o, words)
     }
 
-    /// The words of an object, and none where it is not there.
-    pub fn words(&self, alloc: Global, o: Obj) -> Result<Items<Val>, AllocError>
-        ensures { IfOk result (λ words. words ≡ spec.words_or_none (map.get self.now.objects o)) }
+    /// Takes an object out.
+    pub fn remove(&mut self, o: Obj)
+        ensures { self.new ≡ spec.remove self.old o }
     {
-        match self.objects.get(o) {
-            Some(words) => Items::from_slice(alloc, words.as_slice()),
-            None => Ok(Items::new(alloc)),
-        }
+        let _words = self.objects.take(o);
+    }
+
+    /// The words of an object that is there.
+    pub fn words(&self, o: Obj) -> Option<&Items<Val>>
+        ensures { option_copied result ≡ map.get self.now.objects o }
+    {
+        self.objects.get(o)
     }
 
     /// Why an address has no value.

@@ -52,8 +52,8 @@ impl Objects {
         Ok(())
     }
 
-    /// Takes an object away.
-    fn take(&mut self, o: Obj) -> Option<Items<Val>>
+    /// Takes an object out, with its words.
+    pub fn take(&mut self, o: Obj) -> Option<Items<Val>>
         ensures taken { result ≡ map.get self.old o }
         ensures rest { self.new ≡ map.remove self.old o }
     {

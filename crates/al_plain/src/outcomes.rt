@@ -111,15 +111,19 @@ impl Outcome {
         &self,
         alloc: Global,
         policy: Policy,
+        line: u32,
         written: &Addresses,
     ) -> Result<bool, AllocError>
-        ensures { IfOk result (λ r. r ≡ clash.clashes policy self.now written.now) }
+        ensures { IfOk result (λ r. r ≡ clash.clashes policy line self.now written.now) }
     {
         let (reads, touched) = (&self.accesses.reads, &self.accesses.touched);
         match policy {
-            Policy::Full => Ok(reads.meets(alloc, written)? || touched.meets(alloc, written)?),
-            Policy::Raw => reads.meets(alloc, written),
-            Policy::Waw => touched.meets(alloc, written),
+            Policy::Full => Ok(
+                reads.meets_lines(alloc, line, written)?
+                    || touched.meets_lines(alloc, line, written)?,
+            ),
+            Policy::Raw => reads.meets_lines(alloc, line, written),
+            Policy::Waw => touched.meets_lines(alloc, line, written),
             Policy::None => Ok(false),
         }
     }

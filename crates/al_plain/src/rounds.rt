@@ -1,14 +1,14 @@
-ghost use Rattle.std.specs.Prelude.{◌≡◌, ◌+◌, ◌^◌, ◌<◌, ◌≤◌, ◌++◌, [], length, take, drop, IfOk, OnOk};
-ghost use Rattle.al_core.specs.declared.reports.Ending.TheVariants as ending;
+ghost use Rattle.std.specs.Prelude.{◌≡◌, ◌+◌, ◌^◌, ◌<◌, ◌≤◌, ◌++◌, length, take, drop, IfOk, OnOk};
 ghost use Rattle.al_core.specs.Chunk.{chunk_count};
 ghost use Rattle.al_core.specs.Lockstep as spec;
-ghost use Rattle.al_plain.specs.Pending.{left_after};
+ghost use Rattle.al_plain.specs.Pending.{left_after, next_round};
 ghost use Rattle.al_plain.specs.Executions.{execution_of, IsBounded};
 
 use crate::iterations::Execution;
-use crate::judging::{Judging, round};
+use crate::judging::is_committed;
 use crate::memory::Memory;
-use al_core::{Choice, Ending, Judged, Verdict};
+use crate::round::Round;
+use al_core::{Choice, Ending, Judged};
 use sqlite_items::Items;
 use std::alloc::{AllocError, Global};
 use std::marker::Model;
@@ -34,18 +34,15 @@ impl Model for Rounds {
 
     ghost coded = { rounds_code };
 
-    ghost view = { λ r. record { memory = r.memory; printed = r.printed; ending = r.ending; rounds = r.rounds; span = r.span } };
+    ghost view = { λ r. record {
+      memory = r.memory;
+      printed = r.printed;
+      ending = r.ending;
+      rounds = r.rounds;
+      span = r.span;
+    } };
 
     ghost invariant = { λ r. r.span ≤ length r.rounds * 2 ^ 89 };
-}
-
-fn is_committed(verdict: Verdict) -> bool
-    ensures { result ≡ spec.is_committed verdict }
-{
-    match verdict {
-        Verdict::Commit | Verdict::CommitTrap => true,
-        Verdict::Fail | Verdict::After => false,
-    }
 }
 
 /// The chunks of a round that stay pending.
@@ -86,7 +83,7 @@ fn still_pending(
     alloc: Global,
     lanes: usize,
     pending: &[u64],
-    r: &Judging,
+    r: &Round,
 ) -> Result<Items<u64>, AllocError>
     ensures { IfOk result (λ left. left ≡ spec.still_pending lanes pending.now r.now) }
 {
@@ -100,14 +97,13 @@ fn left_after(
     alloc: Global,
     lanes: usize,
     pending: &[u64],
-    r: &Judging,
+    r: &Round,
 ) -> Result<Option<Items<u64>>, AllocError>
     ensures { IfOk result (λ left. left ≡ left_after lanes pending.now r.now) }
 {
-    if r.trapped {
-        Ok(None)
-    } else {
-        Ok(Some(still_pending(alloc, lanes, pending, r)?))
+    match r.ending {
+        Ending::Done => Ok(Some(still_pending(alloc, lanes, pending, r)?)),
+        Ending::Trap(_, _) => Ok(None),
     }
 }
 
@@ -137,7 +133,7 @@ pub fn chunks(x: &Execution<'_>) -> u64
 
 impl Rounds {
     fn none(alloc: Global, memory: Memory) -> Rounds
-        ensures { result ≡ record { memory = memory; printed = []; ending = ending.Done; rounds = []; span = 0 } }
+        ensures { result ≡ spec.no_rounds memory }
     {
         Rounds {
             memory,
@@ -155,16 +151,13 @@ impl Rounds {
         (self.memory, self.printed)
     }
 
-    fn add(&mut self, r: Judging) -> Result<(), AllocError>
+    fn add(&mut self, r: Round) -> Result<(), AllocError>
         requires { length self.old.rounds < 2 ^ 32 }
         ensures { OnOk result (self.new ≡ spec.with_round r self.old) }
     {
-        let Judging {
-            memory,
-            written: _,
-            failed: _,
-            trapped: _,
+        let Round {
             verdicts,
+            memory,
             printed,
             ending,
             longest,
@@ -184,12 +177,12 @@ impl Rounds {
         x: &Execution<'_>,
         choice: &Choice,
         pending: &[u64],
-    ) -> Result<Judging, AllocError>
+    ) -> Result<Round, AllocError>
         requires { IsBounded x.now }
-        ensures { IfOk result (λ r. r ≡ spec.next_round (execution_of x.now) choice.now x.now.on.knobs.lanes pending.now self.now) }
+        ensures { IfOk result (λ r. r ≡ next_round x.now choice.now pending.now self.now.memory) }
     {
-        let lanes = first_of(pending, x.on.knobs.lanes as usize);
-        round(alloc, x, choice, lanes, &self.memory)
+        let chunks = first_of(pending, x.on.knobs.lanes as usize);
+        Round::run(alloc, x, choice, chunks, &self.memory)
     }
 
     /// One more round. It answers what is pending after it, and nothing where a trap was committed.
@@ -202,8 +195,10 @@ impl Rounds {
     ) -> Result<Option<Items<u64>>, AllocError>
         requires bounded { IsBounded x.now }
         requires room { length self.old.rounds < 2 ^ 32 }
-        ensures left { IfOk result (λ left. left ≡ left_after x.now.on.knobs.lanes pending.now (spec.next_round (execution_of x.now) choice.now x.now.on.knobs.lanes pending.now self.old)) }
-        ensures rounds { OnOk result (self.new ≡ spec.with_round (spec.next_round (execution_of x.now) choice.now x.now.on.knobs.lanes pending.now self.old) self.old) }
+        ensures left { let r = next_round x.now choice.now pending.now self.old.memory in
+            IfOk result (λ left. left ≡ left_after x.now.on.knobs.lanes pending.now r) }
+        ensures rounds { let r = next_round x.now choice.now pending.now self.old.memory in
+            OnOk result (self.new ≡ spec.with_round r self.old) }
     {
         let r = self.next(alloc, x, choice, pending)?;
         let left = left_after(alloc, x.on.knobs.lanes as usize, pending, &r)?;

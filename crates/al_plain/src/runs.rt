@@ -2,7 +2,7 @@ ghost use Rattle.std.specs.Prelude.{◌≡◌, ◌+◌, ◌-◌, ◌<◌, ◌^�
 ghost use Rattle.al_core.specs.Limits.{AreInRange};
 ghost use Rattle.al_core.specs.Report as report;
 ghost use Rattle.al_core.specs.Run as spec;
-ghost use Rattle.al_interpreter.specs.Does.{setting_of};
+ghost use Rattle.al_interpreter.specs.Settings.{setting_of};
 ghost use Rattle.al_core.specs.Iteration.{ending_of};
 ghost use Rattle.al_plain.specs.Told.{report_by};
 ghost use Rattle.al_plain.specs.Bounded.{RoundsFit};
@@ -16,6 +16,7 @@ use crate::words::set_at;
 use al_core::{Budget, Choice, Ending, Knobs, Obj, Report, TGlobal, Typed, Val};
 use al_interpreter::frame::{Frame, Own};
 use al_interpreter::machine::Machine;
+use al_interpreter::program::Program;
 use al_interpreter::whole_calls::run_main;
 use al_interpreter::{Fault, Setting};
 use sqlite_items::Items;
@@ -48,7 +49,7 @@ fn globals(alloc: Global, all: &[TGlobal]) -> Result<Objects, AllocError>
 fn start(alloc: Global, on: &Setting<'_>) -> Result<Machine<Whole>, AllocError>
     ensures { IfOk result (λ m. m ≡ spec.start (setting_of on.now)) }
 {
-    let objects = globals(alloc, on.typed.globals.as_slice())?;
+    let objects = globals(alloc, on.program.typed().globals.as_slice())?;
     let memory = Memory::new(objects, Items::new(alloc));
     let whole = Whole {
         content: Content::direct(alloc, memory, Maker::Outer),
@@ -101,9 +102,33 @@ fn told(alloc: Global, ending: Ending, budget: u64, m: Machine<Whole>, watch: bo
     }
 }
 
+/// Runs a program of which the annotated loops are collected.
+#[tactic(auto, unfolding(al_core::specs::Report::report))]
+fn run_program(
+    alloc: Global,
+    program: &Program<'_>,
+    input: &[i64],
+    knobs: Knobs,
+    choices: &[Option<Choice>],
+    watch: bool,
+) -> Result<Report, AllocError>
+    requires { AreInRange knobs }
+    ensures exact { let r = report.report program.now input.now (spec.sizes_of knobs) choices.now in
+        IfOk result (λ told. told ≡ report.watched watch r) }
+    ensures rounds { IfOk result (λ r. RoundsFit r.events) }
+{
+    let on = Setting {
+        program,
+        input,
+        knobs,
+        choices,
+    };
+    let (ending, m) = whole_run(alloc, &on)?;
+    Ok(told(alloc, ending, knobs.serial_steps, m, watch))
+}
+
 /// Runs a program, plain where an annotated loop has no choice and else in rounds. The report has no events where
 /// nobody watches.
-#[tactic(auto, unfolding(al_core::specs::Report::report))]
 pub fn run(
     alloc: Global,
     typed: &Typed,
@@ -113,15 +138,10 @@ pub fn run(
     watch: bool,
 ) -> Result<Report, AllocError>
     requires { AreInRange knobs }
-    ensures exact { IfOk result (λ r. r ≡ report.watched watch (report.report typed.now input.now (spec.sizes_of knobs) choices.now)) }
+    ensures exact { let r = report.report typed.now input.now (spec.sizes_of knobs) choices.now in
+        IfOk result (λ told. told ≡ report.watched watch r) }
     ensures rounds { IfOk result (λ r. RoundsFit r.events) }
 {
-    let on = Setting {
-        typed,
-        input,
-        knobs,
-        choices,
-    };
-    let (ending, m) = whole_run(alloc, &on)?;
-    Ok(told(alloc, ending, knobs.serial_steps, m, watch))
+    let program = Program::new(alloc, typed)?;
+    run_program(alloc, &program, input, knobs, choices, watch)
 }

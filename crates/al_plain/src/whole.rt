@@ -1,14 +1,17 @@
 ghost use Rattle.std.specs.Prelude.{◌≡◌, Some};
 ghost use Rattle.al_core.specs.Meaning.{Outside};
 ghost use Rattle.al_core.specs.Run as spec;
-ghost use Rattle.al_interpreter.specs.Does.{Tells, Prints, Visits, setting_of};
+ghost use Rattle.al_source.specs.Answers.{Does};
+ghost use Rattle.al_core.specs.Views.{trapped};
+ghost use Rattle.al_interpreter.specs.Faults.{stopped};
+ghost use Rattle.al_interpreter.specs.Settings.{setting_of};
 ghost use Rattle.al_interpreter.specs.Stages.{is_outside};
 ghost use Rattle.al_plain.specs.Executions.{execution_of, IsBounded};
 ghost use Rattle.al_plain.specs.Found.{loop_of};
 
 use crate::content::Content;
 use crate::counts::Counts;
-use crate::executions::{after_loop, execute};
+use crate::executions::{LoopResult, after_loop, execute};
 use crate::iterations::Execution;
 use crate::loops::{Loop, loop_at};
 use al_core::operations::trips;
@@ -49,12 +52,18 @@ impl Whole {
         locals: Items<Val>,
     ) -> Result<Items<Val>, Fault>
         requires { IsBounded x.now }
-        ensures { Visits (spec.run_loop (setting_of x.now.on) (execution_of x.now) hi locals self.old) result self.new }
+        ensures { let told = spec.run_loop (setting_of x.now.on) (execution_of x.now) hi locals self.old in
+            Does stopped told result self.new }
     {
         let memory = self.content.lend(locals);
-        let r = execute(alloc, x, &mut self.counts, memory)?;
-        let ending = r.ending;
-        let locals = self.content.take_back(r.memory, r.printed)?;
+        let LoopResult {
+            memory,
+            printed,
+            ending,
+            counts,
+        } = execute(alloc, x, memory)?;
+        let locals = self.content.take_back(memory, printed)?;
+        self.counts.add(counts)?;
         self.executions = self.executions.checked_add(1).ok_or(AllocError)?;
         after_loop(x, hi, ending, locals)
     }
@@ -69,7 +78,8 @@ impl Whole {
         hi: i64,
         locals: Items<Val>,
     ) -> Result<Items<Val>, Fault>
-        ensures { Visits (spec.visit_loop (setting_of on.now) lo hi locals self.old (Some (loop_of found.entry))) result self.new }
+        ensures { let found = Some (loop_of found.entry) in
+            Does stopped (spec.visit_loop (setting_of on.now) lo hi locals self.old found) result self.new }
     {
         match trips(lo, hi) {
             Ok(trips) => {
@@ -89,7 +99,7 @@ impl Whole {
 
 /// The world outside iterations.
 impl Ground for Whole {
-    ghost world = { spec.outside };
+    ghost world = { λ on. spec.outside (setting_of on) };
 
     ghost place = { Outside };
 
@@ -105,6 +115,10 @@ impl Ground for Whole {
         View::make(&mut self.content, words)
     }
 
+    fn free(&mut self, _on: &Setting<'_>, obj: Obj, at: u32) -> Result<(), ViewFault> {
+        View::free(&mut self.content, obj, at)
+    }
+
     fn print(&mut self, _on: &Setting<'_>, bytes: &[u8]) -> Result<(), AllocError> {
         View::print(&mut self.content, bytes)
     }
@@ -118,7 +132,7 @@ impl Ground for Whole {
         hi: i64,
         locals: Items<Val>,
     ) -> Result<Items<Val>, Fault> {
-        match loop_at(on.typed, number) {
+        match loop_at(on.program, number) {
             Some(found) => self.visit_found(alloc, on, found, lo, hi, locals),
             None => Ok(locals),
         }

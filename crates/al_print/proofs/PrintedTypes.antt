@@ -10,7 +10,6 @@ use Rattle.al_source.specs.declared.source_tree.Field.{Field}
 use Rattle.al_grammar.specs.Phrases.{Tokens, Name, Takes, Optional}
 use Rattle.al_grammar.specs.Phrases as phrase
 use Rattle.std.proofs.lemmas.Int.{ints}
-use Rattle.al_source.specs.declared.limits.TheConstants.{DECLARATOR_STARS, DECLARATOR_DIMENSIONS, DIMENSION_LENGTH}
 use Rattle.al_grammar.specs.Types.{Base, Stars, Dimensions, Declarator, SizeOf}
 use Rattle.al_grammar.specs.Types as g
 use Rattle.al_print.specs.Tokens.{Kinds, type_front, dimensions, declared, size_of}

@@ -2,6 +2,7 @@
 use Rattle.std.proofs.Common.{◌≡◌, ◌≢◌, ℕ, zero, suc, ◌+◌, ◌≤◌, ◌==◌, Bool, true, false, not, ◌&&◌, ◌||◌, cond, nat_le, nat_lt, if◌then◌else◌, List, [], ◌∷◌, map, take, length, find, filter_map, flat_map, Option, Some, None, option_map, slice_get, All, AllPairs, refl, sym, ap, ◌∙◌, subst, arith, eq-eqb, eqb-true, leb-true, true≢false, add-zero, zero-add}
 use Rattle.std.specs.List.{list_any, cons_option}
 use Rattle.std.proofs.lemmas.List.Kept.{AllPairs-cons}
+use Rattle.al_source.specs.declared.limits.TheConstants.{TRIED_REDUCTIONS}
 use Rattle.al_source.specs.declared.source_tree.Program.{Program}
 use Rattle.al_source.specs.declared.annotations.Policy.{Policy}
 use Rattle.al_source.specs.declared.operators.RedOp.{RedOp}
@@ -27,11 +28,11 @@ use Rattle.al_laws.proofs.Orders.{addr_itself}
 use Rattle.al_rules.specs.declared.faults.NoteKind.{NoteKind}
 use Rattle.al_rules.specs.declared.faults.NoteKind.TheVariants.{IndexChanges, BoundChanges, Leaves, ReductionName, ReductionAddress, ReductionUsed}
 use Rattle.al_rules.specs.Names.{AllOf, none, more}
-use Rattle.al_rules.specs.ForLoops.{ForLoop, for_loops_in, is_kind, is_integer}
+use Rattle.al_rules.specs.ForLoops.{is_kind, is_integer}
 use Rattle.al_rules.specs.ForLoops as loops
 use Rattle.al_rules.specs.Bodies.{assigns, assigns_bound, has_return, has_break, is_reached, is_taken, any_from, is_mentioned_there, is_misused, has_update}
 use Rattle.al_rules.specs.Notes.{stand_twice, is_counter_or_bound, first_kind, wrong_in, notes_of, note_fault, infos, or_no_infos}
-use Rattle.al_rules.specs.Candidates.{variables, firsts, scalar_is_int, is_integer_global, is_outside, is_local_of, is_integer_object, is_variable, reduces, may_reduce, operators, reduction_of, most_reductions, reductions_of, all_together, reduction_lists, in_both_orders, policies, with_reductions, choices_of, loop_in, choices}
+use Rattle.al_rules.specs.Candidates.{variables, firsts, scalar_is_int, is_integer_global, is_outside, is_local_of, is_integer_object, is_variable, reduces, may_reduce, operators, reduction_of, reductions_of, all_together, reduction_lists, in_both_orders, policies, with_reductions, choices_of, choices}
 use Rattle.al_rules.specs.WellFormed.{is_one, local_kind, is_some_kind, is_int_global, IsNoted, IsNotedAt, IsWellFormed}
 use Rattle.al_rules.specs.Programs.{Resolved}
 use Rattle.al_rules_laws.specs.ReductionLaws.{IsAcceptedFor}
@@ -108,7 +109,8 @@ module _ (typed : Typed) (info : LoopInfo) (locals : ℕ) (body : TStmt) where
   red_local : (k : ℕ) → is_local_of info (slice_get typed.funcs info.func) k ≡ true → is_counter_or_bound info (Local k) ≡ false → IsRedLocal typed loop k
   red_local k e free = by (slice_get typed.funcs info.func) refl e
     where
-      of : (f : TFunc) → slice_get typed.funcs info.func ≡ Some f → (m : Option TLocal) → slice_get f.locals k ≡ m → loops.is_int_local m ≡ true → is_outside info k ≡ true → IsRedLocal typed loop k
+      of : (f : TFunc) → slice_get typed.funcs info.func ≡ Some f → (m : Option TLocal) → slice_get f.locals k ≡ m → loops.is_int_local m ≡ true
+          → is_outside info k ≡ true → IsRedLocal typed loop k
       of f stands None at int outside = absurd cc
       of f stands (Some v) at int outside = record {
         integer = (f, v, stands, at, int_kind v v.kind refl int);
@@ -125,7 +127,8 @@ module _ (typed : Typed) (info : LoopInfo) (locals : ℕ) (body : TStmt) where
   none_from : (test : ℕ → TFunc → Bool) (n k : ℕ) (fs : List TFunc) (f : TFunc) → any_from test n fs ≡ false → slice_get fs k ≡ Some f → test (n + k) f ≡ false
   none_from test n k [] f e at = absurd cc
   none_from test n zero (g ∷ fs) f e at = (λ t. test (add-zero n t) (sym (some_is at) t)) ∙ (or_none (test n g) (any_from test (n + 1) fs) e).0
-  none_from test n (suc k) (g ∷ fs) f e at = ap (λ m. test m f) (next n k) ∙ none_from test (n + 1) k fs f (or_none (test n g) (any_from test (n + 1) fs) e).1 at
+  none_from test n (suc k) (g ∷ fs) f e at =
+      ap (λ m. test m f) (next n k) ∙ none_from test (n + 1) k fs f (or_none (test n g) (any_from test (n + 1) fs) e).1 at
     where
       next : (n k : ℕ) → n + suc k ≡ n + 1 + k
       next n k = omega arith
@@ -134,7 +137,8 @@ module _ (typed : Typed) (info : LoopInfo) (locals : ℕ) (body : TStmt) where
   second_false true b is e = e
   second_false false b is e = absurd cc
 
-  red_global : (k : ℕ) → is_integer_global (slice_get typed.globals k) ≡ true → is_taken typed (Word (Global k) 0) ≡ false → is_mentioned_there typed body (Word (Global k) 0) ≡ false → IsRedGlobal typed loop k
+  red_global : (k : ℕ) → is_integer_global (slice_get typed.globals k) ≡ true → is_taken typed (Word (Global k) 0) ≡ false
+      → is_mentioned_there typed body (Word (Global k) 0) ≡ false → IsRedGlobal typed loop k
   red_global k int untaken unreached = record {
     integer = by (slice_get typed.globals k) refl int;
     untaken = all_told (no_element (λ func. takes_in (Word (Global k) 0) (terms_of func.body)) typed.funcs untaken);
@@ -144,24 +148,31 @@ module _ (typed : Typed) (info : LoopInfo) (locals : ℕ) (body : TStmt) where
         ∙ none_from (λ n g. is_reached typed body n && mentions_in (Word (Global k) 0) (terms_of g.body)) 0 f typed.funcs func unreached at);
   }
     where
-      of : (g : TGlobal) → slice_get typed.globals k ≡ Some g → (m : Option Kind) → g.scalar ≡ m → scalar_is_int m ≡ true → (g : TGlobal) × (slice_get typed.globals k ≡ Some g) × (g.scalar ≡ Some kind.Int)
+      of : (g : TGlobal) → slice_get typed.globals k ≡ Some g → (m : Option Kind) → g.scalar ≡ m → scalar_is_int m ≡ true
+          → (g : TGlobal) × (slice_get typed.globals k ≡ Some g) × (g.scalar ≡ Some kind.Int)
       of g at None is e = absurd cc
       of g at (Some kind.Int) is e = (g, at, is)
       of g at (Some kind.Ptr) is e = absurd cc
 
-      by : (m : Option TGlobal) → slice_get typed.globals k ≡ m → is_integer_global m ≡ true → (g : TGlobal) × (slice_get typed.globals k ≡ Some g) × (g.scalar ≡ Some kind.Int)
+      by : (m : Option TGlobal) → slice_get typed.globals k ≡ m → is_integer_global m ≡ true
+          → (g : TGlobal) × (slice_get typed.globals k ≡ Some g) × (g.scalar ≡ Some kind.Int)
       by (Some g) at e = of g at g.scalar refl e
       by None at e = absurd cc
 
-  red_object : (o : Obj) (w : ℕ) → is_integer_object typed o w ≡ true → is_taken typed (Word o w) ≡ false → is_mentioned_there typed body (Word o w) ≡ false → IsRedObject typed loop o w
+  red_object : (o : Obj) (w : ℕ) → is_integer_object typed o w ≡ true → is_taken typed (Word o w) ≡ false → is_mentioned_there typed body (Word o w) ≡ false
+      → IsRedObject typed loop o w
   red_object (Global k) w int untaken unreached =
       let q = and_parts (is_integer_global (slice_get typed.globals k)) (w == 0) int in
-      let is = eqb-true w 0 q.1 in
-      (red_global k q.0 (subst (λ v. is_taken typed (Word (Global k) v) ≡ false) is untaken) (subst (λ v. is_mentioned_there typed body (Word (Global k) v) ≡ false) is unreached), is)
+      let is = eqb-true w 0 q.1 in (
+        red_global k q.0 (subst (λ v. is_taken typed (Word (Global k) v) ≡ false) is untaken) (subst (λ v. is_mentioned_there typed body (Word (Global k) v)
+            ≡ false) is unreached),
+        is,
+      )
   red_object (Serial k) w int untaken unreached = absurd cc
   red_object (Iter e j k) w int untaken unreached = absurd cc
 
-  red_variable : (a : Addr) → is_variable typed info a ≡ true → is_counter_or_bound info a ≡ false → is_taken typed a ≡ false → is_mentioned_there typed body a ≡ false → IsRedVariable typed loop a
+  red_variable : (a : Addr) → is_variable typed info a ≡ true → is_counter_or_bound info a ≡ false → is_taken typed a ≡ false
+      → is_mentioned_there typed body a ≡ false → IsRedVariable typed loop a
   red_variable (Local k) is free untaken unreached = red_local k is free
   red_variable (Word o w) is free untaken unreached = red_object o w is untaken unreached
   red_variable (Head o) is free untaken unreached = absurd cc
@@ -222,17 +233,24 @@ module _ (typed : Typed) (info : LoopInfo) (locals : ℕ) (body : TStmt) where
       ∷ []
 
   unfaulted : wrong_in typed info body ≡ None → Unfaulted
-  unfaulted e = by (no_test ((assigns info.counter body, IndexChanges) ∷ (assigns_bound info.bound body, BoundChanges) ∷ (has_return body || has_break body, Leaves) ∷ in_annotation) e)
+  unfaulted e =
+      by (no_test ((assigns info.counter body, IndexChanges) ∷ (assigns_bound info.bound body, BoundChanges) ∷ (
+        has_return body
+            || has_break body,
+        Leaves,
+      ) ∷ in_annotation) e)
     where
       by : {b c d : Bool × NoteKind} → AllOf (λ t. t.0 ≡ false) (b ∷ c ∷ d ∷ in_annotation) → Unfaulted
       by (more _ (more _ (more _ (more names (more taken (more used none)))))) =
           let q = or_none (stand_twice info.own.reds) (list_any (λ r. is_counter_or_bound info r.at) info.own.reds) names in
           record { once = q.0; free = q.1; untaken = taken; used = used }
 
-  own_tested : {reds : List Red} → AllOf (λ r. is_variable typed info r.at ≡ true) reds → AllOf (λ r. is_counter_or_bound info r.at ≡ false) reds → AllOf (λ r. is_taken typed r.at ≡ false) reds
+  own_tested : {reds : List Red} → AllOf (λ r. is_variable typed info r.at ≡ true) reds → AllOf (λ r. is_counter_or_bound info r.at ≡ false) reds
+      → AllOf (λ r. is_taken typed r.at ≡ false) reds
       → AllOf (λ r. is_misused typed body r.op r.at ≡ false) reds → AllOf Good reds
   own_tested none none none none = none
-  own_tested (more {a = r} a as') (more b bs) (more c cs) (more d ds) = more (good_red r (record { variable = a; free = b; untaken = c; used = d })) (own_tested as' bs cs ds)
+  own_tested (more {a = r} a as') (more b bs) (more c cs) (more d ds) =
+      more (good_red r (record { variable = a; free = b; untaken = c; used = d })) (own_tested as' bs cs ds)
 
   -- ---- choices
 
@@ -240,7 +258,8 @@ module _ (typed : Typed) (info : LoopInfo) (locals : ℕ) (body : TStmt) where
   new_ones seen [] = none
   new_ones seen (a ∷ as') = by (list_any (addr_eq a) seen) refl (new_ones seen as') (new_ones (a ∷ seen) as')
     where
-      by : (c : Bool) → list_any (addr_eq a) seen ≡ c → AllOf (λ b. list_any (addr_eq b) seen ≡ false) (firsts seen as') → AllOf (λ b. list_any (addr_eq b) (a ∷ seen) ≡ false) (firsts (a ∷ seen) as')
+      by : (c : Bool) → list_any (addr_eq a) seen ≡ c → AllOf (λ b. list_any (addr_eq b) seen ≡ false) (firsts seen as')
+          → AllOf (λ b. list_any (addr_eq b) (a ∷ seen) ≡ false) (firsts (a ∷ seen) as')
           → AllOf (λ b. list_any (addr_eq b) seen ≡ false) (if c then firsts seen as' else a ∷ firsts (a ∷ seen) as')
       by true is h i = h
       by false is h i = more is (all_map (λ b e. (or_none (addr_eq b a) (list_any (addr_eq b) seen) e).1) i)
@@ -249,7 +268,8 @@ module _ (typed : Typed) (info : LoopInfo) (locals : ℕ) (body : TStmt) where
   firsts_apart seen [] = alone
   firsts_apart seen (a ∷ as') = by (list_any (addr_eq a) seen) (firsts_apart seen as') (firsts_apart (a ∷ seen) as')
     where
-      by : (c : Bool) → Pairs (λ a b. a ≢ b) (firsts seen as') → Pairs (λ a b. a ≢ b) (firsts (a ∷ seen) as') → Pairs (λ a b. a ≢ b) (if c then firsts seen as' else a ∷ firsts (a ∷ seen) as')
+      by : (c : Bool) → Pairs (λ a b. a ≢ b) (firsts seen as') → Pairs (λ a b. a ≢ b) (firsts (a ∷ seen) as')
+          → Pairs (λ a b. a ≢ b) (if c then firsts seen as' else a ∷ firsts (a ∷ seen) as')
       by true h i = h
       by false h i = before (all_map (λ b e same. unequal b a (or_none (addr_eq b a) (list_any (addr_eq b) seen) e).0 (sym same)) (new_ones (a ∷ seen) as')) i
 
@@ -261,7 +281,8 @@ module _ (typed : Typed) (info : LoopInfo) (locals : ℕ) (body : TStmt) where
   tried : (a : Addr) (r : Red) → reduction_of typed info body a ≡ Some r → Tried a r
   tried a r e = by (may_reduce typed info a) refl e
     where
-      of : may_reduce typed info a ≡ true → (m : Option RedOp) → find (reduces typed info body a) operators ≡ m → option_map (λ op. record { op = op; at = a }) m ≡ Some r → Tried a r
+      of : may_reduce typed info a ≡ true → (m : Option RedOp) → find (reduces typed info body a) operators ≡ m
+          → option_map (λ op. record { op = op; at = a }) m ≡ Some r → Tried a r
       of may None is e = absurd cc
       of may (Some op) is e =
           let q = and_parts (is_variable typed info a && not (is_counter_or_bound info a)) (not (is_taken typed a)) may in
@@ -277,7 +298,8 @@ module _ (typed : Typed) (info : LoopInfo) (locals : ℕ) (body : TStmt) where
             });
           })
 
-      by : (b : Bool) → may_reduce typed info a ≡ b → (if b then option_map (λ op. record { op = op; at = a }) (find (reduces typed info body a) operators) else None) ≡ Some r → Tried a r
+      by : (b : Bool) → may_reduce typed info a ≡ b
+          → (if b then option_map (λ op. record { op = op; at = a }) (find (reduces typed info body a) operators) else None) ≡ Some r → Tried a r
       by true may e = of may (find (reduces typed info body a) operators) refl e
       by false may e = absurd cc
 
@@ -311,7 +333,7 @@ module _ (typed : Typed) (info : LoopInfo) (locals : ℕ) (body : TStmt) where
   reductions_fit : Fit (reductions_of typed info body)
   reductions_fit =
       let names = firsts [] (variables body) in
-      (all_take most_reductions (all_tried names), pairs_take most_reductions (tried_apart (firsts_apart [] (variables body))))
+      (all_take TRIED_REDUCTIONS (all_tried names), pairs_take TRIED_REDUCTIONS (tried_apart (firsts_apart [] (variables body))))
 
   each_alone : {rs : List Red} → AllOf Good rs → AllOf Fit (map (λ r. r ∷ []) rs)
   each_alone none = none
@@ -339,10 +361,12 @@ module _ (typed : Typed) (info : LoopInfo) (locals : ℕ) (body : TStmt) where
 -- ---- the laws
 
 -- a reduction of an annotation is one of a variable
-noted_variable : (typed : Typed) (note : TNote) (info : LoopInfo) → note.func ≡ info.func → note.first ≡ info.first → (a : Addr) → IsNotedAt typed note a → is_variable typed info a ≡ true
+noted_variable : (typed : Typed) (note : TNote) (info : LoopInfo) → note.func ≡ info.func → note.first ≡ info.first → (a : Addr) → IsNotedAt typed note a
+    → is_variable typed info a ≡ true
 noted_variable typed note info func first (Local k) h =
     let stands = ap (slice_get typed.funcs) (sym func) ∙ h.stands in
-    ap (λ m. is_local_of info m k) stands ∙ and_both (int_of (slice_get h.func.locals k) h.integer) (outside_of k info.first info.last (subst (λ n. k + 1 ≤ n) first h.outside))
+    ap (λ m. is_local_of info m k) stands
+    ∙ and_both (int_of (slice_get h.func.locals k) h.integer) (outside_of k info.first info.last (subst (λ n. k + 1 ≤ n) first h.outside))
   where
     int_kind : (k : Kind) → is_one k kind.Int ≡ true → is_kind k ≡ true
     int_kind kind.Int e = refl
@@ -373,39 +397,40 @@ noted_variable typed note info func first (Word (Iter e j k) w) h = absurd h
 noted_variable typed note info func first (Head o) h = absurd h
 
 module _ (typed : Typed) (info : LoopInfo) (e : EntryOf typed info) where
-  accepted_by : {reds : List Red} → Fit typed info (length e.func.locals) e.loop.body reds → IsAcceptedFor typed info reds
+  accepted_by : {reds : List Red} → Fit typed info (length e.loop.func.locals) e.loop.loop.body reds → IsAcceptedFor typed info reds
   accepted_by h = record {
-    loop = record { info = info; locals = length e.func.locals; body = e.loop.body };
+    loop = record { info = info; locals = length e.loop.func.locals; body = e.loop.loop.body };
     stands = loop_there typed info e;
     entry = refl;
-    accepted = is_accepted typed info (length e.func.locals) e.loop.body h;
+    accepted = is_accepted typed info (length e.loop.func.locals) e.loop.loop.body h;
   }
 
   own_accepted : IsWellFormed typed → IsAcceptedFor typed info info.own.reds
   own_accepted wf =
-      let u = unfaulted typed info (length e.func.locals) e.loop.body (ap (λ i. wrong_in typed i e.loop.body) (sym e.is) ∙ e.right) in
-      let noted : AllOf (IsNoted typed e.note) info.own.reds = subst (λ (i : LoopInfo). AllOf (IsNoted typed e.note) i.own.reds) e.is (at_element typed.loops e.loop.number e.note wf.reductions e.noted) in
+      let u = unfaulted typed info (length e.loop.func.locals) e.loop.loop.body e.right in
+      let noted : AllOf (IsNoted typed e.note) info.own.reds =
+      subst (λ (i : LoopInfo). AllOf (IsNoted typed e.note) i.own.reds) e.is (at_element typed.loops info.number e.note wf.reductions e.noted) in
       accepted_by (
-        own_tested typed info (length e.func.locals) e.loop.body
+        own_tested typed info (length e.loop.func.locals) e.loop.loop.body
             (all_map (λ r h. noted_variable typed e.note info (ap (λ (i : LoopInfo). i.func) e.is) (ap (λ (i : LoopInfo). i.first) e.is) r.at h) noted)
             (no_element (λ r. is_counter_or_bound info r.at) info.own.reds u.free)
             (no_element (λ r. is_taken typed r.at) info.own.reds u.untaken)
-            (no_element (λ r. is_misused typed e.loop.body r.op r.at) info.own.reds u.used),
-        once typed info (length e.func.locals) e.loop.body info.own.reds u.once,
+            (no_element (λ r. is_misused typed e.loop.loop.body r.op r.at) info.own.reds u.used),
+        once typed info (length e.loop.func.locals) e.loop.loop.body info.own.reds u.once,
       )
-
-  this_loop : loop_in info.number (slice_get typed.funcs info.func) ≡ Some e.loop
-  this_loop = subst (λ (i : LoopInfo). loop_in i.number (slice_get typed.funcs i.func) ≡ Some e.loop) e.is (ap (loop_in e.loop.number) e.stands ∙ e.there)
 
   choices_accepted : All (λ c. IsAcceptedFor typed info c.reds) (choices typed info)
   unfolding choices
   choices_accepted =
       all_told (all_map (λ c h. accepted_by h)
-      (subst (λ m. AllOf (FitChoice typed info (length e.func.locals) e.loop.body) (choices_of typed info m)) (sym this_loop)
-      (in_lists typed info (length e.func.locals) e.loop.body (lists_fit typed info (length e.func.locals) e.loop.body (reductions_of typed info e.loop.body) (reductions_fit typed info (length e.func.locals) e.loop.body)))))
+      (subst (λ m. AllOf (FitChoice typed info (length e.loop.func.locals) e.loop.loop.body) (choices_of typed info m)) (sym e.there)
+      (in_lists typed info (length e.loop.func.locals) e.loop.loop.body
+      (lists_fit typed info (length e.loop.func.locals) e.loop.loop.body (reductions_of typed info e.loop.loop.body)
+      (reductions_fit typed info (length e.loop.func.locals) e.loop.loop.body)))))
 
 -- what holds of the entries holds where there is no note fault
-of_entries : (P : Typed → List LoopInfo → Type 0) → ((typed : Typed) (entries : List LoopInfo) → EntriesOf typed 0 (0 + length typed.loops) entries → IsWellFormed typed → P typed entries)
+of_entries : (P : Typed → List LoopInfo → Type 0)
+    → ((typed : Typed) (entries : List LoopInfo) → EntriesOf typed 0 (0 + length typed.loops) entries → IsWellFormed typed → P typed entries)
     → (q : Program) (typed : Typed) → Resolved q typed → note_fault typed ≡ None → P typed (infos typed)
 of_entries P f q typed resolved unfaulted =
     let wf = resolved_is_well_formed q typed resolved in
@@ -417,17 +442,20 @@ as_many_entries = of_entries
     (λ typed entries. length entries ≡ length typed.loops)
     (λ typed entries e wf. sym (zero-add (length entries)) ∙ numbered_length e.numbered ∙ zero-add (length typed.loops))
 
-pub entry_at : (q : Program) (typed : Typed) → Resolved q typed → note_fault typed ≡ None → (n : ℕ) (info : LoopInfo) → slice_get (infos typed) n ≡ Some info → info.number ≡ n
+pub entry_at : (q : Program) (typed : Typed) → Resolved q typed → note_fault typed ≡ None → (n : ℕ) (info : LoopInfo) → slice_get (infos typed) n ≡ Some info
+    → info.number ≡ n
 entry_at = of_entries
     (λ typed entries. (n : ℕ) (info : LoopInfo) → slice_get entries n ≡ Some info → info.number ≡ n)
     (λ typed entries e wf n info at. numbered_at entries n info e.numbered at ∙ zero-add n)
 
-pub own_reductions_are_accepted : (q : Program) (typed : Typed) → Resolved q typed → note_fault typed ≡ None → All (λ info. IsAcceptedFor typed info info.own.reds) (infos typed)
+pub own_reductions_are_accepted : (q : Program) (typed : Typed) → Resolved q typed → note_fault typed ≡ None
+    → All (λ info. IsAcceptedFor typed info info.own.reds) (infos typed)
 own_reductions_are_accepted = of_entries
     (λ typed entries. All (λ info. IsAcceptedFor typed info info.own.reds) entries)
     (λ typed entries e wf. all_told (all_map (λ info h. own_accepted typed info h wf) e.each))
 
-pub choices_are_accepted : (q : Program) (typed : Typed) → Resolved q typed → note_fault typed ≡ None → All (λ info. All (λ c. IsAcceptedFor typed info c.reds) (choices typed info)) (infos typed)
+pub choices_are_accepted : (q : Program) (typed : Typed) → Resolved q typed → note_fault typed ≡ None
+    → All (λ info. All (λ c. IsAcceptedFor typed info c.reds) (choices typed info)) (infos typed)
 choices_are_accepted = of_entries
     (λ typed entries. All (λ info. All (λ c. IsAcceptedFor typed info c.reds) (choices typed info)) entries)
     (λ typed entries e wf. all_told (all_map (λ info h. choices_accepted typed info h) e.each))

@@ -93,10 +93,14 @@ pub data FitsAt : Operand → CType → Type 0 where
 pub fitting_at : {p : Operand} {a : CType} → FitsAt p a → (v : TExpr) × (o.fitting a p ≡ Ok v)
 unfolding o.fitting
 fitting_at {p = p} (at_int v is) = (v, ap (λ y. o.fitting_case y p) t.outs-Int ∙ is)
-fitting_at {p = p} (at_pointer a q is f) =
-    (q.1, ap (λ y. o.fitting_case y p) (t.outs-Ptr a) ∙ ap (λ (c : Checked (Option CType × TExpr)). c >>= (λ q. ensure (o.fits a q.0) Mismatch >> Ok q.1)) is ∙ ap (λ b. ensure b Mismatch >> Ok q.1) f)
+fitting_at {p = p} (at_pointer a q is f) = (
+  q.1,
+  ap (λ y. o.fitting_case y p) (t.outs-Ptr a) ∙ ap (λ (c : Checked (Option CType × TExpr)). c >>= (λ q. ensure (o.fits a q.0) Mismatch >> Ok q.1)) is
+      ∙ ap (λ b. ensure b Mismatch >> Ok q.1) f,
+)
 
-fits_pointer_at : {p : Operand} {a : CType} (b : CType) → FitsAt p a → a ≡ t.Ptr b → (q : Option CType × TExpr) × (o.pointer p ≡ Ok q) × (o.fits b q.0 ≡ true)
+pub fits_pointer_at : {p : Operand} {a : CType} (b : CType) → FitsAt p a → a ≡ t.Ptr b
+    → (q : Option CType × TExpr) × (o.pointer p ≡ Ok q) × (o.fits b q.0 ≡ true)
 fits_pointer_at b (at_int v is) same = absurd (no_pointer_int b (sym same))
 fits_pointer_at b (at_pointer a q is f) same = (q, is, ap (λ c. o.fits c q.0) (sym (one_pointee a b same)) ∙ f)
 
@@ -153,11 +157,13 @@ binary_ok Eq p q s is = ap (λ c. or_else c (o.of_pointers true p q)) is
 binary_ok Ne p q s is = ap (λ c. or_else c (o.of_pointers false p q)) is
 binary_ok op p q s is = is
 
-pointers_ok : (equal : Bool) (a : CType) (p q : Operand) (m n : Option CType × TExpr) → o.pointer p ≡ Ok m → o.pointer q ≡ Ok n → o.fits a m.0 ≡ true → o.fits a n.0 ≡ true → o.of_pointers equal p q ≡ Ok (o.number (te.Same equal m.1 n.1))
+pointers_ok : (equal : Bool) (a : CType) (p q : Operand) (m n : Option CType × TExpr) → o.pointer p ≡ Ok m → o.pointer q ≡ Ok n → o.fits a m.0 ≡ true
+    → o.fits a n.0 ≡ true → o.of_pointers equal p q ≡ Ok (o.number (te.Same equal m.1 n.1))
 pointers_ok equal a p q m n f h u w = rw (f, h, one_type a m.0 n.0 u w) refl
 
 -- whichever of the two answers, it is an integer
-either_number : (op : BinOp) (p q : Operand) (v : TExpr) (second : Checked Operand) → second ≡ Ok (o.number v) → (w : TExpr) × (or_else (o.of_integers op p q) second ≡ Ok (o.number w))
+either_number : (op : BinOp) (p q : Operand) (v : TExpr) (second : Checked Operand) → second ≡ Ok (o.number v)
+    → (w : TExpr) × (or_else (o.of_integers op p q) second ≡ Ok (o.number w))
 either_number op p q v second is = by (o.integer p) (o.integer q) refl refl
   where
     by : (c d : Checked TExpr) → o.integer p ≡ c → o.integer q ≡ d → (w : TExpr) × (or_else (o.of_integers op p q) second ≡ Ok (o.number w))
@@ -188,7 +194,8 @@ unfolding o.used
 place_array a n q is = ap (λ y. o.read_case y q) (t.outs-Array a n) ∙ ap (λ m. if is_none m then Pointer (Some a) (te.Addr q) else Useless) is
 
 -- an array that is a pointer is one to its elements
-pointee_by : (c a : CType) (w : TPlace) (b : CType × TPlace) (v : TExpr) (y : CType-F CType) → out-CType c ≡ y → option_map (λ d. (d, w)) (element_case y) ≡ Some b → o.read_case y w ≡ Pointer (Some a) v → b.0 ≡ a
+pointee_by : (c a : CType) (w : TPlace) (b : CType × TPlace) (v : TExpr) (y : CType-F CType) → out-CType c ≡ y
+    → option_map (λ d. (d, w)) (element_case y) ≡ Some b → o.read_case y w ≡ Pointer (Some a) v → b.0 ≡ a
 pointee_by c a w b v (CType-F.Array d n) is f h = sym (ap (λ (p : CType × TPlace). p.0) (some_is f)) ∙ by (is_none (element d)) h
   where
     by : (m : Bool) → (if m then Pointer (Some d) (te.Addr w) else Useless) ≡ Pointer (Some a) v → d ≡ a
@@ -208,14 +215,16 @@ array_pointee (Value c x) b a v f h = absurd cc
 array_pointee (Variable k c) b a v f h = absurd cc
 
 module _ (known : Known) where
-  array_indexed : (a : CType) (n : ℕ) (w : TPlace) (i : Operand) (v : TExpr) → o.integer i ≡ Ok v → o.indexed known (Place (t.Array a n) w) i ≡ Ok (Place a (tp.Elem w v (size known a)))
+  array_indexed : (a : CType) (n : ℕ) (w : TPlace) (i : Operand) (v : TExpr) → o.integer i ≡ Ok v
+      → o.indexed known (Place (t.Array a n) w) i ≡ Ok (Place a (tp.Elem w v (size known a)))
   unfolding o.indexed
   array_indexed a n w i v is =
       ap (λ m. o.indexed_by known (option_map (λ b. (b, w)) m) (Place (t.Array a n) w) i) (element-Array a n)
       ∙ ap (λ (c : Checked TExpr). c >>= (λ n. Ok (Place a (tp.Elem w n (size known a))))) is
 
   -- through a pointer, or the array that it was made of
-  pointer_indexed : (p i : Operand) (a : CType) (u v : TExpr) → ValueAt p (t.Ptr a) → o.target p ≡ Ok (a, u) → o.integer i ≡ Ok v → (q : TPlace) × (o.indexed known p i ≡ Ok (Place a q))
+  pointer_indexed : (p i : Operand) (a : CType) (u v : TExpr) → ValueAt p (t.Ptr a) → o.target p ≡ Ok (a, u) → o.integer i ≡ Ok v
+      → (q : TPlace) × (o.indexed known p i ≡ Ok (Place a q))
   unfolding o.indexed
   pointer_indexed p i a u v d is f = by (o.array_in p) refl
     where
@@ -230,7 +239,8 @@ module _ (known : Known) where
                 ∙ ap (λ c. Ok (Place c (tp.Elem b.1 v (size known b.0)))) same,
           )
 
-  field_placed : (a : CType) (name field : Name) (q : TPlace) (n : ℕ) → field_of known name field ≡ Some (a, n) → o.field_place known (t.Struct name) q field ≡ Ok (Place a (tp.Plus q n))
+  field_placed : (a : CType) (name field : Name) (q : TPlace) (n : ℕ) → field_of known name field ≡ Some (a, n)
+      → o.field_place known (t.Struct name) q field ≡ Ok (Place a (tp.Plus q n))
   field_placed a name field q n is = rw (name-Struct name, is) refl
 
 module _ (known : Known) (scope : List Binding) where
@@ -256,12 +266,14 @@ module _ (known : Known) (scope : List Binding) where
     pub terms : List TExpr
     pub fit : o.fitting_all fs operands_of ≡ Ok terms
 
-  pub variable_local : (name : Name) (f : Field) (m : Option Named) → VariableIs known scope name m → r.named (λ f. f.name) name g.locals ≡ Some f → (k : ℕ) × (m ≡ Some (named_local k f.ty))
+  pub variable_local : (name : Name) (f : Field) (m : Option Named) → VariableIs known scope name m → r.named (λ f. f.name) name g.locals ≡ Some f
+      → (k : ℕ) × (m ≡ Some (named_local k f.ty))
   variable_local name f _ (is_local b found) e = (b.number, ap (λ h. Some (named_local b.number h.ty)) (some_is (sym found ∙ e)))
   variable_local name f _ (is_global k x l found) e = let d : None ≡ Some f = sym l ∙ e in absurd cc
   variable_local name f _ (is_no_variable h) e = let d : None ≡ Some f = sym h.no_local ∙ e in absurd cc
 
-  pub variable_global : (name : Name) (x : GlobalDef) (m : Option Named) → VariableIs known scope name m → r.named (λ f. f.name) name g.locals ≡ None → r.named (λ x. x.name) name g.globals ≡ Some x → (k : ℕ) × (m ≡ Some (named_global k x.ty))
+  pub variable_global : (name : Name) (x : GlobalDef) (m : Option Named) → VariableIs known scope name m → r.named (λ f. f.name) name g.locals ≡ None
+      → r.named (λ x. x.name) name g.globals ≡ Some x → (k : ℕ) × (m ≡ Some (named_global k x.ty))
   variable_global name x _ (is_local b found) l e = let d : Some (field_of_binding b) ≡ None = sym found ∙ l in absurd cc
   variable_global name x _ (is_global k y m found) l e = (k, ap (λ h. Some (named_global k h.ty)) (some_is (sym found ∙ e)))
   variable_global name x _ (is_no_variable h) l e = let d : None ≡ Some x = sym h.no_global ∙ e in absurd cc
@@ -282,9 +294,11 @@ module _ (known : Known) (scope : List Binding) where
     has (r.of_pointer a d) = let q = has d in (Place (t.Ptr a) q.0, q.1, as_pointer a (te.Load kind.Ptr q.0) (place_pointer a q.0))
     has (r.of_array a n d is) = let q = has d in (Place (t.Array a n) q.0, q.1, as_pointer a (te.Addr q.0) (place_array a n q.0 is))
     has (r.negative {x = x} d) =
-        let p = has d in let v = integer_at p.2 in (o.number (te.Unary Neg v.0), rw (operand-Unary known scope Neg x, p.1, v.1) refl, as_value (te.Unary Neg v.0))
+        let p = has d in let v =
+        integer_at p.2 in (o.number (te.Unary Neg v.0), rw (operand-Unary known scope Neg x, p.1, v.1) refl, as_value (te.Unary Neg v.0))
     has (r.complement {x = x} d) =
-        let p = has d in let v = integer_at p.2 in (o.number (te.Unary BitNot v.0), rw (operand-Unary known scope BitNot x, p.1, v.1) refl, as_value (te.Unary BitNot v.0))
+        let p = has d in let v =
+        integer_at p.2 in (o.number (te.Unary BitNot v.0), rw (operand-Unary known scope BitNot x, p.1, v.1) refl, as_value (te.Unary BitNot v.0))
     has (r.negation {x = x} d) =
         let p = condition d in (o.number (te.Unary Not p.2.0), rw (operand-Unary known scope Not x, p.1, p.2.1) refl, as_value (te.Unary Not p.2.0))
     has (r.binary {op = op} {x = x} {y = y} d h) =
@@ -333,8 +347,12 @@ module _ (known : Known) (scope : List Binding) where
           as_value (te.Call c.0 h.terms),
         )
     has (r.call_input {name = name} {x = x} nv b d) =
-        let p = has d in let v = integer_at p.2 in
-        (o.number (te.Input v.0), rw (operand-Call known scope name (x ∷ []), p.1, callee_built_in known scope name Input nv b, v.1) refl, as_value (te.Input v.0))
+        let p = has d in let v = integer_at p.2 in (
+          o.number (te.Input v.0),
+          rw (operand-Call known scope name (x ∷ []), p.1, callee_built_in known scope name Input nv b, v.1) refl,
+          as_value
+              (te.Input v.0),
+        )
     has (r.call_inputs {name = name} nv b) =
         (o.number te.Inputs, rw (operand-Call known scope name [], callee_built_in known scope name Inputs nv b) refl, as_value te.Inputs)
     has (r.call_choose {name = name} {op = op} {x = x} {y = y} nv b d h) =
@@ -343,11 +361,19 @@ module _ (known : Known) (scope : List Binding) where
           rw (operand-Call known scope name (x ∷ y ∷ []), p.1, q.1, callee_built_in known scope name (Choose op) nv b, v.1, w.1) refl,
           as_value (te.Choose op v.0 w.0),
         )
-    has (r.size {a = a} d) =
-        (o.number (te.Number (pos (8 * size known a))), rw (operand-SizeOf known scope a, sized_complete (is_struct known.structs) d) refl, as_value (te.Number (pos (8 * size known a))))
+    has (r.size {a = a} d) = (
+      o.number (te.Number (pos (8 * size known a))),
+      rw (operand-SizeOf known scope a, sized_complete (is_struct known.structs) d) refl,
+      as_value
+          (te.Number (pos (8 * size known a))),
+    )
     has (r.allocation {x = x} {a = a} d h) =
-        let p = has d in let v = integer_at p.2 in
-        (Value (t.Ptr a) (te.Calloc v.0 (size known a)), rw (operand-Calloc known scope x a, p.1, v.1, sized_complete (is_struct known.structs) h) refl, as_value (te.Calloc v.0 (size known a)))
+        let p = has d in let v = integer_at p.2 in (
+          Value (t.Ptr a) (te.Calloc v.0 (size known a)),
+          rw
+              (operand-Calloc known scope x a, p.1, v.1, sized_complete (is_struct known.structs) h) refl,
+          as_value (te.Calloc v.0 (size known a)),
+        )
 
     pub fits : {x : Expr} {a : CType} → r.Fits g x a → AnswersFit x a
     fits (r.fits_int d) = let p = has d in let v = integer_at p.2 in (p.0, p.1, at_int v.0 v.1)

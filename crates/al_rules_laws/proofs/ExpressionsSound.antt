@@ -67,7 +67,8 @@ module _ (known : Known) (scope : List Binding) where
   used_typed x a v d (CType-F.Struct name) is = tt
   used_typed x a v d (CType-F.Array b n) is = tt
 
-  used_array : (x : Expr) (b : CType) (n : ℕ) (q : TPlace) → r.Has g x r.place (t.Array b n) → (c : Bool) → is_none (element b) ≡ c → UsedAs x (if c then Pointer (Some b) (te.Addr q) else Useless)
+  used_array : (x : Expr) (b : CType) (n : ℕ) (q : TPlace) → r.Has g x r.place (t.Array b n) → (c : Bool) → is_none (element b) ≡ c
+      → UsedAs x (if c then Pointer (Some b) (te.Addr q) else Useless)
   used_array x b n q d true is = r.of_array b n d (none_of (element b) is)
   used_array x b n q d false is = tt
 
@@ -124,11 +125,13 @@ module _ (known : Known) (scope : List Binding) where
 
   pointer_as : (x : Expr) (u : Used) (q : Option CType × TExpr) → UsedAs x u → o.as_pointer u ≡ Ok q → PointerAs x q.0
   pointer_as x (Pointer (Some a) w) q d is = subst (λ (p : Option CType × TExpr). PointerAs x p.0) (ok_is is) d
-  pointer_as x (Pointer None w) q d is = subst (λ (p : Option CType × TExpr). PointerAs x p.0) (ok_is is) (λ b. subst (λ y. r.Fits g y (t.Ptr b)) (sym d) (r.null b))
+  pointer_as x (Pointer None w) q d is =
+      subst (λ (p : Option CType × TExpr). PointerAs x p.0) (ok_is is) (λ b. subst (λ y. r.Fits g y (t.Ptr b)) (sym d) (r.null b))
   pointer_as x (Int w) q d is = absurd cc
   pointer_as x Useless q d is = absurd cc
 
-  literal_pointer : (x : Expr) (n : ℤ) (q : Option CType × TExpr) → x ≡ e.Number n → (c : Bool) → int_eq n (pos 0) ≡ c → (if c then Ok (None, te.Number (pos 0)) else Err Mismatch) ≡ Ok q → PointerAs x q.0
+  literal_pointer : (x : Expr) (n : ℤ) (q : Option CType × TExpr) → x ≡ e.Number n → (c : Bool) → int_eq n (pos 0) ≡ c
+      → (if c then Ok (None, te.Number (pos 0)) else Err Mismatch) ≡ Ok q → PointerAs x q.0
   literal_pointer x n q d true z is =
       subst (λ (p : Option CType × TExpr). PointerAs x p.0) (ok_is is)
       (λ b. subst (λ y. r.Fits g y (t.Ptr b)) (sym (d ∙ ap e.Number ((Decides-int_eq n (pos 0)).0 z))) (r.zero_literal b))
@@ -142,11 +145,16 @@ module _ (known : Known) (scope : List Binding) where
   pointer_is x (Variable k a) q d is = pointer_as x (o.used (Variable k a)) q (used_as x (Variable k a) d) is
   pointer_is x (Place a w) q d is = pointer_as x (o.used (Place a w)) q (used_as x (Place a w) d) is
 
+  leads : (x : Expr) (m : Option CType) → PointerAs x m → (a : CType) × r.Fits g x (t.Ptr a)
+  leads x (Some a) d = (a, r.fits_pointer a d)
+  leads x None d = (t.Int, d t.Int)
+
   fits_as : (x : Expr) (a : CType) (m : Option CType) → PointerAs x m → o.fits a m ≡ true → r.Fits g x (t.Ptr a)
   fits_as x a (Some b) d is = r.fits_pointer a (subst (λ c. r.Has g x r.value (t.Ptr c)) (sym (same_sound a b is)) d)
   fits_as x a None d is = d a
 
-  fitting_by : (x : Expr) (p : Operand) (a : CType) (v : TExpr) → Describes x p → (y : CType-F CType) → out-CType a ≡ y → o.fitting_case y p ≡ Ok v → r.Fits g x a
+  fitting_by : (x : Expr) (p : Operand) (a : CType) (v : TExpr) → Describes x p → (y : CType-F CType) → out-CType a ≡ y → o.fitting_case y p ≡ Ok v
+      → r.Fits g x a
   fitting_by x p a v d CType-F.Int is f = subst (r.Fits g x) (sym (is_int_type a is)) (r.fits_int (integer_is x p v d f))
   fitting_by x p a v d (CType-F.Ptr b) is f =
       let q = then_ok (o.pointer p) (λ q. ensure (o.fits b q.0) Mismatch >> Ok q.1) v f in
@@ -164,9 +172,12 @@ module _ (known : Known) (scope : List Binding) where
 
   unary_is : (op : UnOp) (x : Expr) (p q : Operand) → Describes x p → o.unary op p ≡ Ok q → Describes (e.Unary op x) q
   unfolding o.unary
-  unary_is Neg x p q d f = let v = then_ok (o.integer p) (λ a. Ok (o.number (te.Unary Neg a))) q f in yields (e.Unary Neg x) (r.negative (integer_is x p v.0 d v.1)) v.2
-  unary_is BitNot x p q d f = let v = then_ok (o.integer p) (λ a. Ok (o.number (te.Unary BitNot a))) q f in yields (e.Unary BitNot x) (r.complement (integer_is x p v.0 d v.1)) v.2
-  unary_is Not x p q d f = let v = then_ok (o.scalar p) (λ a. Ok (o.number (te.Unary Not a))) q f in yields (e.Unary Not x) (r.negation (scalar_is x p v.0 d v.1)) v.2
+  unary_is Neg x p q d f =
+      let v = then_ok (o.integer p) (λ a. Ok (o.number (te.Unary Neg a))) q f in yields (e.Unary Neg x) (r.negative (integer_is x p v.0 d v.1)) v.2
+  unary_is BitNot x p q d f =
+      let v = then_ok (o.integer p) (λ a. Ok (o.number (te.Unary BitNot a))) q f in yields (e.Unary BitNot x) (r.complement (integer_is x p v.0 d v.1)) v.2
+  unary_is Not x p q d f =
+      let v = then_ok (o.scalar p) (λ a. Ok (o.number (te.Unary Not a))) q f in yields (e.Unary Not x) (r.negation (scalar_is x p v.0 d v.1)) v.2
 
   integers_are : (op : BinOp) (x y : Expr) (p q s : Operand) → Describes x p → Describes y q → o.of_integers op p q ≡ Ok s → Describes (e.Binary op x y) s
   integers_are op x y p q s d h f =
@@ -237,7 +248,8 @@ module _ (known : Known) (scope : List Binding) where
   array_in_is x (Value a v) q d f = absurd cc
   array_in_is x (Variable k a) q d f = absurd cc
 
-  element_is : (x i : Expr) (a : CType) (w : TPlace) (q s : Operand) → (r.Has g i r.value t.Int → r.Has g (e.Index x i) r.place a) → Describes i q → o.element_place known a w q ≡ Ok s → Describes (e.Index x i) s
+  element_is : (x i : Expr) (a : CType) (w : TPlace) (q s : Operand) → (r.Has g i r.value t.Int → r.Has g (e.Index x i) r.place a) → Describes i q
+      → o.element_place known a w q ≡ Ok s → Describes (e.Index x i) s
   element_is x i a w q s make h f =
       let v = then_ok (o.integer q) (λ n. Ok (Place a (tp.Elem w n _))) s f in
       yields (e.Index x i) (make (integer_is i q v.0 h v.1)) v.2
@@ -333,7 +345,8 @@ module _ (known : Known) (scope : List Binding) where
   none_left : (n : ℕ) → suc n ≡ 0 → ⊥
   none_left n e = omega arith
 
-  fit_all : {xs : List Expr} {ps : List Operand} (fs : List Field) (vs : List TExpr) → DescribeAll xs ps → length ps ≡ length fs → o.fitting_all fs ps ≡ Ok vs → r.FitAll g xs fs
+  fit_all : {xs : List Expr} {ps : List Operand} (fs : List Field) (vs : List TExpr) → DescribeAll xs ps → length ps ≡ length fs → o.fitting_all fs ps ≡ Ok vs
+      → r.FitAll g xs fs
   fit_all [] vs none l f = r.none
   fit_all [] vs (more {ps = ps} d ds) l f = absurd (none_left (length ps) l)
   fit_all (h ∷ hs) vs none l f = absurd (none_left (length hs) (sym l))
@@ -345,7 +358,8 @@ module _ (known : Known) (scope : List Binding) where
       suc_is : (m n : ℕ) → suc m ≡ suc n → m ≡ n
       suc_is m n e = omega arith
 
-  function_called : (name : Name) (xs : List Expr) (ps : List Operand) (k : ℕ) (f : Func) (q : CType × TExpr) → r.IsNoVariable g name → r.named (λ f. f.name) name known.funcs ≡ Some f → DescribeAll xs ps → o.called (Function k f) ps ≡ Ok q → r.Has g (e.Call name xs) r.value q.0
+  function_called : (name : Name) (xs : List Expr) (ps : List Operand) (k : ℕ) (f : Func) (q : CType × TExpr) → r.IsNoVariable g name
+      → r.named (λ f. f.name) name known.funcs ≡ Some f → DescribeAll xs ps → o.called (Function k f) ps ≡ Ok q → r.Has g (e.Call name xs) r.value q.0
   unfolding o.called
   function_called name xs ps k f q nv found d is =
       let vs = then_ok (ensure (length ps == length f.params) Count >> o.fitting_all f.params ps) (λ args. Ok (f.result, te.Call k args)) q is in
@@ -353,7 +367,8 @@ module _ (known : Known) (scope : List Binding) where
       let l = eqb-true (length ps) (length f.params) (ensure_ok (length ps == length f.params) Count c.0 c.1) in
       subst (λ (p : CType × TExpr). r.Has g (e.Call name xs) r.value p.0) (ok_is vs.2) (r.call nv found (fit_all f.params vs.0 d l c.2))
 
-  built_in_called : (name : Name) (c : Callee) (xs : List Expr) (ps : List Operand) (q : CType × TExpr) → r.IsNoVariable g name → r.IsBuiltIn g name c → DescribeAll xs ps → ((k : ℕ) (f : Func) → c ≡ Function k f → ⊥) → o.called c ps ≡ Ok q → r.Has g (e.Call name xs) r.value q.0
+  built_in_called : (name : Name) (c : Callee) (xs : List Expr) (ps : List Operand) (q : CType × TExpr) → r.IsNoVariable g name → r.IsBuiltIn g name c
+      → DescribeAll xs ps → ((k : ℕ) (f : Func) → c ≡ Function k f → ⊥) → o.called c ps ≡ Ok q → r.Has g (e.Call name xs) r.value q.0
   unfolding o.called
   built_in_called name (Function k f) xs ps q nv b d other is = absurd (other k f refl)
   built_in_called name Input _ _ q nv b (more {x = x} {p = p} d none) other is =
@@ -366,27 +381,47 @@ module _ (known : Known) (scope : List Binding) where
   built_in_called name (Choose op) _ _ q nv b (more {x = x} {p = p} d (more {x = y} {p = s} h none)) other is =
       let v = then_ok (o.integer p) (λ a. o.integer s >>= (λ b. Ok (t.Int, te.Choose op a b))) q is in
       let w = then_ok (o.integer s) (λ b. Ok (t.Int, te.Choose op v.0 b)) q v.2 in
-      subst (λ (p : CType × TExpr). r.Has g (e.Call name (x ∷ y ∷ [])) r.value p.0) (ok_is w.2) (r.call_choose nv b (integer_is x p v.0 d v.1) (integer_is y s w.0 h w.1))
+      subst (λ (p : CType
+      × TExpr). r.Has g (e.Call name (x ∷ y ∷ [])) r.value p.0) (ok_is w.2) (r.call_choose nv b (integer_is x p v.0 d v.1) (integer_is y s w.0 h w.1))
   built_in_called name (Choose op) _ _ q nv b none other is = absurd cc
   built_in_called name (Choose op) _ _ q nv b (more d none) other is = absurd cc
   built_in_called name (Choose op) _ _ q nv b (more d (more h (more i is'))) other is = absurd cc
 
   -- no built-in function is one of the program
   pub no_function_built_in : (name : Name) (k : ℕ) (f : Func) → built_in name ≡ Some (Function k f) → ⊥
-  no_function_built_in name k f is = by (bytes_eq name (codes "input")) (bytes_eq name (codes "inputs")) (bytes_eq name (codes "min")) (bytes_eq name (codes "max")) is
+  no_function_built_in name k f is =
+      by (bytes_eq name (codes "input")) (bytes_eq name (codes "inputs")) (bytes_eq name (codes "min")) (bytes_eq name (codes "max")) is
     where
-      by : (a b c d : Bool) → (if a then Some Input else (if b then Some Inputs else (if c then Some (Choose Min) else (if d then Some (Choose Max) else None)))) ≡ Some (Function k f) → ⊥
+      by : (a b c d : Bool)
+          → (if a then Some Input else (if b then Some Inputs else (if c then Some (Choose Min) else (if d then Some (Choose Max) else None))))
+          ≡ Some (Function k f) → ⊥
       by true b c d e = cc
       by false true c d e = cc
       by false false true d e = cc
       by false false false true e = cc
       by false false false false e = cc
 
-  called_is : (name : Name) (c : Callee) (xs : List Expr) (ps : List Operand) (q : CType × TExpr) → CalleeIs known scope name c → DescribeAll xs ps → o.called c ps ≡ Ok q → r.Has g (e.Call name xs) r.value q.0
+  called_is : (name : Name) (c : Callee) (xs : List Expr) (ps : List Operand) (q : CType × TExpr) → CalleeIs known scope name c → DescribeAll xs ps
+      → o.called c ps ≡ Ok q → r.Has g (e.Call name xs) r.value q.0
   called_is name _ xs ps q (is_function k f nv found) d is = function_called name xs ps k f q nv found d is
-  called_is name c xs ps q (is_built_in nv b) d is = built_in_called name c xs ps q nv b d (λ k f same. no_function_built_in name k f (b.means ∙ ap Some same)) is
+  called_is name c xs ps q (is_built_in nv b) d is =
+      built_in_called name c xs ps q nv b d (λ k f same. no_function_built_in name k f (b.means ∙ ap Some same)) is
 
-  pub call_is : (name : Name) (xs : List Expr) (q : CType × TExpr) → AllOf Reads xs → call known scope name (operands known scope xs) ≡ Ok q → r.Has g (e.Call name xs) r.value q.0
+  -- a statement that frees what a pointer leads to has one operand
+  freed_by : {xs : List Expr} {ps : List Operand} (v : TExpr) → DescribeAll xs ps → o.freed ps ≡ Ok v
+      → (x : Expr) × (xs ≡ x ∷ []) × ((a : CType) × r.Fits g x (t.Ptr a))
+  unfolding o.freed
+  freed_by v none is = absurd cc
+  freed_by v (more {x = x} {p = p} d none) is =
+      let q = then_ok (o.pointer p) (λ a. Ok (te.Free a.1)) v is in (x, refl, leads x q.0.0 (pointer_is x p q.0 d q.1))
+  freed_by v (more d (more h hs)) is = absurd cc
+
+  pub freed_is : (xs : List Expr) (v : TExpr) → AllOf Reads xs → (operands known scope xs >>= o.freed) ≡ Ok v
+      → (x : Expr) × (xs ≡ x ∷ []) × ((a : CType) × r.Fits g x (t.Ptr a))
+  freed_is xs v hs is = let ps = then_ok (operands known scope xs) o.freed v is in freed_by v (all_described hs ps.0 ps.1) ps.2
+
+  pub call_is : (name : Name) (xs : List Expr) (q : CType × TExpr) → AllOf Reads xs → call known scope name (operands known scope xs) ≡ Ok q
+      → r.Has g (e.Call name xs) r.value q.0
   call_is name xs q hs is =
       let ps = then_ok (operands known scope xs) (λ ps. callee_named known scope name >>= (λ f. o.called f ps)) q is in
       let c = then_ok (callee_named known scope name) (λ f. o.called f ps.0) q ps.2 in
@@ -394,12 +429,15 @@ module _ (known : Known) (scope : List Binding) where
 
   -- ---- each node
 
-  variable_by : (name : Name) (m : Option Named) → VariableIs known scope name m → (p : Operand) → (some_or m Unknown >>= (λ v. Ok (o.of_variable v))) ≡ Ok p → Describes (e.Var name) p
+  variable_by : (name : Name) (m : Option Named) → VariableIs known scope name m → (p : Operand) → (some_or m Unknown >>= (λ v. Ok (o.of_variable v))) ≡ Ok p
+      → Describes (e.Var name) p
   variable_by name _ (is_local b found) p is = yields (e.Var name) (r.local_variable found) is
   variable_by name _ (is_global k x l found) p is = yields (e.Var name) (r.global_variable l found) is
   variable_by name None h p is = absurd cc
 
-  scalars_are : (join : TExpr → TExpr → TExpr) (whole : Expr → Expr → Expr) (make : (x y : Expr) → r.Condition g x → r.Condition g y → r.Has g (whole x y) r.value t.Int) (x y : Expr) (p q s : Operand) → Describes x p → Describes y q → o.of_scalars join p q ≡ Ok s → Describes (whole x y) s
+  scalars_are : (join : TExpr → TExpr → TExpr) (whole : Expr → Expr → Expr) (make : (x y : Expr) → r.Condition g x → r.Condition g y
+      → r.Has g (whole x y) r.value t.Int) (x y : Expr) (p q s : Operand) → Describes x p → Describes y q → o.of_scalars join p q ≡ Ok s
+      → Describes (whole x y) s
   scalars_are join whole make x y p q s d h f =
       let v = then_ok (o.scalar p) (λ a. o.scalar q >>= (λ b. Ok (o.number (join a b)))) s f in
       let w = then_ok (o.scalar q) (λ b. Ok (o.number (join v.0 b))) s v.2 in
@@ -448,7 +486,8 @@ module _ (known : Known) (scope : List Binding) where
         let u = then_ok (sized known scope a) (λ _. Ok (Value t.Int (te.Number (pos (8 * size known a))))) p (sym (operand-SizeOf known scope a) ∙ is) in
         yields (e.SizeOf a) (r.size (sized_sound (is_struct known.structs) a u.0 u.1)) u.2;
     allocation = λ x a h p is.
-        let n = then_ok (operand known scope x >>= o.integer) (λ n. sized known scope a >> Ok (Value (t.Ptr a) (te.Calloc n (size known a)))) p (sym (operand-Calloc known scope x a) ∙ is) in
+        let n = then_ok (operand known scope x
+        >>= o.integer) (λ n. sized known scope a >> Ok (Value (t.Ptr a) (te.Calloc n (size known a)))) p (sym (operand-Calloc known scope x a) ∙ is) in
         let b = then_ok (operand known scope x) o.integer n.0 n.1 in
         let u = then_ok (sized known scope a) (λ _. Ok (Value (t.Ptr a) (te.Calloc n.0 (size known a)))) p n.2 in
         yields (e.Calloc x a) (r.allocation (integer_is x b.0 n.0 (h b.0 b.1) b.2) (sized_sound (is_struct known.structs) a u.0 u.1)) u.2;

@@ -1,5 +1,6 @@
 -- What the walk makes of an expression fits the kind that is wanted.
 use Rattle.std.proofs.Common.{suc, arith, ◌*◌, bytes_eq, ◌≡◌, ℕ, Bool, true, false, ◌||◌, List, [], ◌∷◌, map, length, ◌==◌, if◌then◌else◌, Option, Some, None, option_map, option_and_then, Ok, Err, slice_get, find, is_none, int_eq, pos, refl, sym, ap, ◌∙◌, subst, ⊎_elim, eqb-true}
+use Rattle.al_source.specs.Steps.{and_then}
 use Rattle.al_source.specs.declared.operators.UnOp.{UnOp}
 use Rattle.al_source.specs.declared.operators.UnOp.TheVariants.{Neg, BitNot, Not}
 use Rattle.al_source.specs.declared.operators.BinOp.{BinOp}
@@ -31,11 +32,11 @@ use Rattle.al_rules.specs.Names.{Name, AllOf, place_named}
 use Rattle.al_rules.specs.Names as n
 use Rattle.al_rules.specs.Checks.{Checked, ◌>>=◌, ◌>>◌, ensure, some_or}
 use Rattle.al_rules.specs.Types.{element, struct_name, kind_case, kind_of}
-use Rattle.al_rules.specs.Scopes.{Binding, Known, Callee, built_in, size, Function, Input, Inputs, Choose, first_some, function_named, global_named, callee_by, field_of, variable_named, callee_named}
+use Rattle.al_rules.specs.Scopes.{Binding, Known, Callee, built_in, size, Function, Input, Inputs, Choose, first_some, function_named, global_named, callee_by, field_of, variable_named, callee_named, frees}
 use Rattle.al_rules.specs.Scopes.{Variable as Named, Local as named_local, Global as named_global}
 use Rattle.al_rules.specs.Operands as o
 use Rattle.al_rules.specs.Walks.{or_integer}
-use Rattle.al_rules.specs.Expressions.{operand, operands, call, sized}
+use Rattle.al_rules.specs.Expressions.{operand, operands, call, call_alone, sized}
 use Rattle.al_rules.specs.WellFormed.{PlaceKind, is_one, local_kind, is_some_kind, may_want, fits_either, fit_all, param_kinds, fit_params, global_kind, fits, place_kind, call_formed}
 use Rattle.al_rules.proofs.ExpressionNodes.{operand-Number, operand-Null, operand-Var, operand-Unary, operand-Binary, operand-And, operand-Or, operand-Index, operand-Dot, operand-Arrow, operand-Deref, operand-Address, operand-Call, operand-SizeOf, operand-Calloc}
 use Rattle.al_rules.proofs.TypeNodes.{kind-Int, kind-Ptr}
@@ -80,7 +81,8 @@ pub one_refl : (k : Kind) → is_one k k ≡ true
 one_refl kind.Int = refl
 one_refl kind.Ptr = refl
 
-module _ (typed : Typed) (results : List (Option Kind)) (locals : List TLocal) (known : Known) (scope : List Binding) (cx : Context typed results known) (placed : AllOf (Placed locals) scope) where
+module _ (typed : Typed) (results : List (Option Kind)) (locals : List TLocal) (known : Known) (scope : List Binding) (cx : Context typed results known)
+    (placed : AllOf (Placed locals) scope) where
   abbrev Fit : TExpr → Kind → Type 0
   Fit v k = fits typed results locals v k ≡ true
 
@@ -90,7 +92,8 @@ module _ (typed : Typed) (results : List (Option Kind)) (locals : List TLocal) (
   Good Null = Unit {0}
   Good (Value a v) = (k : Kind) → kind_of a ≡ Some k → Fit v k
   Good (Variable n a) = (v : TLocal) × (slice_get locals n ≡ Some v) × (kind_of a ≡ Some v.kind)
-  Good (Place a q) = ((place_kind typed results locals q).formed ≡ true) × ((k : Kind) → (place_kind typed results locals q).wants ≡ Some k → kind_of a ≡ Some k)
+  Good (Place a q) =
+      ((place_kind typed results locals q).formed ≡ true) × ((k : Kind) → (place_kind typed results locals q).wants ≡ Some k → kind_of a ≡ Some k)
 
   pub yields : {p q : Operand} → Good p → ◌≡◌ {A = Checked Operand} (Ok p) (Ok q) → Good q
   yields d same = subst Good (ok_is same) d
@@ -117,7 +120,8 @@ module _ (typed : Typed) (results : List (Option Kind)) (locals : List TLocal) (
   typed_well a v h (CType-F.Struct name) is = tt
   typed_well a v h (CType-F.Array b m) is = tt
 
-  pub local_fits : (m : ℕ) (a : CType) (v : TLocal) → slice_get locals m ≡ Some v → kind_of a ≡ Some v.kind → (k : Kind) → kind_of a ≡ Some k → Fit (te.Local m) k
+  pub local_fits : (m : ℕ) (a : CType) (v : TLocal) → slice_get locals m ≡ Some v → kind_of a ≡ Some v.kind → (k : Kind) → kind_of a ≡ Some k
+      → Fit (te.Local m) k
   local_fits m a v stands is k e =
       fits-Local typed results locals m k ∙ ap (λ w. is_some_kind (local_kind w) k) stands ∙ ap (λ j. is_one j k) (some_is (sym is ∙ e)) ∙ one_refl k
 
@@ -125,7 +129,8 @@ module _ (typed : Typed) (results : List (Option Kind)) (locals : List TLocal) (
   may_load None k h = refl
   may_load (Some j) k h = ap (λ i. is_one i k) (h j refl) ∙ one_refl k
 
-  load_fits : (a : CType) (q : TPlace) (k : Kind) → (place_kind typed results locals q).formed ≡ true → ((j : Kind) → (place_kind typed results locals q).wants ≡ Some j → kind_of a ≡ Some j) → kind_of a ≡ Some k → Fit (te.Load k q) k
+  load_fits : (a : CType) (q : TPlace) (k : Kind) → (place_kind typed results locals q).formed ≡ true
+      → ((j : Kind) → (place_kind typed results locals q).wants ≡ Some j → kind_of a ≡ Some j) → kind_of a ≡ Some k → Fit (te.Load k q) k
   load_fits a q k f h is =
       fits-Load typed results locals k q k ∙ rw (one_refl k, f, may_load (place_kind typed results locals q).wants k (λ j e. some_is (sym (h j e) ∙ is))) refl
 
@@ -208,7 +213,8 @@ module _ (typed : Typed) (results : List (Option Kind)) (locals : List TLocal) (
   pointer_fits (Variable k a) q h is = pointer_by (o.used (Variable k a)) q (used_well (Variable k a) h) is
   pointer_fits (Place a w) q h is = pointer_by (o.used (Place a w)) q (used_well (Place a w) h) is
 
-  fitting_by : (p : Operand) (a : CType) (v : TExpr) → Good p → (y : CType-F CType) → out-CType a ≡ y → o.fitting_case y p ≡ Ok v → (k : Kind) → kind_of a ≡ Some k → Fit v k
+  fitting_by : (p : Operand) (a : CType) (v : TExpr) → Good p → (y : CType-F CType) → out-CType a ≡ y → o.fitting_case y p ≡ Ok v → (k : Kind)
+      → kind_of a ≡ Some k → Fit v k
   fitting_by p a v h CType-F.Int is f k e = subst (Fit v) (some_is (sym (int_kind a is) ∙ e)) (integer_fits p v h f)
   fitting_by p a v h (CType-F.Ptr b) is f k e =
       let q = then_ok (o.pointer p) (λ q. ensure (o.fits b q.0) Mismatch >> Ok q.1) v f in
@@ -243,24 +249,29 @@ module _ (typed : Typed) (results : List (Option Kind)) (locals : List TLocal) (
   unary_good : (op : UnOp) (p q : Operand) → Good p → o.unary op p ≡ Ok q → Good q
   unfolding o.unary
   unary_good Neg p q h f =
-      let v = then_ok (o.integer p) (λ a. Ok (o.number (te.Unary Neg a))) q f in yields (number_good (te.Unary Neg v.0) (fits-Unary typed results locals Neg v.0 kind.Int ∙ integer_fits p v.0 h v.1)) v.2
+      let v = then_ok (o.integer p) (λ a. Ok (o.number (te.Unary Neg a))) q f in yields
+      (number_good (te.Unary Neg v.0) (fits-Unary typed results locals Neg v.0 kind.Int ∙ integer_fits p v.0 h v.1)) v.2
   unary_good BitNot p q h f =
-      let v = then_ok (o.integer p) (λ a. Ok (o.number (te.Unary BitNot a))) q f in yields (number_good (te.Unary BitNot v.0) (fits-Unary typed results locals BitNot v.0 kind.Int ∙ integer_fits p v.0 h v.1)) v.2
+      let v = then_ok (o.integer p) (λ a. Ok (o.number (te.Unary BitNot a))) q f in yields
+      (number_good (te.Unary BitNot v.0) (fits-Unary typed results locals BitNot v.0 kind.Int ∙ integer_fits p v.0 h v.1)) v.2
   unary_good Not p q h f =
-      let v = then_ok (o.scalar p) (λ a. Ok (o.number (te.Unary Not a))) q f in yields (number_good (te.Unary Not v.0) (fits-Unary typed results locals Not v.0 kind.Int ∙ scalar_fits p v.0 h v.1)) v.2
+      let v = then_ok (o.scalar p) (λ a. Ok (o.number (te.Unary Not a))) q f in yields
+      (number_good (te.Unary Not v.0) (fits-Unary typed results locals Not v.0 kind.Int ∙ scalar_fits p v.0 h v.1)) v.2
 
   integers_good : (op : BinOp) (p q s : Operand) → Good p → Good q → o.of_integers op p q ≡ Ok s → Good s
   integers_good op p q s h i f =
       let v = then_ok (o.integer p) (λ a. o.integer q >>= (λ b. Ok (o.number (te.Binary op a b)))) s f in
       let w = then_ok (o.integer q) (λ b. Ok (o.number (te.Binary op v.0 b))) s v.2 in
-      yields (number_good (te.Binary op v.0 w.0) (fits-Binary typed results locals op v.0 w.0 kind.Int ∙ rw (integer_fits p v.0 h v.1, integer_fits q w.0 i w.1) refl)) w.2
+      yields (number_good (te.Binary op v.0 w.0) (fits-Binary typed results locals op v.0 w.0 kind.Int
+      ∙ rw (integer_fits p v.0 h v.1, integer_fits q w.0 i w.1) refl)) w.2
 
   pointers_good : (equal : Bool) (p q s : Operand) → Good p → Good q → o.of_pointers equal p q ≡ Ok s → Good s
   pointers_good equal p q s h i f =
       let v = then_ok (o.pointer p) (λ a. o.pointer q >>= (λ b. ensure (o.are_one_type a.0 b.0) Mismatch >> Ok (o.number (te.Same equal a.1 b.1)))) s f in
       let w = then_ok (o.pointer q) (λ b. ensure (o.are_one_type v.0.0 b.0) Mismatch >> Ok (o.number (te.Same equal v.0.1 b.1))) s v.2 in
       let z = then_ok (ensure (o.are_one_type v.0.0 w.0.0) Mismatch) (λ _. Ok (o.number (te.Same equal v.0.1 w.0.1))) s w.2 in
-      yields (number_good (te.Same equal v.0.1 w.0.1) (fits-Same typed results locals equal v.0.1 w.0.1 kind.Int ∙ rw (pointer_fits p v.0 h v.1, pointer_fits q w.0 i w.1) refl)) z.2
+      yields (number_good (te.Same equal v.0.1 w.0.1) (fits-Same typed results locals equal v.0.1 w.0.1 kind.Int
+      ∙ rw (pointer_fits p v.0 h v.1, pointer_fits q w.0 i w.1) refl)) z.2
 
   binary_good : (op : BinOp) (p q s : Operand) → Good p → Good q → o.binary op p q ≡ Ok s → Good s
   unfolding o.binary
@@ -286,7 +297,8 @@ module _ (typed : Typed) (results : List (Option Kind)) (locals : List TLocal) (
   open_place : (a : CType) (q : TPlace) {f : Bool} → place_kind typed results locals q ≡ record { formed = f; wants = None } → f ≡ true → Good (Place a q)
   open_place a q is f = (ap (λ (k : PlaceKind). k.formed) is ∙ f, λ k e. let d : None ≡ Some k = sym (ap (λ (k : PlaceKind). k.wants) is) ∙ e in absurd cc)
 
-  element_good : (a : CType) (w : TPlace) (q s : Operand) → (place_kind typed results locals w).formed ≡ true → Good q → o.element_place known a w q ≡ Ok s → Good s
+  element_good : (a : CType) (w : TPlace) (q s : Operand) → (place_kind typed results locals w).formed ≡ true → Good q → o.element_place known a w q ≡ Ok s
+      → Good s
   element_good a w q s h i f =
       let v = then_ok (o.integer q) (λ m. Ok (Place a (tp.Elem w m (size known a)))) s f in
       yields (open_place a (tp.Elem w v.0 (size known a)) (place-Elem typed results locals w v.0 (size known a)) (rw h (integer_fits q v.0 i v.1))) v.2
@@ -315,7 +327,8 @@ module _ (typed : Typed) (results : List (Option Kind)) (locals : List TLocal) (
           let a = then_ok (o.target p) (λ a. o.element_place known a.0 (tp.At a.1) q) s b in
           element_good a.0.0 (tp.At a.0.1) q s (at_formed a.0.1 (target_fits p a.0 h a.1)) i a.2
 
-  field_good : (a : CType) (q : TPlace) (field : Name) (s : Operand) → (place_kind typed results locals q).formed ≡ true → o.field_place known a q field ≡ Ok s → Good s
+  field_good : (a : CType) (q : TPlace) (field : Name) (s : Operand) → (place_kind typed results locals q).formed ≡ true → o.field_place known a q field ≡ Ok s
+      → Good s
   field_good a q field s h f =
       let m = then_ok (some_or (struct_name a) Mismatch) (λ name. some_or (field_of known name field) Unknown >>= (λ f. Ok (Place f.0 (tp.Plus q f.1)))) s f in
       let g = then_ok (some_or (field_of known m.0 field) Unknown) (λ f. Ok (Place f.0 (tp.Plus q f.1))) s m.2 in
@@ -353,7 +366,8 @@ module _ (typed : Typed) (results : List (Option Kind)) (locals : List TLocal) (
 
   -- ---- variables
 
-  local_placed : (name : Name) (m : Option Binding) → find (λ b. bytes_eq b.name name) scope ≡ m → (k : ℕ) (a : CType) → option_map (λ b. named_local b.number b.ty) m ≡ Some (named_local k a) → Good (Variable k a)
+  local_placed : (name : Name) (m : Option Binding) → find (λ b. bytes_eq b.name name) scope ≡ m → (k : ℕ) (a : CType)
+      → option_map (λ b. named_local b.number b.ty) m ≡ Some (named_local k a) → Good (Variable k a)
   local_placed name (Some b) is k a e =
       let h = found_in (λ b. bytes_eq b.name name) scope b placed is in
       let d : Variable b.number b.ty ≡ Variable k a = ap (operand_of b) e in
@@ -371,7 +385,8 @@ module _ (typed : Typed) (results : List (Option Kind)) (locals : List TLocal) (
       let p = place-Global typed results locals k ∙ ap global_kind h.stands in
       (ap (λ (q : PlaceKind). q.formed) p, λ j e. sym h.scalar ∙ sym (ap (λ (q : PlaceKind). q.wants) p) ∙ e)
 
-  global_placed : (name : Name) (m : Option ℕ) (k : ℕ) (a : CType) → option_and_then (λ k. option_map (λ x. named_global k x.ty) (slice_get known.globals k)) m ≡ Some (named_global k a) → Good (Place a (tp.Global k))
+  global_placed : (name : Name) (m : Option ℕ) (k : ℕ) (a : CType)
+      → option_and_then (λ k. option_map (λ x. named_global k x.ty) (slice_get known.globals k)) m ≡ Some (named_global k a) → Good (Place a (tp.Global k))
   global_placed name None k a e = absurd cc
   global_placed name (Some j) k a e = by (slice_get known.globals j) refl e
     where
@@ -380,7 +395,8 @@ module _ (typed : Typed) (results : List (Option Kind)) (locals : List TLocal) (
       operand_of (Some (named_global k a)) = Place a (tp.Global k)
       operand_of None = Null
 
-      by : (x : Option GlobalDef) → slice_get known.globals j ≡ x → option_map (λ x. named_global j x.ty) x ≡ Some (named_global k a) → Good (Place a (tp.Global k))
+      by : (x : Option GlobalDef) → slice_get known.globals j ≡ x → option_map (λ x. named_global j x.ty) x ≡ Some (named_global k a)
+          → Good (Place a (tp.Global k))
       by (Some x) is e = subst Good (ap operand_of e) (global_kinds j x is)
       by None is e = absurd cc
 
@@ -395,12 +411,15 @@ module _ (typed : Typed) (results : List (Option Kind)) (locals : List TLocal) (
           of (Some x) e = cc
           of None e = cc
 
-      by : (m : Option Binding) → find (λ b. bytes_eq b.name name) scope ≡ m → first_some (option_map (λ b. named_local b.number b.ty) m) (global_named name known.globals) ≡ Some (named_local k a) → Good (Variable k a)
+      by : (m : Option Binding) → find (λ b. bytes_eq b.name name) scope ≡ m
+          → first_some (option_map (λ b. named_local b.number b.ty) m) (global_named name known.globals) ≡ Some (named_local k a) → Good (Variable k a)
       by (Some b) is e = local_placed name (Some b) is k a e
       by None is e = absurd (no_global (place_named (λ x. x.name) name known.globals) e)
   variable_good name (named_global k a) e = by (find (λ b. bytes_eq b.name name) scope) refl e
     where
-      by : (m : Option Binding) → find (λ b. bytes_eq b.name name) scope ≡ m → first_some (option_map (λ b. named_local b.number b.ty) m) (global_named name known.globals) ≡ Some (named_global k a) → Good (Place a (tp.Global k))
+      by : (m : Option Binding) → find (λ b. bytes_eq b.name name) scope ≡ m
+          → first_some (option_map (λ b. named_local b.number b.ty) m) (global_named name known.globals) ≡ Some (named_global k a)
+          → Good (Place a (tp.Global k))
       by (Some b) is e = absurd cc
       by None is e = global_placed name (place_named (λ x. x.name) name known.globals) k a e
 
@@ -410,7 +429,8 @@ module _ (typed : Typed) (results : List (Option Kind)) (locals : List TLocal) (
     none : AllGood []
     more : {p : Operand} {ps : List Operand} → Good p → AllGood ps → AllGood (p ∷ ps)
 
-  args_fit : (fs : List Field) (ps : List Operand) (vs : List TExpr) → AllOf (λ p. (k : Kind) × (kind_of p.ty ≡ Some k)) fs → AllGood ps → length ps ≡ length fs → o.fitting_all fs ps ≡ Ok vs → fit_all (map (fits typed results locals) vs) (map (λ p. or_integer (kind_of p.ty)) fs) ≡ true
+  args_fit : (fs : List Field) (ps : List Operand) (vs : List TExpr) → AllOf (λ p. (k : Kind) × (kind_of p.ty ≡ Some k)) fs → AllGood ps → length ps ≡ length fs
+      → o.fitting_all fs ps ≡ Ok vs → fit_all (map (fits typed results locals) vs) (map (λ p. or_integer (kind_of p.ty)) fs) ≡ true
   args_fit [] ps vs hs ds l f = subst (λ us. fit_all (map (fits typed results locals) us) [] ≡ true) (ok_is f) refl
   args_fit (h ∷ hs) [] vs ks ds l f = absurd (no_length (length hs) l)
     where
@@ -431,13 +451,16 @@ module _ (typed : Typed) (results : List (Option Kind)) (locals : List TLocal) (
     pub value : (k : Kind) → kind_of c.0 ≡ Some k → Fit c.1 k
     pub done : call_formed typed results locals (out-TExpr c.1) c.1 ≡ true
 
-  integer_call : (v : TExpr) (y : TExpr-F TExpr TPlace) → out-TExpr v ≡ y → Fit v kind.Int → call_formed typed results locals y v ≡ fits_either (fits typed results locals v) → GoodCall (t.Int, v)
-  integer_call v y is h same = record { value = λ k e. subst (Fit v) (some_is (sym kind-Int ∙ e)) h; done = ap (λ z. call_formed typed results locals z v) is ∙ same ∙ either_int v h }
+  integer_call : (v : TExpr) (y : TExpr-F TExpr TPlace) → out-TExpr v ≡ y → Fit v kind.Int
+      → call_formed typed results locals y v ≡ fits_either (fits typed results locals v) → GoodCall (t.Int, v)
+  integer_call v y is h same =
+      record { value = λ k e. subst (Fit v) (some_is (sym kind-Int ∙ e)) h; done = ap (λ z. call_formed typed results locals z v) is ∙ same ∙ either_int v h }
 
   call_yields : {c d : CType × TExpr} → GoodCall c → ◌≡◌ {A = Checked (CType × TExpr)} (Ok c) (Ok d) → GoodCall d
   call_yields h same = subst GoodCall (ok_is same) h
 
-  function_good : (k : ℕ) (f : Func) (ps : List Operand) (c : CType × TExpr) → slice_get known.funcs k ≡ Some f → AllGood ps → o.called (Function k f) ps ≡ Ok c → GoodCall c
+  function_good : (k : ℕ) (f : Func) (ps : List Operand) (c : CType × TExpr) → slice_get known.funcs k ≡ Some f → AllGood ps → o.called (Function k f) ps ≡ Ok c
+      → GoodCall c
   unfolding o.called
   function_good k f ps c stands ds is =
       let h = cx.funcs k f stands in
@@ -445,18 +468,21 @@ module _ (typed : Typed) (results : List (Option Kind)) (locals : List TLocal) (
       let u = then_ok (ensure (length ps == length f.params) Count) (λ _. o.fitting_all f.params ps) vs.0 vs.1 in
       let l = eqb-true (length ps) (length f.params) (ensure_ok (length ps == length f.params) Count u.0 u.1) in
       let args : fit_params (map (fits typed results locals) vs.0) (slice_get typed.funcs k) ≡ true =
-      ap (fit_params (map (fits typed results locals) vs.0)) h.stands ∙ ap (fit_all (map (fits typed results locals) vs.0)) h.params ∙ args_fit f.params ps vs.0 h.scalars ds l u.2 in
+      ap (fit_params (map (fits typed results locals) vs.0)) h.stands ∙ ap (fit_all (map (fits typed results locals) vs.0)) h.params
+      ∙ args_fit f.params ps vs.0 h.scalars ds l u.2 in
       call_yields (record {
         value = λ j e. fits-Call typed results locals k vs.0 j ∙ rw (h.gives, e, one_refl j) args;
         done = ap (λ y. call_formed typed results locals y (te.Call k vs.0)) (te.outs-Call k vs.0) ∙ args;
       }) vs.2
 
-  built_in_good : (g : Callee) (ps : List Operand) (c : CType × TExpr) → ((k : ℕ) (f : Func) → g ≡ Function k f → ⊥) → AllGood ps → o.called g ps ≡ Ok c → GoodCall c
+  built_in_good : (g : Callee) (ps : List Operand) (c : CType × TExpr) → ((k : ℕ) (f : Func) → g ≡ Function k f → ⊥) → AllGood ps → o.called g ps ≡ Ok c
+      → GoodCall c
   unfolding o.called
   built_in_good (Function k f) ps c other ds is = absurd (other k f refl)
   built_in_good Input (p ∷ []) c other (more d none) is =
       let v = then_ok (o.integer p) (λ a. Ok (t.Int, te.Input a)) c is in
-      call_yields (integer_call (te.Input v.0) (TExpr-F.Input v.0) (te.outs-Input v.0) (fits-Input typed results locals v.0 kind.Int ∙ integer_fits p v.0 d v.1) refl) v.2
+      call_yields (integer_call (te.Input v.0) (TExpr-F.Input v.0) (te.outs-Input v.0) (fits-Input typed results locals v.0 kind.Int
+      ∙ integer_fits p v.0 d v.1) refl) v.2
   built_in_good Input [] c other ds is = absurd cc
   built_in_good Input (p ∷ q ∷ ps) c other ds is = absurd cc
   built_in_good Inputs [] c other ds is = call_yields (integer_call te.Inputs TExpr-F.Inputs te.outs-Inputs (fits-Inputs typed results locals kind.Int) refl) is
@@ -464,13 +490,16 @@ module _ (typed : Typed) (results : List (Option Kind)) (locals : List TLocal) (
   built_in_good (Choose op) (p ∷ q ∷ []) c other (more d (more h none)) is =
       let v = then_ok (o.integer p) (λ a. o.integer q >>= (λ b. Ok (t.Int, te.Choose op a b))) c is in
       let w = then_ok (o.integer q) (λ b. Ok (t.Int, te.Choose op v.0 b)) c v.2 in
-      call_yields (integer_call (te.Choose op v.0 w.0) (TExpr-F.Choose op v.0 w.0) (te.outs-Choose op v.0 w.0) (fits-Choose typed results locals op v.0 w.0 kind.Int ∙ rw (integer_fits p v.0 d v.1, integer_fits q w.0 h w.1) refl) refl) w.2
+      call_yields
+      (integer_call (te.Choose op v.0 w.0) (TExpr-F.Choose op v.0 w.0) (te.outs-Choose op v.0 w.0) (fits-Choose typed results locals op v.0 w.0 kind.Int
+      ∙ rw (integer_fits p v.0 d v.1, integer_fits q w.0 h w.1) refl) refl) w.2
   built_in_good (Choose op) [] c other ds is = absurd cc
   built_in_good (Choose op) (p ∷ []) c other ds is = absurd cc
   built_in_good (Choose op) (p ∷ q ∷ r ∷ ps) c other ds is = absurd cc
 
   -- which function of the program is called
-  function_there : (name : Name) (m : Option ℕ) (k : ℕ) (f : Func) → option_and_then (λ k. option_map (λ f. Function k f) (slice_get known.funcs k)) m ≡ Some (Function k f) → slice_get known.funcs k ≡ Some f
+  function_there : (name : Name) (m : Option ℕ) (k : ℕ) (f : Func)
+      → option_and_then (λ k. option_map (λ f. Function k f) (slice_get known.funcs k)) m ≡ Some (Function k f) → slice_get known.funcs k ≡ Some f
   function_there name None k f e = absurd cc
   function_there name (Some j) k f e = by (slice_get known.funcs j) refl e
     where
@@ -486,7 +515,8 @@ module _ (typed : Typed) (results : List (Option Kind)) (locals : List TLocal) (
       by (Some g) is e = subst (λ n. slice_get known.funcs n ≡ Some f) (ap number_of e) (is ∙ ap Some (ap (func_of g) e))
       by None is e = absurd cc
 
-  only_functions : (m : Option ℕ) (g : Callee) → option_and_then (λ k. option_map (λ f. Function k f) (slice_get known.funcs k)) m ≡ Some g → ((k : ℕ) (f : Func) → Function k f ≡ g → ⊥) → ⊥
+  only_functions : (m : Option ℕ) (g : Callee) → option_and_then (λ k. option_map (λ f. Function k f) (slice_get known.funcs k)) m ≡ Some g
+      → ((k : ℕ) (f : Func) → Function k f ≡ g → ⊥) → ⊥
   only_functions None g is never = cc
   only_functions (Some j) g is never = by (slice_get known.funcs j) is
     where
@@ -494,7 +524,8 @@ module _ (typed : Typed) (results : List (Option Kind)) (locals : List TLocal) (
       by (Some f) e = never j f (some_is e)
       by None e = cc
 
-  callee_by_name : (name : Name) (m : Option ℕ) → (o' : Option Callee) → option_and_then (λ k. option_map (λ f. Function k f) (slice_get known.funcs k)) m ≡ o' → (g : Callee) (ps : List Operand) (c : CType × TExpr) → first_some o' (built_in name) ≡ Some g → AllGood ps → o.called g ps ≡ Ok c → GoodCall c
+  callee_by_name : (name : Name) (m : Option ℕ) → (o' : Option Callee) → option_and_then (λ k. option_map (λ f. Function k f) (slice_get known.funcs k)) m ≡ o'
+      → (g : Callee) (ps : List Operand) (c : CType × TExpr) → first_some o' (built_in name) ≡ Some g → AllGood ps → o.called g ps ≡ Ok c → GoodCall c
   callee_by_name name m (Some (Function j h)) is g ps c e ds run =
       function_good j h ps c (function_there name m j h is) ds (ap (λ g. o.called g ps) (some_is e) ∙ run)
   callee_by_name name m None is g ps c e ds run = built_in_good g ps c (λ k f same. no_function_built_in known scope name k f (e ∙ ap Some same)) ds run
@@ -502,14 +533,16 @@ module _ (typed : Typed) (results : List (Option Kind)) (locals : List TLocal) (
   callee_by_name name m (Some Inputs) is g ps c e ds run = absurd (only_functions m Inputs is (λ k f d. cc))
   callee_by_name name m (Some (Choose op)) is g ps c e ds run = absurd (only_functions m (Choose op) is (λ k f d. cc))
 
-  each_good : {xs : List Expr} → AllOf (λ x. (p : Operand) → operand known scope x ≡ Ok p → Good p) xs → (ps : List Operand) → operands known scope xs ≡ Ok ps → AllGood ps
+  each_good : {xs : List Expr} → AllOf (λ x. (p : Operand) → operand known scope x ≡ Ok p → Good p) xs → (ps : List Operand) → operands known scope xs ≡ Ok ps
+      → AllGood ps
   each_good n.none ps f = subst AllGood (ok_is f) none
   each_good (n.more {a = x} {rest = xs} h hs) ps f =
       let p = then_ok (operand known scope x) (λ b. operands known scope xs >>= (λ bs. Ok (b ∷ bs))) ps f in
       let q = then_ok (operands known scope xs) (λ bs. Ok (p.0 ∷ bs)) ps p.2 in
       subst AllGood (ok_is q.2) (more (h p.0 p.1) (each_good hs q.0 q.1))
 
-  call_good : (name : Name) (xs : List Expr) (c : CType × TExpr) → AllOf (λ x. (p : Operand) → operand known scope x ≡ Ok p → Good p) xs → call known scope name (operands known scope xs) ≡ Ok c → GoodCall c
+  call_good : (name : Name) (xs : List Expr) (c : CType × TExpr) → AllOf (λ x. (p : Operand) → operand known scope x ≡ Ok p → Good p) xs
+      → call known scope name (operands known scope xs) ≡ Ok c → GoodCall c
   call_good name xs c hs is =
       let ps = then_ok (operands known scope xs) (λ ps. callee_named known scope name >>= (λ f. o.called f ps)) c is in
       let g = then_ok (callee_named known scope name) (λ f. o.called f ps.0) c ps.2 in
@@ -518,7 +551,17 @@ module _ (typed : Typed) (results : List (Option Kind)) (locals : List TLocal) (
       by : (v : Option Named) (g : Callee) (ps : List Operand) → AllGood ps → callee_by known name v ≡ Ok g → o.called g ps ≡ Ok c → GoodCall c
       by (Some v) g ps ds e run = absurd cc
       by None g ps ds e run =
-          callee_by_name name (place_named (λ f. f.name) name known.funcs) (function_named name known.funcs) refl g ps c (some_ok (first_some (function_named name known.funcs) (built_in name)) Unknown g e) ds run
+          callee_by_name name (place_named (λ f. f.name) name known.funcs) (function_named name known.funcs) refl g ps c
+          (some_ok (first_some (function_named name known.funcs) (built_in name)) Unknown g e) ds run
+
+  freed_formed : (ps : List Operand) (v : TExpr) → AllGood ps → o.freed ps ≡ Ok v → call_formed typed results locals (out-TExpr v) v ≡ true
+  unfolding o.freed
+  freed_formed (p ∷ []) v (more d none) is =
+      let q = then_ok (o.pointer p) (λ a. Ok (te.Free a.1)) v is in
+      subst (λ x. call_formed typed results locals (out-TExpr x) x ≡ true) (ok_is q.2)
+      (ap (λ y. call_formed typed results locals y (te.Free q.0.1)) (te.outs-Free q.0.1) ∙ pointer_fits p q.0 d q.1)
+  freed_formed [] v ds is = absurd cc
+  freed_formed (p ∷ q ∷ ps) v ds is = absurd cc
 
   -- ---- each node
 
@@ -570,11 +613,13 @@ module _ (typed : Typed) (results : List (Option Kind)) (locals : List TLocal) (
         let u = then_ok (sized known scope a) (λ _. Ok (Value t.Int (te.Number (pos (8 * size known a))))) p (sym (operand-SizeOf known scope a) ∙ is) in
         yields (number_good (te.Number (pos (8 * size known a))) (fits-Number typed results locals (pos (8 * size known a)))) u.2;
     allocation = λ x a h p is.
-        let m = then_ok (operand known scope x >>= o.integer) (λ n. sized known scope a >> Ok (Value (t.Ptr a) (te.Calloc n (size known a)))) p (sym (operand-Calloc known scope x a) ∙ is) in
+        let m = then_ok (operand known scope x
+        >>= o.integer) (λ n. sized known scope a >> Ok (Value (t.Ptr a) (te.Calloc n (size known a)))) p (sym (operand-Calloc known scope x a) ∙ is) in
         let b = then_ok (operand known scope x) o.integer m.0 m.1 in
         let u = then_ok (sized known scope a) (λ _. Ok (Value (t.Ptr a) (te.Calloc m.0 (size known a)))) p m.2 in
         yields {p = Value (t.Ptr a) (te.Calloc m.0 (size known a))}
-        (λ k e. subst (Fit (te.Calloc m.0 (size known a))) (some_is (sym (kind-Ptr a) ∙ e)) (fits-Calloc typed results locals m.0 (size known a) kind.Ptr ∙ integer_fits b.0 m.0 (h b.0 b.1) b.2)) u.2;
+        (λ k e. subst (Fit (te.Calloc m.0 (size known a))) (some_is (sym (kind-Ptr a) ∙ e)) (fits-Calloc typed results locals m.0 (size known a) kind.Ptr
+        ∙ integer_fits b.0 m.0 (h b.0 b.1) b.2)) u.2;
   }
 
   pub operand_good : (x : Expr) (p : Operand) → operand known scope x ≡ Ok p → Good p
@@ -589,3 +634,17 @@ module _ (typed : Typed) (results : List (Option Kind)) (locals : List TLocal) (
 
   pub called_good : (name : Name) (xs : List Expr) (c : CType × TExpr) → call known scope name (operands known scope xs) ≡ Ok c → GoodCall c
   called_good name xs c = call_good name xs c (all_fine xs)
+
+  alone_by : (name : Name) (xs : List Expr) (v : TExpr) (b : Bool)
+      → (if b then and_then (operands known scope xs) o.freed else and_then (call known scope name (operands known scope xs)) (λ c. Ok c.1)) ≡ Ok v
+      → call_formed typed results locals (out-TExpr v) v ≡ true
+  alone_by name xs v true is =
+      let ps = then_ok (operands known scope xs) o.freed v is in freed_formed ps.0 v (operands_good xs ps.0 ps.1) ps.2
+  alone_by name xs v false is =
+      let c = then_ok (call known scope name (operands known scope xs)) (λ c. Ok c.1) v is in
+      subst (λ x. call_formed typed results locals (out-TExpr x) x ≡ true) (ok_is c.2) (called_good name xs c.0 c.1).done
+
+  -- a call that is a statement
+  pub alone_good : (name : Name) (xs : List Expr) (v : TExpr) → call_alone known scope name (operands known scope xs) ≡ Ok v
+      → call_formed typed results locals (out-TExpr v) v ≡ true
+  alone_good name xs v = alone_by name xs v (frees known scope name)

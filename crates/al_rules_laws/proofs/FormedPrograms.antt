@@ -1,5 +1,6 @@
 -- The typed tree of a program is well formed.
 use Rattle.std.proofs.Common.{◌≡◌, ℕ, zero, suc, ◌+◌, ◌≤◌, Bool, true, false, ◌&&◌, List, [], ◌∷◌, ◌++◌, map, length, take, if◌then◌else◌, Option, Some, None, Result, Ok, Err, option_map, slice_get, pos, codes, refl, sym, ap, ◌∙◌, subst, arith, append_assoc, append-nil, add-zero}
+use Rattle.al_source.specs.Steps.{and_then}
 use Rattle.al_source.specs.declared.source_tree.CType.{CType, out-CType}
 use Rattle.al_source.specs.declared.source_tree.CType.TheOpen.{CType-F}
 use Rattle.al_source.specs.declared.source_tree.CType.TheVariants as t
@@ -23,7 +24,6 @@ use Rattle.al_rules.specs.declared.faults.TypeFault.{TypeFault}
 use Rattle.al_rules.specs.declared.faults.TypeFault.TheVariants.{At}
 use Rattle.al_rules.specs.declared.layout.Layout.{Layout}
 use Rattle.al_rules.specs.Names.{Name, AllOf, none, more, place_named}
-use Rattle.al_rules.specs.Checks.{and_then}
 use Rattle.al_rules.specs.Layouts.{sizes, layout_of, words_of}
 use Rattle.al_rules.specs.Types.{is_int, kind_case, kind_of}
 use Rattle.al_rules.specs.Scopes.{Known, no_scope, globals_in, funcs_in, known_of}
@@ -106,7 +106,8 @@ pub data Typings (known : Known) : ℕ → List Func → List TNote → List TFu
   next : {n : ℕ} {f : Func} {fs : List Func} {l0 l1 l2 : List TNote} {t : TFunc} {ts : List TFunc}
       → func_typed known n f l0 ≡ Ok (t, l1) → Typings known (n + 1) fs l1 ts l2 → Typings known n (f ∷ fs) l0 (t ∷ ts) l2
 
-typings : (known : Known) (n : ℕ) (fs : List Func) (loops : List TNote) (z : List TFunc × List TNote) → funcs_typed known n fs loops ≡ Ok z → Typings known n fs loops z.0 z.1
+typings : (known : Known) (n : ℕ) (fs : List Func) (loops : List TNote) (z : List TFunc × List TNote) → funcs_typed known n fs loops ≡ Ok z
+    → Typings known n fs loops z.0 z.1
 typings known n [] loops z e = subst (λ (z : List TFunc × List TNote). Typings known n [] loops z.0 z.1) (same e) done
   where
     same : ◌≡◌ {A = Result (List TFunc × List TNote) TypeFault} (Ok ([], loops)) (Ok z) → ◌≡◌ {A = List TFunc × List TNote} ([], loops) z
@@ -116,7 +117,8 @@ typings known n (f ∷ fs) loops z e =
     let b = then_ok (funcs_typed known (n + 1) fs a.0.1) (λ ts. Ok (a.0.0 ∷ ts.0, ts.1)) z a.2 in
     subst (λ (z : List TFunc × List TNote). Typings known n (f ∷ fs) loops z.0 z.1) (same a.0 b.0 b.2) (next a.1 (typings known (n + 1) fs a.0.1 b.0 b.1))
   where
-    same : (a : TFunc × List TNote) (b : List TFunc × List TNote) → ◌≡◌ {A = Result (List TFunc × List TNote) TypeFault} (Ok (a.0 ∷ b.0, b.1)) (Ok z) → ◌≡◌ {A = List TFunc × List TNote} (a.0 ∷ b.0, b.1) z
+    same : (a : TFunc × List TNote) (b : List TFunc × List TNote) → ◌≡◌ {A = Result (List TFunc × List TNote) TypeFault} (Ok (a.0 ∷ b.0, b.1)) (Ok z)
+        → ◌≡◌ {A = List TFunc × List TNote} (a.0 ∷ b.0, b.1) z
     same a b e = cc
 
 -- one of them
@@ -127,7 +129,8 @@ pub record TypingAt (known : Known) (n : ℕ) (fs : List Func) (k : ℕ) (t : TF
   pub after : List TNote
   pub typed : func_typed known (n + k) func before ≡ Ok (t, after)
 
-typing_at : {known : Known} {n : ℕ} {fs : List Func} {l0 l1 : List TNote} {ts : List TFunc} (k : ℕ) (t : TFunc) → Typings known n fs l0 ts l1 → slice_get ts k ≡ Some t → TypingAt known n fs k t
+typing_at : {known : Known} {n : ℕ} {fs : List Func} {l0 l1 : List TNote} {ts : List TFunc} (k : ℕ) (t : TFunc) → Typings known n fs l0 ts l1
+    → slice_get ts k ≡ Some t → TypingAt known n fs k t
 typing_at k t done e = absurd cc
 typing_at {known = known} {n = n} zero t (next {f = f} {l0 = l0} {l1 = l1} {t = u} d ds) e =
     record { func = f; there = refl; before = l0; after = l1; typed = ap (λ m. func_typed known m f l0) (add-zero n) ∙ d ∙ ap (λ t. Ok (t, l1)) (some_is e) }
@@ -135,7 +138,8 @@ typing_at {known = known} {n = n} (suc k) t (next d ds) e =
     let h = typing_at k t ds e in
     record { func = h.func; there = h.there; before = h.before; after = h.after; typed = ap (λ m. func_typed known m h.func h.before) (omega arith) ∙ h.typed }
 
-source_at : {known : Known} {n : ℕ} {fs : List Func} {l0 l1 : List TNote} {ts : List TFunc} (k : ℕ) (f : Func) → Typings known n fs l0 ts l1 → slice_get fs k ≡ Some f → (t : TFunc) × (slice_get ts k ≡ Some t)
+source_at : {known : Known} {n : ℕ} {fs : List Func} {l0 l1 : List TNote} {ts : List TFunc} (k : ℕ) (f : Func) → Typings known n fs l0 ts l1
+    → slice_get fs k ≡ Some f → (t : TFunc) × (slice_get ts k ≡ Some t)
 source_at k f done e = absurd cc
 source_at zero f (next {t = t} d ds) e = (t, refl)
 source_at (suc k) f (next d ds) e = source_at k f ds e
@@ -150,12 +154,17 @@ pub record BodyOf (known : Known) (n : ℕ) (f : Func) (before : List TNote) (t 
   pub ends : Ends (w.statements known n f.result false f.body (begun f.params before)) end
   pub is : ◌≡◌ {A = TFunc × List TNote} (record { params = length f.params; locals = end.1.locals; body = end.0; line = f.line }, end.1.loops) (t, after)
 
-body_of : (known : Known) (n : ℕ) (f : Func) (before : List TNote) (t : TFunc) (after : List TNote) → func_typed known n f before ≡ Ok (t, after) → BodyOf known n f before t after
+body_of : (known : Known) (n : ℕ) (f : Func) (before : List TNote) (t : TFunc) (after : List TNote) → func_typed known n f before ≡ Ok (t, after)
+    → BodyOf known n f before t after
 body_of known n f before t after e =
-    let q = then_ok (w.statements known n f.result false f.body (begun f.params before)) (λ r. Ok (record { params = length f.params; locals = r.1.locals; body = r.0; line = f.line }, r.1.loops)) (t, after) e in
+    let q = then_ok (w.statements known n f.result false f.body (begun f.params before))
+    (λ r. Ok (record { params = length f.params; locals = r.1.locals; body = r.0; line = f.line }, r.1.loops)) (t, after) e in
     record { end = q.0; ends = q.1; is = same q.0 q.2 }
   where
-    same : (r : List TStmt × Progress) → ◌≡◌ {A = Result (TFunc × List TNote) TypeFault} (Ok (record { params = length f.params; locals = r.1.locals; body = r.0; line = f.line }, r.1.loops)) (Ok (t, after)) → ◌≡◌ {A = TFunc × List TNote} (record { params = length f.params; locals = r.1.locals; body = r.0; line = f.line }, r.1.loops) (t, after)
+    same : (r : List TStmt × Progress)
+        → ◌≡◌ {A = Result (TFunc
+        × List TNote) TypeFault} (Ok (record { params = length f.params; locals = r.1.locals; body = r.0; line = f.line }, r.1.loops)) (Ok (t, after))
+        → ◌≡◌ {A = TFunc × List TNote} (record { params = length f.params; locals = r.1.locals; body = r.0; line = f.line }, r.1.loops) (t, after)
     same r e = cc
 
 -- ---- a tree of signatures alone
@@ -170,12 +179,14 @@ signatures known = record { globals = globals_typed known known.globals; funcs =
 abbrev gives_of : List Func → List (Option Kind)
 gives_of fs = map (λ f. kind_of f.result) fs
 
-globals_at : (known : Known) (gs : List GlobalDef) (k : ℕ) (x : GlobalDef) → slice_get gs k ≡ Some x → slice_get (globals_typed known gs) k ≡ Some (global_typed known x)
+globals_at : (known : Known) (gs : List GlobalDef) (k : ℕ) (x : GlobalDef) → slice_get gs k ≡ Some x
+    → slice_get (globals_typed known gs) k ≡ Some (global_typed known x)
 globals_at known [] k x e = absurd cc
 globals_at known (g ∷ gs) zero x e = ap (option_map (global_typed known)) e
 globals_at known (g ∷ gs) (suc k) x e = globals_at known gs k x e
 
-kinds_of_params : (fs : List Field) (rest : List TLocal) → map (λ (v : TLocal). v.kind) (take (length fs) (map (λ p. local_of p.name p.ty) fs ++ rest)) ≡ map (λ p. or_integer (kind_of p.ty)) fs
+kinds_of_params : (fs : List Field) (rest : List TLocal)
+    → map (λ (v : TLocal). v.kind) (take (length fs) (map (λ p. local_of p.name p.ty) fs ++ rest)) ≡ map (λ p. or_integer (kind_of p.ty)) fs
 kinds_of_params fs rest =
     ap (λ m. map (λ (v : TLocal). v.kind) (take m (map (λ p. local_of p.name p.ty) fs ++ rest))) (sym (map_length (λ p. local_of p.name p.ty) fs))
     ∙ ap (map (λ (v : TLocal). v.kind)) (take_front (map (λ p. local_of p.name p.ty) fs) rest)
@@ -188,17 +199,26 @@ module _ (known : Known) (scalars : (k : ℕ) (f : Func) → slice_get known.fun
     funcs = λ k f e. record {
       func = signature f;
       stands = get_map signature known.funcs k f e;
-      params = ap (λ us. map (λ (v : TLocal). v.kind) (take (length f.params) us)) (sym (append-nil (map (λ p. local_of p.name p.ty) f.params))) ∙ kinds_of_params f.params [];
+      params = ap (λ us. map (λ (v : TLocal). v.kind) (take (length f.params) us)) (sym (append-nil (map (λ p. local_of p.name p.ty) f.params)))
+          ∙ kinds_of_params f.params [];
       gives = get_map (λ f. kind_of f.result) known.funcs k f e;
       scalars = scalars k f e;
     };
   }
 
   -- the parameters are the first locals of the typed function
-  grown : (k : ℕ) (f : Func) (before after : List TNote) (t : TFunc) → slice_get known.funcs k ≡ Some f → BodyOf known k f before t after → Prefix (map (λ p. local_of p.name p.ty) f.params) t.locals
+  grown : (k : ℕ) (f : Func) (before after : List TNote) (t : TFunc) → slice_get known.funcs k ≡ Some f → BodyOf known k f before t after
+      → Prefix (map (λ p. local_of p.name p.ty) f.params) t.locals
   grown k f before after t e b =
-      let h = statements_formed (signatures known) (gives_of known.funcs) known k (signature f) f.result (get_map signature known.funcs k f e) signature_context f.body false (begun f.params before) b.end b.ends (begun_good (signatures known) f.params before (scalars k f e)) in
-      let start : Prefix (map (λ p. local_of p.name p.ty) f.params) (begun f.params before).locals = record { rest = []; is = append-nil (map (λ p. local_of p.name p.ty) f.params) ∙ sym (params_locals f.params (record { scope = no_scope; locals = []; loops = before })) } in
+      let h = statements_formed (signatures known) (gives_of known.funcs) known k (signature f) f.result
+      (get_map signature known.funcs k f e) signature_context f.body false (begun f.params before) b.end b.ends
+      (begun_good (signatures known) f.params before (scalars k f e)) in
+      let start : Prefix (map (λ p. local_of p.name p.ty) f.params) (begun f.params before).locals =
+      record {
+        rest = [];
+        is = append-nil (map (λ p. local_of p.name p.ty) f.params)
+            ∙ sym (params_locals f.params (record { scope = no_scope; locals = []; loops = before }));
+      } in
       subst (λ us. Prefix (map (λ p. local_of p.name p.ty) f.params) us) (ap (λ (q : TFunc × List TNote). q.0.locals) b.is) (prefix_trans start h.grows)
 
 -- ---- the tree of a program
@@ -220,20 +240,27 @@ module _ (items : List Item) (layout : Layout) (typed : Typed) (ts : List TFunc)
       let h = typing_at k s.0 all s.1 in
       let same : h.func ≡ f = some_is (sym h.there ∙ e) in
       let b = body_of known (0 + k) h.func h.before s.0 h.after h.typed in
-      let b' : BodyOf known k f h.before s.0 h.after = subst (λ (m : ℕ). BodyOf known m f h.before s.0 h.after) (omega arith) (subst (λ g. BodyOf known (0 + k) g h.before s.0 h.after) same b) in
+      let b' : BodyOf known k f h.before s.0 h.after =
+      subst (λ (m : ℕ). BodyOf known m f h.before s.0 h.after) (omega arith) (subst (λ g. BodyOf known (0 + k) g h.before s.0 h.after) same b) in
       let g = grown known scalars k f h.before h.after s.0 e b' in
       let params : s.0.params ≡ length f.params = sym (ap (λ (q : TFunc × List TNote). q.0.params) b'.is) in
       record {
         func = s.0;
         stands = ap (λ us. slice_get us k) funcs_are ∙ s.1;
-        params = ap (λ m. map (λ (v : TLocal). v.kind) (take m s.0.locals)) params ∙ ap (λ us. map (λ (v : TLocal). v.kind) (take (length f.params) us)) (sym g.is) ∙ kinds_of_params f.params g.rest;
+        params = ap (λ m. map (λ (v : TLocal). v.kind) (take m s.0.locals)) params
+            ∙ ap (λ us. map (λ (v : TLocal). v.kind) (take (length f.params) us)) (sym g.is) ∙ kinds_of_params f.params g.rest;
         gives = get_map (λ f. kind_of f.result) (funcs_in items) k f e;
         scalars = scalars k f e;
       }
 
   context : Context typed results known
   context = record {
-    globals = λ k x e. record { global = global_typed known x; stands = ap (λ us. slice_get us k) globals_are ∙ globals_at known (globals_in items) k x e; scalar = refl };
+    globals = λ k x e. record {
+      global = global_typed known x;
+      stands = ap (λ us. slice_get us k) globals_are
+          ∙ globals_at known (globals_in items) k x e;
+      scalar = refl;
+    };
     funcs = func_of;
   }
 
@@ -246,10 +273,13 @@ module _ (items : List Item) (layout : Layout) (typed : Typed) (ts : List TFunc)
     pub notes : notes_from 0 after ≡ notes_from 0 before ++ (counted_all k t.body).loops t.params
     pub reductions : AllOf (Noted typed t.locals) before → AllOf (Noted typed t.locals) after
 
-  walked_end : (k : ℕ) (f : Func) (before : List TNote) (end : List TStmt × Progress) (t : TFunc) (after : List TNote) → ◌≡◌ {A = TFunc × List TNote} (record { params = length f.params; locals = end.1.locals; body = end.0; line = f.line }, end.1.loops) (t, after)
-      → slice_get (funcs_in items) k ≡ Some f → slice_get typed.funcs k ≡ Some t → Ends (w.statements known k f.result false f.body (begun f.params before)) end → Walked k f before after t
+  walked_end : (k : ℕ) (f : Func) (before : List TNote) (end : List TStmt × Progress) (t : TFunc) (after : List TNote)
+      → ◌≡◌ {A = TFunc × List TNote} (record { params = length f.params; locals = end.1.locals; body = end.0; line = f.line }, end.1.loops) (t, after)
+      → slice_get (funcs_in items) k ≡ Some f → slice_get typed.funcs k ≡ Some t → Ends (w.statements known k f.result false f.body (begun f.params before)) end
+      → Walked k f before after t
   walked_end k f before end t after is e stands ends =
-      let h = statements_formed typed results known k t f.result stands context f.body false (begun f.params before) end ends (begun_good typed f.params before (scalars k f e)) in
+      let h = statements_formed typed results known k t f.result stands context f.body false (begun f.params before) end ends
+      (begun_good typed f.params before (scalars k f e)) in
       let locals : t.locals ≡ end.1.locals = sym (ap (λ (q : TFunc × List TNote). q.0.locals) is) in
       let body : t.body ≡ end.0 = sym (ap (λ (q : TFunc × List TNote). q.0.body) is) in
       let params : t.params ≡ length f.params = sym (ap (λ (q : TFunc × List TNote). q.0.params) is) in
@@ -261,16 +291,19 @@ module _ (items : List Item) (layout : Layout) (typed : Typed) (ts : List TFunc)
         params = params;
         within = subst (λ m. m ≤ length t.locals) from (subst (λ us. length (begun f.params before).locals ≤ length us) (sym locals) (prefix_length h.grows));
         body = ap (body_formed typed results t.locals (kind_of f.result)) body ∙ h.facts whole;
-        locals = ap (λ ss. (counted_all k ss).after t.params) body ∙ ap (λ m. (counted_all k end.0).after m) (params ∙ sym from) ∙ h.counts ∙ ap length (sym locals);
+        locals = ap (λ ss. (counted_all k ss).after t.params) body ∙ ap (λ m. (counted_all k end.0).after m) (params ∙ sym from) ∙ h.counts
+            ∙ ap length (sym locals);
         notes =
             ap (notes_from 0) last ∙ h.notes
             ∙ ap (λ us. notes_from 0 us ++ (counted_all k end.0).loops (length (begun f.params before).locals)) here
             ∙ ap (λ m. notes_from 0 before ++ (counted_all k end.0).loops m) (from ∙ sym params)
             ∙ ap (λ ss. notes_from 0 before ++ (counted_all k ss).loops t.params) (sym body);
-        reductions = λ g. subst (λ us. AllOf (Noted typed t.locals) us) (sym last) (h.reductions whole (subst (λ us. AllOf (Noted typed t.locals) us) (sym here) g));
+        reductions =
+            λ g. subst (λ us. AllOf (Noted typed t.locals) us) (sym last) (h.reductions whole (subst (λ us. AllOf (Noted typed t.locals) us) (sym here) g));
       }
 
-  walked : (k : ℕ) (f : Func) (before after : List TNote) (t : TFunc) → slice_get (funcs_in items) k ≡ Some f → slice_get typed.funcs k ≡ Some t → func_typed known k f before ≡ Ok (t, after) → Walked k f before after t
+  walked : (k : ℕ) (f : Func) (before after : List TNote) (t : TFunc) → slice_get (funcs_in items) k ≡ Some f → slice_get typed.funcs k ≡ Some t
+      → func_typed known k f before ≡ Ok (t, after) → Walked k f before after t
   walked k f before after t e stands d =
       let b = body_of known k f before t after d in walked_end k f before b.end t after b.is e stands b.ends
 
@@ -284,18 +317,24 @@ module _ (items : List Item) (layout : Layout) (typed : Typed) (ts : List TFunc)
     pub reductions : AllOf (Noted typed []) before → AllOf (Noted typed []) after
 
   all_walked : {n : ℕ} {fs : List Func} {l0 l1 : List TNote} {us : List TFunc} → Typings known n fs l0 us l1
-      → ((k : ℕ) (f : Func) → slice_get fs k ≡ Some f → slice_get (funcs_in items) (n + k) ≡ Some f) → ((k : ℕ) (t : TFunc) → slice_get us k ≡ Some t → slice_get typed.funcs (n + k) ≡ Some t) → AllWalked n us l0 l1
+      → ((k : ℕ) (f : Func) → slice_get fs k ≡ Some f → slice_get (funcs_in items) (n + k) ≡ Some f)
+      → ((k : ℕ) (t : TFunc) → slice_get us k ≡ Some t → slice_get typed.funcs (n + k) ≡ Some t) → AllWalked n us l0 l1
   all_walked {l0 = l0} done there stands = record { notes = sym (append-nil (notes_from 0 l0)); reductions = λ g. g }
   all_walked {n = n} (next {f = f} {fs = fs} {l0 = l0} {l1 = l1} {l2 = l2} {t = t} {ts = us} d ds) there stands =
-      let a = walked n f l0 l1 t (ap (λ m. slice_get (funcs_in items) m) (sym (add-zero n)) ∙ there 0 f refl) (ap (λ m. slice_get typed.funcs m) (sym (add-zero n)) ∙ stands 0 t refl) d in
-      let b = all_walked ds (λ k g e. ap (λ m. slice_get (funcs_in items) m) (omega arith) ∙ there (suc k) g e) (λ k g e. ap (λ m. slice_get typed.funcs m) (omega arith) ∙ stands (suc k) g e) in
+      let a = walked n f l0 l1 t (ap (λ m. slice_get (funcs_in items) m) (sym (add-zero n))
+      ∙ there 0 f refl) (ap (λ m. slice_get typed.funcs m) (sym (add-zero n)) ∙ stands 0 t refl) d in
+      let b = all_walked ds (λ k g e. ap (λ m. slice_get (funcs_in items) m) (omega arith)
+      ∙ there (suc k) g e) (λ k g e. ap (λ m. slice_get typed.funcs m) (omega arith) ∙ stands (suc k) g e) in
       record {
-        notes = b.notes ∙ ap (λ ns. ns ++ loops_from (n + 1) us) a.notes ∙ append_assoc (notes_from 0 l0) ((counted_all n t.body).loops t.params) (loops_from (n + 1) us);
+        notes = b.notes ∙ ap (λ ns. ns ++ loops_from (n + 1) us) a.notes
+            ∙ append_assoc (notes_from 0 l0) ((counted_all n t.body).loops t.params) (loops_from (n + 1) us);
         reductions = λ g. b.reductions (renoted t.locals [] (a.reductions (renoted [] t.locals g)));
       }
 
   whole_walked : AllWalked 0 ts [] loops
-  whole_walked = all_walked all (λ k f e. ap (λ m. slice_get (funcs_in items) m) (omega arith) ∙ e) (λ k t e. ap (λ m. slice_get typed.funcs m) (omega arith) ∙ ap (λ us. slice_get us k) funcs_are ∙ e)
+  whole_walked =
+      all_walked all (λ k f e. ap (λ m. slice_get (funcs_in items) m) (omega arith) ∙ e) (λ k t e. ap (λ m. slice_get typed.funcs m) (omega arith)
+      ∙ ap (λ us. slice_get us k) funcs_are ∙ e)
 
   formed_func : (k : ℕ) (t : TFunc) → slice_get typed.funcs k ≡ Some t → IsFormedFunc typed results k t
   formed_func k t e =
@@ -328,7 +367,8 @@ holds_kind p.number never = kind-Int
 holds_kind (p.null a) never = absurd (never refl)
 holds_kind (p.zero_pointer a) never = absurd (never refl)
 
-formed_globals : (items before is : List Item) (layout : Layout) → p.ItemsTyped items before is → AllOf IsFormedGlobal (globals_typed (known_of layout items) (globals_in is))
+formed_globals : (items before is : List Item) (layout : Layout) → p.ItemsTyped items before is
+    → AllOf IsFormedGlobal (globals_typed (known_of layout items) (globals_in is))
 formed_globals items before [] layout d = none
 formed_globals items before (item.Struct s ∷ is) layout (p.next h d) = formed_globals items (before ++ item.Struct s ∷ []) is layout d
 formed_globals items before (item.Func f ∷ is) layout (p.next h d) = formed_globals items (before ++ item.Func f ∷ []) is layout d
@@ -339,7 +379,8 @@ func_scalars : (items before is : List Item) → p.ItemsTyped items before is �
 func_scalars items before [] d = none
 func_scalars items before (item.Struct s ∷ is) (p.next h d) = func_scalars items (before ++ item.Struct s ∷ []) is d
 func_scalars items before (item.Global g ∷ is) (p.next h d) = func_scalars items (before ++ item.Global g ∷ []) is d
-func_scalars items before (item.Func f ∷ is) (p.next (p.function free result params) d) = more (scalar_fields [] f.params params) (func_scalars items (before ++ item.Func f ∷ []) is d)
+func_scalars items before (item.Func f ∷ is) (p.next (p.function free result params) d) =
+    more (scalar_fields [] f.params params) (func_scalars items (before ++ item.Func f ∷ []) is d)
 
 -- ---- main
 
@@ -360,7 +401,8 @@ main_is fs (Some n) k e = by (slice_get fs n) refl e
     empty [] e = refl
     empty (h ∷ hs) e = absurd cc
 
-    of : (f : Func) → slice_get fs n ≡ Some f → (b : Bool) → (is_empty f.params && is_int f.result) ≡ b → (if b then Ok n else Err (At Main f.line)) ≡ Ok k → MainIs fs k
+    of : (f : Func) → slice_get fs n ≡ Some f → (b : Bool) → (is_empty f.params && is_int f.result) ≡ b → (if b then Ok n else Err (At Main f.line)) ≡ Ok k
+        → MainIs fs k
     of f s true both e =
         let q = and_parts (is_empty f.params) (is_int f.result) both in
         record { func = f; stands = ap (slice_get fs) (sym (same e)) ∙ s; no_params = empty f.params q.0; gives_int = int_true f.result q.1 }
@@ -381,14 +423,18 @@ tree_of q main fs = record {
   nodes = capped (program_nodes q);
 }
 
-tree_formed : (q : Program) (main : ℕ) (fs : List TFunc × List TNote) → p.WellTyped q → MainIs (funcs_in q.items) main → Typings (known_of (sizes q) q.items) 0 (funcs_in q.items) [] fs.0 fs.1 → IsWellFormed (tree_of q main fs)
+tree_formed : (q : Program) (main : ℕ) (fs : List TFunc × List TNote) → p.WellTyped q → MainIs (funcs_in q.items) main
+    → Typings (known_of (sizes q) q.items) 0 (funcs_in q.items) [] fs.0 fs.1 → IsWellFormed (tree_of q main fs)
 tree_formed q main fs wt m all =
-    let scalars : (k : ℕ) (f : Func) → slice_get (funcs_in q.items) k ≡ Some f → AllOf ScalarField f.params = λ k f e. all_at (funcs_in q.items) k f (func_scalars q.items [] q.items wt.items) e in
+    let scalars : (k : ℕ) (f : Func) → slice_get (funcs_in q.items) k ≡ Some f → AllOf ScalarField f.params =
+    λ k f e. all_at (funcs_in q.items) k f (func_scalars q.items [] q.items wt.items) e in
     let whole = whole_walked q.items (sizes q) (tree_of q main fs) fs.0 fs.1 scalars refl refl all in
     let t = source_at main m.func all m.stands in
     let h = typing_at main t.0 all t.1 in
     let b = body_of (known_of (sizes q) q.items) (0 + main) h.func h.before t.0 h.after h.typed in
-    let none_params : t.0.params ≡ 0 = sym (ap (λ (q : TFunc × List TNote). q.0.params) b.is) ∙ ap (λ (f : Func). length f.params) (some_is (sym h.there ∙ m.stands)) ∙ ap length m.no_params in
+    let none_params : t.0.params ≡ 0 =
+    sym (ap (λ (q : TFunc × List TNote). q.0.params) b.is) ∙ ap (λ (f : Func). length f.params) (some_is (sym h.there ∙ m.stands))
+    ∙ ap length m.no_params in
     record {
       results = gives_of (funcs_in q.items);
       as_many = map_length (λ f. kind_of f.result) (funcs_in q.items) ∙ sym (typings_length all);
@@ -403,11 +449,13 @@ resolved_formed : (q : Program) (l : Layout) (typed : Typed) → layout_of q ≡
 unfolding typed_with
 resolved_formed q l typed laid e =
     let known = known_of (sizes q) q.items in
-    let a = then_ok (items_checked q.items [] q.items) (λ _. and_then (main_of (funcs_in q.items)) (λ main. and_then (funcs_typed known 0 (funcs_in q.items) []) (λ fs. Ok (tree_of q main fs)))) typed e in
+    let a = then_ok (items_checked q.items [] q.items)
+    (λ _. and_then (main_of (funcs_in q.items)) (λ main. and_then (funcs_typed known 0 (funcs_in q.items) []) (λ fs. Ok (tree_of q main fs)))) typed e in
     let b = then_ok (main_of (funcs_in q.items)) (λ main. and_then (funcs_typed known 0 (funcs_in q.items) []) (λ fs. Ok (tree_of q main fs))) typed a.2 in
     let c = then_ok (funcs_typed known 0 (funcs_in q.items) []) (λ fs. Ok (tree_of q b.0 fs)) typed b.2 in
     subst IsWellFormed (same (tree_of q b.0 c.0) c.2)
-    (tree_formed q b.0 c.0 (well_typed q l typed laid e) (main_is (funcs_in q.items) (place_named (λ f. f.name) (codes "main") (funcs_in q.items)) b.0 b.1) (typings known 0 (funcs_in q.items) [] c.0 c.1))
+    (tree_formed q b.0 c.0 (well_typed q l typed laid e) (main_is (funcs_in q.items) (place_named (λ f. f.name) (codes "main") (funcs_in q.items)) b.0 b.1)
+    (typings known 0 (funcs_in q.items) [] c.0 c.1))
   where
     same : (u : Typed) → ◌≡◌ {A = Result Typed TypeFault} (Ok u) (Ok typed) → u ≡ typed
     same u e = cc

@@ -2,6 +2,7 @@
 use Rattle.std.proofs.Common.{◌≡◌, ℕ, ◌+◌, ◌≤◌, ◌<◌, find, bytes_eq, option_map, option_and_then, ◌==◌, Bool, true, false, not, ◌||◌, List, [], ◌∷◌, ◌++◌, length, if◌then◌else◌, Option, Some, None, Ok, slice_get, pos, refl, sym, ap, ◌∙◌, subst, arith}
 use Rattle.std.specs.List.{list_all}
 use Rattle.std.proofs.lemmas.Option.{slice_get_within}
+use Rattle.al_source.specs.Steps.{and_then}
 use Rattle.al_source.specs.declared.annotations.LoopNote.{LoopNote}
 use Rattle.al_source.specs.declared.annotations.NamedRed.{NamedRed}
 use Rattle.al_source.specs.declared.operators.BinOp.{BinOp}
@@ -34,11 +35,12 @@ use Rattle.al_core.specs.declared.typed_tree.TLocal.{TLocal}
 use Rattle.al_core.specs.declared.typed_tree.TNote.{TNote}
 use Rattle.al_core.specs.declared.typed_tree.TFunc.{TFunc}
 use Rattle.al_core.specs.declared.typed_tree.Typed.{Typed}
+use Rattle.al_core.specs.Lines.{by_words}
 use Rattle.al_rules.specs.declared.faults.TypeKind.TheVariants.{Twice, Unknown, Shape, Mismatch, NotPlace, Count, Return, Outside}
 use Rattle.al_rules.specs.declared.operands.Operand.{Operand}
 use Rattle.al_rules.specs.declared.operands.Operand.TheVariants.{Literal, Null, Value, Variable, Place}
 use Rattle.al_rules.specs.Names.{Name, AllOf, none, more, place_named}
-use Rattle.al_rules.specs.Checks.{Checked, and_then, each, ensure, some_or}
+use Rattle.al_rules.specs.Checks.{Checked, each, ensure, some_or}
 use Rattle.al_rules.specs.Types.{is_int, is_scalar, kind_of, type_checked}
 use Rattle.al_rules.specs.Scopes.{Binding, Known, Scope, in_scope, nested, is_declared, is_struct, variable_named}
 use Rattle.al_rules.specs.Scopes as scopes
@@ -70,12 +72,24 @@ scalar_kind (r.to_struct {name = name} e) = (kind.Ptr, kind-Ptr (t.Struct name))
 -- a statement that is simple has no loops
 module _ (func : ℕ) where
   quiet_kind : (d : TKind) (line : ℕ) (y : TKind-F TKind TStmt) → out-TKind d ≡ y → simple_kind y ≡ true → (j : ℕ) → (counted_in func d line).loops j ≡ []
-  quiet_kind d line (TKind-F.SetLocal n v) is e j = ap (λ d. (counted_in func d line).loops j) (sym (roll-out-TKind d) ∙ ap roll-TKind is ∙ tk.rolls-SetLocal n v) ∙ ap (λ (c : Counted). c.loops j) (wf.counted-SetLocal func n v line)
-  quiet_kind d line (TKind-F.Store q v) is e j = ap (λ d. (counted_in func d line).loops j) (sym (roll-out-TKind d) ∙ ap roll-TKind is ∙ tk.rolls-Store q v) ∙ ap (λ (c : Counted). c.loops j) (wf.counted-Store func q v line)
-  quiet_kind d line (TKind-F.UpdateLocal op n v) is e j = ap (λ d. (counted_in func d line).loops j) (sym (roll-out-TKind d) ∙ ap roll-TKind is ∙ tk.rolls-UpdateLocal op n v) ∙ ap (λ (c : Counted). c.loops j) (wf.counted-UpdateLocal func op n v line)
-  quiet_kind d line (TKind-F.UpdateAt op q v) is e j = ap (λ d. (counted_in func d line).loops j) (sym (roll-out-TKind d) ∙ ap roll-TKind is ∙ tk.rolls-UpdateAt op q v) ∙ ap (λ (c : Counted). c.loops j) (wf.counted-UpdateAt func op q v line)
-  quiet_kind d line (TKind-F.Call v) is e j = ap (λ d. (counted_in func d line).loops j) (sym (roll-out-TKind d) ∙ ap roll-TKind is ∙ tk.rolls-Call v) ∙ ap (λ (c : Counted). c.loops j) (wf.counted-Call func v line)
-  quiet_kind d line (TKind-F.Print format vs) is e j = ap (λ d. (counted_in func d line).loops j) (sym (roll-out-TKind d) ∙ ap roll-TKind is ∙ tk.rolls-Print format vs) ∙ ap (λ (c : Counted). c.loops j) (wf.counted-Print func format vs line)
+  quiet_kind d line (TKind-F.SetLocal n v) is e j =
+      ap (λ d. (counted_in func d line).loops j) (sym (roll-out-TKind d) ∙ ap roll-TKind is ∙ tk.rolls-SetLocal n v)
+      ∙ ap (λ (c : Counted). c.loops j) (wf.counted-SetLocal func n v line)
+  quiet_kind d line (TKind-F.Store q v) is e j =
+      ap (λ d. (counted_in func d line).loops j) (sym (roll-out-TKind d) ∙ ap roll-TKind is ∙ tk.rolls-Store q v)
+      ∙ ap (λ (c : Counted). c.loops j) (wf.counted-Store func q v line)
+  quiet_kind d line (TKind-F.UpdateLocal op n v) is e j =
+      ap (λ d. (counted_in func d line).loops j) (sym (roll-out-TKind d) ∙ ap roll-TKind is ∙ tk.rolls-UpdateLocal op n v)
+      ∙ ap (λ (c : Counted). c.loops j) (wf.counted-UpdateLocal func op n v line)
+  quiet_kind d line (TKind-F.UpdateAt op q v) is e j =
+      ap (λ d. (counted_in func d line).loops j) (sym (roll-out-TKind d) ∙ ap roll-TKind is ∙ tk.rolls-UpdateAt op q v)
+      ∙ ap (λ (c : Counted). c.loops j) (wf.counted-UpdateAt func op q v line)
+  quiet_kind d line (TKind-F.Call v) is e j =
+      ap (λ d. (counted_in func d line).loops j) (sym (roll-out-TKind d) ∙ ap roll-TKind is ∙ tk.rolls-Call v)
+      ∙ ap (λ (c : Counted). c.loops j) (wf.counted-Call func v line)
+  quiet_kind d line (TKind-F.Print format vs) is e j =
+      ap (λ d. (counted_in func d line).loops j) (sym (roll-out-TKind d) ∙ ap roll-TKind is ∙ tk.rolls-Print format vs)
+      ∙ ap (λ (c : Counted). c.loops j) (wf.counted-Print func format vs line)
   quiet_kind d line TKind-F.Empty is e j = absurd cc
   quiet_kind d line (TKind-F.If v a b) is e j = absurd cc
   quiet_kind d line (TKind-F.While v a) is e j = absurd cc
@@ -103,7 +117,8 @@ third_is_first w.Declares e = absurd cc
 third_is_first w.Sets e = absurd cc
 third_is_first w.Other e = absurd cc
 
-module _ (typed : Typed) (results : List (Option Kind)) (known : Known) (n : ℕ) (tf : TFunc) (rty : CType) (stands : slice_get typed.funcs n ≡ Some tf) (cx : Context typed results known) where
+module _ (typed : Typed) (results : List (Option Kind)) (known : Known) (n : ℕ) (tf : TFunc) (rty : CType) (stands : slice_get typed.funcs n
+    ≡ Some tf) (cx : Context typed results known) where
   abbrev L : List TLocal
   L = tf.locals
 
@@ -132,17 +147,21 @@ module _ (typed : Typed) (results : List (Option Kind)) (known : Known) (n : ℕ
   kind_sort d = (w.kind_part known n rty d).sort
 
   abbrev pub Formed : Stmt → Type 0
-  Formed b = (looped : Bool) (s : Progress) (z : TStmt × Progress) → Ends ((w.part known n rty b).walk looped s) z → StmtFacts looped s z × (w.is_first (sort_of b) ≡ true → is_simple z.0 ≡ true)
+  Formed b = (looped : Bool) (s : Progress) (z : TStmt × Progress) → Ends ((w.part known n rty b).walk looped s) z
+      → StmtFacts looped s z × (w.is_first (sort_of b) ≡ true → is_simple z.0 ≡ true)
 
   abbrev KindFormed : StmtKind → Type 0
-  KindFormed d = (line : ℕ) (looped : Bool) (s : Progress) (z : TKind × Progress) → Ends ((w.kind_part known n rty d).walk line looped s) z → KindFacts line looped s z × (w.is_first (kind_sort d) ≡ true → simple_kind (out-TKind z.0) ≡ true)
+  KindFormed d =
+      (line : ℕ) (looped : Bool) (s : Progress) (z : TKind × Progress) → Ends ((w.kind_part known n rty d).walk line looped s) z
+      → KindFacts line looped s z × (w.is_first (kind_sort d) ≡ true → simple_kind (out-TKind z.0) ≡ true)
 
   by_walk : {A : Type 0} {p q : Walk A} → p ≡ q → (s : Progress) (z : A × Progress) → Ends (p s) z → Ends (q s) z
   by_walk same s z e = sym (ap (λ f. f s) same) ∙ e
 
   -- a kind that was made, with what it is
   made : (line : ℕ) (looped : Bool) {s : Progress} {first : Bool} (q : TKind × Progress) (z : TKind × Progress) → q ≡ z
-      → KindFacts line looped s q → (first ≡ true → simple_kind (out-TKind q.0) ≡ true) → KindFacts line looped s z × (first ≡ true → simple_kind (out-TKind z.0) ≡ true)
+      → KindFacts line looped s q → (first ≡ true → simple_kind (out-TKind q.0) ≡ true)
+      → KindFacts line looped s z × (first ≡ true → simple_kind (out-TKind z.0) ≡ true)
   made line looped {s = s} {first = first} q z same h i =
       subst (λ (z : TKind × Progress). KindFacts line looped s z × (first ≡ true → simple_kind (out-TKind z.0) ≡ true)) same (h, i)
 
@@ -152,28 +171,39 @@ module _ (typed : Typed) (results : List (Option Kind)) (known : Known) (n : ℕ
 
   -- ---- parts
 
-  condition_ends : {B : Type 0} (line : ℕ) (c : Expr) (f : TExpr → Walk B) (s : Progress) (z : B × Progress) → Ends (bind (w.condition known n rty line c) f s) z
+  condition_ends : {B : Type 0} (line : ℕ) (c : Expr) (f : TExpr → Walk B) (s : Progress) (z : B × Progress)
+      → Ends (bind (w.condition known n rty line c) f s) z
       → (v : TExpr) × Ends (f v s) z × (ScopeGood s → Prefix s.locals L → fits_either (fits typed results L v) ≡ true)
   condition_ends line c f s z e =
-      let p = checks_ends line (λ scope. x.operand known (in_scope scope) c) (λ p. bind (lift line (o.scalar p)) f) s z (sym (assoc (w.operand_of known n rty line c) (λ p. lift line (o.scalar p)) f s) ∙ e) in
-      let v = lift_ends line (o.scalar p.0) f s z p.2 in
-      (v.0, v.2, λ ok pre. fe.scalar_fits typed results L known (in_scope s.scope) cx (placed_grows pre ok) p.0 v.0 (good_in s L c p.0 p.1 (placed_grows pre ok)) v.1)
+      let p = checks_ends line (λ scope. x.operand known (in_scope scope) c) (λ p. bind (lift line (o.scalar p)) f) s z
+      (sym (assoc (w.operand_of known n rty line c) (λ p. lift line (o.scalar p)) f s) ∙ e) in
+      let v = lift_ends line (o.scalar p.0) f s z p.2 in (
+        v.0,
+        v.2,
+        λ ok pre. fe.scalar_fits typed results L known (in_scope s.scope) cx (placed_grows pre ok) p.0 v.0
+            (good_in s L c p.0 p.1 (placed_grows pre ok)) v.1,
+      )
 
-  test_ends : {B : Type 0} (line : ℕ) (test : Option Expr) (f : Option TExpr → Walk B) (s : Progress) (z : B × Progress) → Ends (bind (w.any_condition known n rty line test) f s) z
+  test_ends : {B : Type 0} (line : ℕ) (test : Option Expr) (f : Option TExpr → Walk B) (s : Progress) (z : B × Progress)
+      → Ends (bind (w.any_condition known n rty line test) f s) z
       → (v : Option TExpr) × Ends (f v s) z × (ScopeGood s → Prefix s.locals L → test_formed typed results L v ≡ true)
   test_ends line None f s z e = (None, sym (pure_ends None f s) ∙ e, λ ok pre. refl)
   test_ends line (Some c) f s z e =
       let p = condition_ends line c (λ v. bind (pure (Some v)) f) s z (sym (assoc (w.condition known n rty line c) (λ v. pure (Some v)) f s) ∙ e) in
       (Some p.0, sym (pure_ends (Some p.0) f s) ∙ p.1, p.2)
 
-  part_ends : {B : Type 0} (allowed : w.Sort → Bool) (b : Stmt) (looped : Bool) (f : TStmt → Walk B) (s : Progress) (z : B × Progress) → Formed b → Ends (bind (w.part_if allowed (w.part known n rty b) looped) f s) z
-      → (q : TStmt × Progress) × (allowed (sort_of b) ≡ true) × StmtFacts looped s q × (w.is_first (sort_of b) ≡ true → is_simple q.0 ≡ true) × Ends (f q.0 q.1) z
+  part_ends : {B : Type 0} (allowed : w.Sort → Bool) (b : Stmt) (looped : Bool) (f : TStmt → Walk B) (s : Progress) (z : B × Progress) → Formed b
+      → Ends (bind (w.part_if allowed (w.part known n rty b) looped) f s) z
+      → (q : TStmt × Progress) × (allowed (sort_of b) ≡ true) × StmtFacts looped s q × (w.is_first (sort_of b) ≡ true → is_simple q.0 ≡ true)
+      × Ends (f q.0 q.1) z
   part_ends allowed b looped f s z h e =
       let q = bind_ends (w.part_if allowed (w.part known n rty b) looped) f s z e in
       by (allowed (sort_of b)) refl q.0 q.1 q.2
     where
-      by : (c : Bool) → allowed (sort_of b) ≡ c → (q : TStmt × Progress) → Ends ((if c then (w.part known n rty b).walk looped else fails (w.part known n rty b).line Shape) s) q → Ends (f q.0 q.1) z
-          → (q : TStmt × Progress) × (allowed (sort_of b) ≡ true) × StmtFacts looped s q × (w.is_first (sort_of b) ≡ true → is_simple q.0 ≡ true) × Ends (f q.0 q.1) z
+      by : (c : Bool) → allowed (sort_of b) ≡ c → (q : TStmt × Progress)
+          → Ends ((if c then (w.part known n rty b).walk looped else fails (w.part known n rty b).line Shape) s) q → Ends (f q.0 q.1) z
+          → (q : TStmt × Progress) × (allowed (sort_of b) ≡ true) × StmtFacts looped s q × (w.is_first (sort_of b) ≡ true → is_simple q.0 ≡ true)
+          × Ends (f q.0 q.1) z
       by true is q run rest = let g = h looped s q run in (q, is, g.0, g.1, rest)
       by false is q run rest = absurd (never_ends (w.part known n rty b).line Shape s q run)
 
@@ -183,11 +213,14 @@ module _ (typed : Typed) (results : List (Option Kind)) (known : Known) (n : ℕ
     pub facts : Step typed L s end.1 (if_counted (wf.counted_any n end.0)) (wf.simple_any typed results L (kind_of rty) end.0 looped ≡ true)
     pub quiet : (j : ℕ) → (if_counted (wf.counted_any n end.0)).loops j ≡ []
 
-  any_ends : {B : Type 0} (allowed : w.Sort → Bool) → ((d : w.Sort) → allowed d ≡ true → w.is_first d ≡ true) → (part : Option Stmt) (looped : Bool) (f : Option TStmt → Walk B) (s : Progress) (z : B × Progress) → IfAny Formed part
+  any_ends : {B : Type 0} (allowed : w.Sort → Bool) → ((d : w.Sort) → allowed d ≡ true → w.is_first d ≡ true)
+      → (part : Option Stmt) (looped : Bool) (f : Option TStmt → Walk B) (s : Progress) (z : B × Progress) → IfAny Formed part
       → Ends (bind (w.any_part allowed (nodes.part_of known n rty part) looped) f s) z → PartEnds looped f s z
-  any_ends allowed first None looped f s z h e = record { end = (None, s); rest = sym (pure_ends None f s) ∙ e; facts = step_here typed L (λ ok pre. refl); quiet = λ j. refl }
+  any_ends allowed first None looped f s z h e =
+      record { end = (None, s); rest = sym (pure_ends None f s) ∙ e; facts = step_here typed L (λ ok pre. refl); quiet = λ j. refl }
   any_ends allowed first (Some b) looped f s z (present h) e =
-      let p = part_ends allowed b looped (λ t. bind (pure (Some t)) f) s z h (sym (assoc (w.part_if allowed (w.part known n rty b) looped) (λ t. pure (Some t)) f s) ∙ e) in
+      let p = part_ends allowed b looped (λ t. bind (pure (Some t)) f) s z h
+      (sym (assoc (w.part_if allowed (w.part known n rty b) looped) (λ t. pure (Some t)) f s) ∙ e) in
       let simple = p.3 (first (sort_of b) p.1) in
       record {
         end = (Some p.0.0, p.0.1);
@@ -210,7 +243,9 @@ module _ (typed : Typed) (results : List (Option Kind)) (known : Known) (n : ℕ
   int_kind a k e is = some_is (sym is ∙ ap kind_of (int_true a e) ∙ kind-Int)
 
   -- what a global that is named is in the source
-  global_by : (m : Option ℕ) (j : ℕ) (a : CType) → option_and_then (λ k. option_map (λ y. scopes.Global k y.ty) (slice_get known.globals k)) m ≡ Some (scopes.Global j a) → (y : GlobalDef) × (slice_get known.globals j ≡ Some y) × (y.ty ≡ a)
+  global_by : (m : Option ℕ) (j : ℕ) (a : CType)
+      → option_and_then (λ k. option_map (λ y. scopes.Global k y.ty) (slice_get known.globals k)) m ≡ Some (scopes.Global j a)
+      → (y : GlobalDef) × (slice_get known.globals j ≡ Some y) × (y.ty ≡ a)
   global_by None j a e = absurd cc
   global_by (Some k) j a e = by (slice_get known.globals k) refl e
     where
@@ -222,14 +257,18 @@ module _ (typed : Typed) (results : List (Option Kind)) (known : Known) (n : ℕ
       type_of (Some (scopes.Global k a)) = a
       type_of _ = a
 
-      by : (y : Option GlobalDef) → slice_get known.globals k ≡ y → option_map (λ y. scopes.Global k y.ty) y ≡ Some (scopes.Global j a) → (y : GlobalDef) × (slice_get known.globals j ≡ Some y) × (y.ty ≡ a)
+      by : (y : Option GlobalDef) → slice_get known.globals k ≡ y → option_map (λ y. scopes.Global k y.ty) y ≡ Some (scopes.Global j a)
+          → (y : GlobalDef) × (slice_get known.globals j ≡ Some y) × (y.ty ≡ a)
       by (Some y) is e = (y, subst (λ m. slice_get known.globals m ≡ Some y) (ap number_of e) is, ap type_of e)
       by None is e = absurd cc
 
-  global_there : (scope : List Binding) (name : Name) (j : ℕ) (a : CType) → variable_named known scope name ≡ Some (scopes.Global j a) → (y : GlobalDef) × (slice_get known.globals j ≡ Some y) × (y.ty ≡ a)
+  global_there : (scope : List Binding) (name : Name) (j : ℕ) (a : CType) → variable_named known scope name ≡ Some (scopes.Global j a)
+      → (y : GlobalDef) × (slice_get known.globals j ≡ Some y) × (y.ty ≡ a)
   global_there scope name j a e = by (find (λ b. bytes_eq b.name name) scope) e
     where
-      by : (m : Option Binding) → scopes.first_some (option_map (λ b. scopes.Local b.number b.ty) m) (scopes.global_named name known.globals) ≡ Some (scopes.Global j a) → (y : GlobalDef) × (slice_get known.globals j ≡ Some y) × (y.ty ≡ a)
+      by : (m : Option Binding)
+          → scopes.first_some (option_map (λ b. scopes.Local b.number b.ty) m) (scopes.global_named name known.globals) ≡ Some (scopes.Global j a)
+          → (y : GlobalDef) × (slice_get known.globals j ≡ Some y) × (y.ty ≡ a)
       by (Some b) e = absurd cc
       by None e = global_by (place_named (λ y. y.name) name known.globals) j a e
 
@@ -237,9 +276,12 @@ module _ (typed : Typed) (results : List (Option Kind)) (known : Known) (n : ℕ
   suc_le m k j p q = omega arith
 
   named_good : (s : Progress) (name : Name) (v : scopes.Variable) → variable_named known (in_scope s.scope) name ≡ Some v → GoodIn s s.locals (o.of_variable v)
-  named_good s name v named = good_in s s.locals (e.Var name) (o.of_variable v) (operand-Var known (in_scope s.scope) name ∙ ap (λ m. and_then (some_or m Unknown) (λ v. Ok (o.of_variable v))) named)
+  named_good s name v named =
+      good_in s s.locals (e.Var name) (o.of_variable v) (operand-Var known (in_scope s.scope) name
+      ∙ ap (λ m. and_then (some_or m Unknown) (λ v. Ok (o.of_variable v))) named)
 
-  noted_by : (s : Progress) (name : Name) (op : RedOp) (at : Addr) (v : scopes.Variable) → variable_named known (in_scope s.scope) name ≡ Some v → w.variable_at v ≡ Ok at
+  noted_by : (s : Progress) (name : Name) (op : RedOp) (at : Addr) (v : scopes.Variable) → variable_named known (in_scope s.scope) name ≡ Some v
+      → w.variable_at v ≡ Ok at
       → ScopeGood s → Prefix s.locals L → (entry : TNote) → Entry s entry → IsNoted typed entry (record { op = op; at = at })
   noted_by s name op at (scopes.Local m a) named is ok pre entry h =
       let u = then_ok (ensure (is_int a) Mismatch) (λ _. Ok (addr.Local m)) at is in
@@ -258,7 +300,8 @@ module _ (typed : Typed) (results : List (Option Kind)) (known : Known) (n : ℕ
       let scalar : g.global.scalar ≡ Some kind.Int = g.scalar ∙ ap kind_of y.2 ∙ ap kind_of (int_true a (ensure_ok (is_int a) Mismatch u.0 u.1)) ∙ kind-Int in
       subst (λ at. IsNotedAt typed entry at) (ok_is u.2) (ap is_int_global g.stands ∙ ap (λ j. is_some_kind j kind.Int) scalar, refl)
 
-  noted_reds : {B : Type 0} (line : ℕ) (reds : List NamedRed) (f : List Red → Walk B) (s : Progress) (z : B × Progress) → Ends (bind (w.reductions known n rty line reds) f s) z
+  noted_reds : {B : Type 0} (line : ℕ) (reds : List NamedRed) (f : List Red → Walk B) (s : Progress) (z : B × Progress)
+      → Ends (bind (w.reductions known n rty line reds) f s) z
       → (v : List Red) × Ends (f v s) z × (ScopeGood s → Prefix s.locals L → (entry : TNote) → Entry s entry → AllOf (IsNoted typed entry) v)
   noted_reds line [] f s z e = ([], sym (pure_ends [] f s) ∙ e, λ ok pre entry h. none)
   noted_reds line (red ∷ reds) f s z e =
@@ -269,36 +312,50 @@ module _ (typed : Typed) (results : List (Option Kind)) (known : Known) (n : ℕ
       let c = checks_ends line check (λ at. bind (pure (record { op = red.op; at = at })) rest) s z b in
       let one : Red = record { op = red.op; at = c.0 } in
       let d = sym (pure_ends one rest s) ∙ c.2 in
-      let q = noted_reds line reds (λ as'. bind (pure (one ∷ as')) f) s z (sym (assoc (w.reductions known n rty line reds) (λ as'. pure (one ∷ as')) f s) ∙ d) in
+      let q = noted_reds line reds (λ as'. bind (pure (one ∷ as')) f) s z (sym (assoc (w.reductions known n rty line reds) (λ as'. pure (one ∷ as')) f s)
+      ∙ d) in
       let v = then_ok (some_or (variable_named known (in_scope s.scope) red.name) Unknown) w.variable_at c.0 c.1 in (
         one ∷ q.0,
         sym (pure_ends (one ∷ q.0) f s) ∙ q.1,
-        λ ok pre entry h. more (noted_by s red.name red.op c.0 v.0 (some_ok (variable_named known (in_scope s.scope) red.name) Unknown v.0 v.1) v.2 ok pre entry h) (q.2 ok pre entry h),
+        λ ok pre entry h. more
+            (noted_by s red.name red.op c.0 v.0 (some_ok (variable_named known (in_scope s.scope) red.name) Unknown v.0 v.1) v.2 ok pre entry h)
+            (q.2 ok pre entry h),
       )
 
-  choice_ends : {B : Type 0} (line : ℕ) (note : Option LoopNote) (f : Option Choice → Walk B) (s : Progress) (z : B × Progress) → Ends (bind (w.choice_of known n rty line note) f s) z
+  choice_ends : {B : Type 0} (line : ℕ) (note : Option LoopNote) (f : Option Choice → Walk B) (s : Progress) (z : B × Progress)
+      → Ends (bind (w.choice_of known n rty line note) f s) z
       → (v : Option Choice) × Ends (f v s) z × (ScopeGood s → Prefix s.locals L → (entry : TNote) → Entry s entry → OwnNoted entry v)
   choice_ends line None f s z e = (None, sym (pure_ends None f s) ∙ e, λ ok pre entry h. tt)
   choice_ends line (Some m) f s z e =
-      let q = noted_reds line m.reduce (λ reds. bind (pure (Some (record { policy = m.policy; order = m.order; reds = reds }))) f) s z (sym (assoc (w.reductions known n rty line m.reduce) (λ reds. pure (Some (record { policy = m.policy; order = m.order; reds = reds }))) f s) ∙ e) in
-      let own : Choice = record { policy = m.policy; order = m.order; reds = q.0 } in
+      let q = noted_reds line m.reduce (λ reds. bind (pure (Some (by_words m.policy m.order reds))) f) s z
+      (sym (assoc (w.reductions known n rty line m.reduce) (λ reds. pure (Some (by_words m.policy m.order reds))) f s) ∙ e) in
+      let own : Choice = by_words m.policy m.order q.0 in
       (Some own, sym (pure_ends (Some own) f s) ∙ q.1, q.2)
 
   -- ---- loops
 
-  body_ends : {B : Type 0} {s1 : Progress} {head : Counted} {E : Type 0} (line : ℕ) (own : Option Choice) (body : Stmt) (f : TStmt × Option ℕ → Walk B) (s : Progress) (z : B × Progress)
+  body_ends : {B : Type 0} {s1 : Progress} {head : Counted} {E : Type 0} (line : ℕ) (own : Option Choice) (body : Stmt) (f : TStmt × Option ℕ
+      → Walk B) (s : Progress) (z : B × Progress)
       → Formed body → ((j : ℕ) → head.loops j ≡ [])
       → (ScopeGood s1 → Prefix s1.locals L → (entry : TNote) → Entry s1 entry → OwnNoted entry own)
       → Step typed L s1 s head E → Ends (bind (w.looped_body known n rty line own (w.part known n rty body)) f s) z
-      → (v : TStmt × Option ℕ) × ((s' : Progress) × Ends (f v s') z × Step typed L s1 s' (for_counted n line v.1 head (counted n v.0)) (E × (formed typed results L (kind_of rty) v.0 true ≡ true)))
+      → (v : TStmt × Option ℕ)
+      × ((s' : Progress) × Ends (f v s') z
+      × Step typed L s1 s' (for_counted n line v.1 head (counted n v.0)) (E × (formed typed results L (kind_of rty) v.0 true ≡ true)))
   body_ends line None body f s z h quiet reds p e =
-      let q = part_ends w.is_body body true (λ b. bind (pure (b, None)) f) s z h (sym (assoc (w.part_if w.is_body (w.part known n rty body) true) (λ b. pure (b, None)) f s) ∙ e) in
+      let q = part_ends w.is_body body true (λ b. bind (pure (b, None)) f) s z h
+      (sym (assoc (w.part_if w.is_body (w.part known n rty body) true) (λ b. pure (b, None)) f s) ∙ e) in
       ((q.0.0, None), (q.0.1, sym (pure_ends (q.0.0, None) f q.0.1) ∙ q.4, step_then typed L p q.2))
   body_ends line (Some own) body f s z h quiet reds p e =
       let m = length s.loops in
-      let a = sym (assoc (begin_loop n line own) (λ m. bind (w.part_if w.is_body (w.part known n rty body) true) (λ b. bind (end_loop m) (λ _. pure (b, Some m)))) f s) ∙ e in
-      let b = sym (begin_ends n line own (λ m. bind (bind (w.part_if w.is_body (w.part known n rty body) true) (λ b. bind (end_loop m) (λ _. pure (b, Some m)))) f) s) ∙ a in
-      let c = sym (assoc (w.part_if w.is_body (w.part known n rty body) true) (λ b. bind (end_loop m) (λ _. pure (b, Some m))) f (begun_loop n line own s)) ∙ b in
+      let a = sym
+      (assoc (begin_loop n line own) (λ m. bind (w.part_if w.is_body (w.part known n rty body) true) (λ b. bind (end_loop m) (λ _. pure (b, Some m)))) f s)
+      ∙ e in
+      let b = sym
+      (begin_ends n line own (λ m. bind (bind (w.part_if w.is_body (w.part known n rty body) true) (λ b. bind (end_loop m) (λ _. pure (b, Some m)))) f) s)
+      ∙ a in
+      let c = sym (assoc (w.part_if w.is_body (w.part known n rty body) true) (λ b. bind (end_loop m) (λ _. pure (b, Some m))) f (begun_loop n line own s))
+      ∙ b in
       let q = part_ends w.is_body body true (λ b. bind (bind (end_loop m) (λ _. pure (b, Some m))) f) (begun_loop n line own s) z h c in
       let d = sym (assoc (end_loop m) (λ _. pure (q.0.0, Some m)) f q.0.1) ∙ q.4 in
       let g = sym (end_ends m (λ _. bind (pure (q.0.0, Some m)) f) q.0.1) ∙ d in (
@@ -306,7 +363,8 @@ module _ (typed : Typed) (results : List (Option Kind)) (known : Known) (n : ℕ
         (
           ended_loop m q.0.1,
           sym (pure_ends (q.0.0, Some m) f (ended_loop m q.0.1)) ∙ g,
-          step_loop typed L n line own quiet (λ ok pre le. reds ok pre (record { func = n; line = line; own = own; first = length s.locals; last = length s.locals }) (refl, le)) p q.2,
+          step_loop typed L n line own quiet
+              (λ ok pre le. reds ok pre (record { func = n; line = line; own = own; first = length s.locals; last = length s.locals }) (refl, le)) p q.2,
         ),
       )
 
@@ -316,13 +374,19 @@ module _ (typed : Typed) (results : List (Option Kind)) (known : Known) (n : ℕ
   zero_fits kind.Int = wf.fits-Number typed results L (pos 0)
   zero_fits kind.Ptr = wf.fits-Null typed results L (pos 0)
 
-  starts_end : (line : ℕ) (a : CType) (v : Option Expr) (f : TExpr → Walk TKind) (s : Progress) (z : TKind × Progress) → Ends (bind (w.initial known n rty line a v) f s) z
+  starts_end : (line : ℕ) (a : CType) (v : Option Expr) (f : TExpr → Walk TKind) (s : Progress) (z : TKind × Progress)
+      → Ends (bind (w.initial known n rty line a v) f s) z
       → (y : TExpr) × Ends (f y s) z × (ScopeGood s → Prefix s.locals L → (j : Kind) → kind_of a ≡ Some j → Fit y j)
   starts_end line a None f s z e = (te.Number (pos 0), sym (pure_ends (te.Number (pos 0)) f s) ∙ e, λ ok pre j is. zero_fits j)
   starts_end line a (Some v) f s z e =
-      let p = checks_ends line (λ scope. x.operand known (in_scope scope) v) (λ p. bind (lift line (o.fitting a p)) f) s z (sym (assoc (w.operand_of known n rty line v) (λ p. lift line (o.fitting a p)) f s) ∙ e) in
-      let y = lift_ends line (o.fitting a p.0) f s z p.2 in
-      (y.0, y.2, λ ok pre. fe.fitting_fits typed results L known (in_scope s.scope) cx (placed_grows pre ok) p.0 a y.0 (good_in s L v p.0 p.1 (placed_grows pre ok)) y.1)
+      let p = checks_ends line (λ scope. x.operand known (in_scope scope) v) (λ p. bind (lift line (o.fitting a p)) f) s z
+      (sym (assoc (w.operand_of known n rty line v) (λ p. lift line (o.fitting a p)) f s) ∙ e) in
+      let y = lift_ends line (o.fitting a p.0) f s z p.2 in (
+        y.0,
+        y.2,
+        λ ok pre. fe.fitting_fits typed results L known (in_scope s.scope) cx (placed_grows pre ok) p.0 a y.0
+            (good_in s L v p.0 p.1 (placed_grows pre ok)) y.1,
+      )
 
   declare_formed : (a : CType) (name : Name) (v : Option Expr) → KindFormed (k.Declare a name v)
   declare_formed a name v line looped s z e =
@@ -334,7 +398,8 @@ module _ (typed : Typed) (results : List (Option Kind)) (known : Known) (n : ℕ
       let l = lift_ends line shaped rest s z c.2 in
       let s1 = added name a s in
       let m = length s.locals in
-      let i = starts_end line a v (λ y. pure (tk.SetLocal m y)) s1 z (sym (add_ends name a (λ m. bind (w.initial known n rty line a v) (λ y. pure (tk.SetLocal m y))) s) ∙ l.2) in
+      let i = starts_end line a v (λ y. pure (tk.SetLocal m y)) s1 z
+      (sym (add_ends name a (λ m. bind (w.initial known n rty line a v) (λ y. pure (tk.SetLocal m y))) s) ∙ l.2) in
       let j = scalar_kind (scalar_sound (is_struct known.structs) (is_struct known.structs) a l.0 l.1) in
       let added_facts : KindFacts line looped s (tk.SetLocal m i.0, s1) = λ ok.
       let g = step_add typed L name a s j.0 j.1 ok in
@@ -362,7 +427,8 @@ module _ (typed : Typed) (results : List (Option Kind)) (known : Known) (n : ℕ
       either_by false e = e
   wants_fit (Some i) v j h fit = ap (fits typed results L v) (h i refl) ∙ fit
 
-  assigned_facts : (line : ℕ) (looped : Bool) (s : Progress) (a b : Expr) (l v : Operand) (d : TKind) → GoodIn s s.locals l → GoodIn s L l → GoodIn s L v → w.assigned l v ≡ Ok d
+  assigned_facts : (line : ℕ) (looped : Bool) (s : Progress) (a b : Expr) (l v : Operand) (d : TKind) → GoodIn s s.locals l → GoodIn s L l → GoodIn s L v
+      → w.assigned l v ≡ Ok d
       → KindFacts line looped s (d, s) × (simple_kind (out-TKind d) ≡ true)
   assigned_facts line looped s a b (Variable m c) v d here there value is =
       let y = then_ok (o.fitting c v) (λ v. Ok (tk.SetLocal m v)) d is in
@@ -383,7 +449,8 @@ module _ (typed : Typed) (results : List (Option Kind)) (known : Known) (n : ℕ
       let g = there (placed_grows pre ok) in
       let i = fe.fitting_kind typed results L known (in_scope s.scope) cx (placed_grows pre ok) v c y.0 y.1 in
       wf.formed-Store typed results L (kind_of rty) q y.0 looped
-      ∙ and_both g.0 (wants_fit (place_kind typed results L q).wants y.0 i.0 (λ w e. some_is (sym (g.1 w e) ∙ i.1)) (fe.fitting_fits typed results L known (in_scope s.scope) cx (placed_grows pre ok) v c y.0 (value (placed_grows pre ok)) y.1 i.0 i.1)))) in
+      ∙ and_both g.0 (wants_fit (place_kind typed results L q).wants y.0 i.0 (λ w e. some_is (sym (g.1 w e)
+      ∙ i.1)) (fe.fitting_fits typed results L known (in_scope s.scope) cx (placed_grows pre ok) v c y.0 (value (placed_grows pre ok)) y.1 i.0 i.1)))) in
       subst (λ d. KindFacts line looped s (d, s) × (simple_kind (out-TKind d) ≡ true)) (ok_is y.2) (facts, ap simple_kind (tk.outs-Store q y.0))
   assigned_facts line looped s a b (Literal m) v d here there value is = absurd cc
   assigned_facts line looped s a b Null v d here there value is = absurd cc
@@ -392,7 +459,8 @@ module _ (typed : Typed) (results : List (Option Kind)) (known : Known) (n : ℕ
   assign_formed : (a b : Expr) → KindFormed (k.Assign a b)
   assign_formed a b line looped s z e =
       let d = by_walk (nodes.walks-Assign known n rty a b line looped) s z e in
-      let l = checks_ends line (λ scope. x.operand known (in_scope scope) a) (λ l. bind (lift line (ensure (w.is_place l) NotPlace)) (λ _. bind (w.operand_of known n rty line b) (λ v. lift line (w.assigned l v)))) s z d in
+      let l = checks_ends line (λ scope. x.operand known (in_scope scope) a)
+      (λ l. bind (lift line (ensure (w.is_place l) NotPlace)) (λ _. bind (w.operand_of known n rty line b) (λ v. lift line (w.assigned l v)))) s z d in
       let u = lift_ends line (ensure (w.is_place l.0) NotPlace) (λ _. bind (w.operand_of known n rty line b) (λ v. lift line (w.assigned l.0 v))) s z l.2 in
       let v = checks_ends line (λ scope. x.operand known (in_scope scope) b) (λ v. lift line (w.assigned l.0 v)) s z u.2 in
       let q = check_is line (λ _. w.assigned l.0 v.0) s z v.2 in
@@ -408,7 +476,8 @@ module _ (typed : Typed) (results : List (Option Kind)) (known : Known) (n : ℕ
       step_as typed L (sym (wf.counted-UpdateLocal n op m y.0 line)) (step_here typed L (λ ok pre.
       let g = there (placed_grows pre ok) in
       wf.formed-UpdateLocal typed results L (kind_of rty) op m y.0 looped
-      ∙ and_both (ap (λ y'. is_some_kind (local_kind y') kind.Int) g.1 ∙ ap (λ j. is_one j kind.Int) (int_kind c g.0.kind (ensure_ok (is_int c) Mismatch u.0 u.1) g.2))
+      ∙ and_both (ap (λ y'. is_some_kind (local_kind y') kind.Int) g.1
+      ∙ ap (λ j. is_one j kind.Int) (int_kind c g.0.kind (ensure_ok (is_int c) Mismatch u.0 u.1) g.2))
       (fe.integer_fits typed results L known (in_scope s.scope) cx (placed_grows pre ok) v y.0 (value (placed_grows pre ok)) y.1))) in
       subst (λ d. KindFacts line looped s (d, s) × (simple_kind (out-TKind d) ≡ true)) (ok_is y.2) (facts, ap simple_kind (tk.outs-UpdateLocal op m y.0))
   updated_facts line looped s op (Place c q) v d there value is =
@@ -419,7 +488,9 @@ module _ (typed : Typed) (results : List (Option Kind)) (known : Known) (n : ℕ
       let g = there (placed_grows pre ok) in
       let int : kind_of c ≡ Some kind.Int = ap kind_of (int_true c (ensure_ok (is_int c) Mismatch u.0 u.1)) ∙ kind-Int in
       wf.formed-UpdateAt typed results L (kind_of rty) op q y.0 looped
-      ∙ and_both (and_both g.0 (fe.may_load typed results L known (in_scope s.scope) cx (placed_grows pre ok) (place_kind typed results L q).wants kind.Int (λ j w. some_is (sym (g.1 j w) ∙ int))))
+      ∙ and_both (and_both g.0
+      (fe.may_load typed results L known (in_scope s.scope) cx (placed_grows pre ok) (place_kind typed results L q).wants kind.Int
+      (λ j w. some_is (sym (g.1 j w) ∙ int))))
       (fe.integer_fits typed results L known (in_scope s.scope) cx (placed_grows pre ok) v y.0 (value (placed_grows pre ok)) y.1))) in
       subst (λ d. KindFacts line looped s (d, s) × (simple_kind (out-TKind d) ≡ true)) (ok_is y.2) (facts, ap simple_kind (tk.outs-UpdateAt op q y.0))
   updated_facts line looped s op (Literal m) v d there value is = absurd cc
@@ -429,8 +500,12 @@ module _ (typed : Typed) (results : List (Option Kind)) (known : Known) (n : ℕ
   update_formed : (op : BinOp) (a b : Expr) → KindFormed (k.Update op a b)
   update_formed op a b line looped s z e =
       let d = by_walk (nodes.walks-Update known n rty op a b line looped) s z e in
-      let m = lift_ends line (ensure (w.may_update op) Shape) (λ _. bind (w.operand_of known n rty line a) (λ l. bind (lift line (ensure (w.is_place l) NotPlace)) (λ _. bind (w.operand_of known n rty line b) (λ v. lift line (w.updated op l v))))) s z d in
-      let l = checks_ends line (λ scope. x.operand known (in_scope scope) a) (λ l. bind (lift line (ensure (w.is_place l) NotPlace)) (λ _. bind (w.operand_of known n rty line b) (λ v. lift line (w.updated op l v)))) s z m.2 in
+      let m = lift_ends line (ensure (w.may_update op) Shape)
+      (λ _. bind (w.operand_of known n rty line a)
+      (λ l. bind (lift line (ensure (w.is_place l) NotPlace))
+      (λ _. bind (w.operand_of known n rty line b) (λ v. lift line (w.updated op l v))))) s z d in
+      let l = checks_ends line (λ scope. x.operand known (in_scope scope) a)
+      (λ l. bind (lift line (ensure (w.is_place l) NotPlace)) (λ _. bind (w.operand_of known n rty line b) (λ v. lift line (w.updated op l v)))) s z m.2 in
       let u = lift_ends line (ensure (w.is_place l.0) NotPlace) (λ _. bind (w.operand_of known n rty line b) (λ v. lift line (w.updated op l.0 v))) s z l.2 in
       let v = checks_ends line (λ scope. x.operand known (in_scope scope) b) (λ v. lift line (w.updated op l.0 v)) s z u.2 in
       let q = check_is line (λ _. w.updated op l.0 v.0) s z v.2 in
@@ -440,13 +515,15 @@ module _ (typed : Typed) (results : List (Option Kind)) (known : Known) (n : ℕ
   call_formed_at : (name : Name) (xs : List Expr) → KindFormed (k.Call name xs)
   call_formed_at name xs line looped s z run =
       let d = by_walk (nodes.walks-Call known n rty name xs line looped) s z run in
-      let c = checks_ends line (λ scope. x.call known (in_scope scope) name (x.operands known (in_scope scope) xs)) (λ c. pure (tk.Call c.1)) s z d in
-      made line looped (tk.Call c.0.1, s) z (pure_is (tk.Call c.0.1) s z c.2)
-      (step_as typed L (sym (wf.counted-Call n c.0.1 line)) (step_here typed L (λ ok pre.
-      wf.formed-Call typed results L (kind_of rty) c.0.1 looped ∙ (fe.called_good typed results L known (in_scope s.scope) cx (placed_grows pre ok) name xs c.0 c.1).done)))
-      (λ first. ap simple_kind (tk.outs-Call c.0.1))
+      let c = checks_ends line (λ scope. x.call_alone known (in_scope scope) name (x.operands known (in_scope scope) xs)) (λ c. pure (tk.Call c)) s z d in
+      made line looped (tk.Call c.0, s) z (pure_is (tk.Call c.0) s z c.2)
+      (step_as typed L (sym (wf.counted-Call n c.0 line)) (step_here typed L (λ ok pre.
+      wf.formed-Call typed results L (kind_of rty) c.0 looped
+      ∙ fe.alone_good typed results L known (in_scope s.scope) cx (placed_grows pre ok) name xs c.0 c.1)))
+      (λ first. ap simple_kind (tk.outs-Call c.0))
 
-  integers_fit : (s : Progress) (placed : AllOf (Placed L) (in_scope s.scope)) {ps : List Operand} (vs : List TExpr) → fe.AllGood typed results L known (in_scope s.scope) cx placed ps → each o.integer ps ≡ Ok vs → list_all (λ v. fits typed results L v kind.Int) vs ≡ true
+  integers_fit : (s : Progress) (placed : AllOf (Placed L) (in_scope s.scope)) {ps : List Operand} (vs : List TExpr)
+      → fe.AllGood typed results L known (in_scope s.scope) cx placed ps → each o.integer ps ≡ Ok vs → list_all (λ v. fits typed results L v kind.Int) vs ≡ true
   integers_fit s placed vs fe.none is = ap (list_all (λ v. fits typed results L v kind.Int)) (sym (ok_is is))
   integers_fit s placed vs (fe.more {p = p} {ps = ps} d ds) is =
       let v = then_ok (o.integer p) (λ b. and_then (each o.integer ps) (λ bs. Ok (b ∷ bs))) vs is in
@@ -457,12 +534,16 @@ module _ (typed : Typed) (results : List (Option Kind)) (known : Known) (n : ℕ
   print_formed : (format : List Piece) (xs : List Expr) → KindFormed (k.Print format xs)
   print_formed format xs line looped s z e =
       let d = by_walk (nodes.walks-Print known n rty format xs line looped) s z e in
-      let p = checks_ends line (λ scope. x.operands known (in_scope scope) xs) (λ ps. bind (lift line (ensure (length ps == w.numbers_in format) Count)) (λ _. bind (lift line (each o.integer ps)) (λ ns. pure (tk.Print format ns)))) s z d in
-      let u = lift_ends line (ensure (length p.0 == w.numbers_in format) Count) (λ _. bind (lift line (each o.integer p.0)) (λ ns. pure (tk.Print format ns))) s z p.2 in
+      let p = checks_ends line (λ scope. x.operands known (in_scope scope) xs)
+      (λ ps. bind (lift line (ensure (length ps == w.numbers_in format) Count))
+      (λ _. bind (lift line (each o.integer ps)) (λ ns. pure (tk.Print format ns)))) s z d in
+      let u = lift_ends line (ensure (length p.0 == w.numbers_in format) Count)
+      (λ _. bind (lift line (each o.integer p.0)) (λ ns. pure (tk.Print format ns))) s z p.2 in
       let v = lift_ends line (each o.integer p.0) (λ ns. pure (tk.Print format ns)) s z u.2 in
       made line looped (tk.Print format v.0, s) z (pure_is (tk.Print format v.0) s z v.2)
       (step_as typed L (sym (wf.counted-Print n format v.0 line)) (step_here typed L (λ ok pre.
-      wf.formed-Print typed results L (kind_of rty) format v.0 looped ∙ integers_fit s (placed_grows pre ok) v.0 (fe.operands_good typed results L known (in_scope s.scope) cx (placed_grows pre ok) xs p.0 p.1) v.1)))
+      wf.formed-Print typed results L (kind_of rty) format v.0 looped
+      ∙ integers_fit s (placed_grows pre ok) v.0 (fe.operands_good typed results L known (in_scope s.scope) cx (placed_grows pre ok) xs p.0 p.1) v.1)))
       (λ first. ap simple_kind (tk.outs-Print format v.0))
 
   choice_formed : (c : Expr) (a : Stmt) (b : Option Stmt) → Formed a → IfAny Formed b → KindFormed (k.If c a b)
@@ -473,19 +554,25 @@ module _ (typed : Typed) (results : List (Option Kind)) (known : Known) (n : ℕ
       let g = sym (pure_ends None (λ q. pure (tk.If v.0 p.0.0 q)) p.0.1) ∙ p.4 in
       made line looped (tk.If v.0 p.0.0 None, p.0.1) z (pure_is (tk.If v.0 p.0.0 None) p.0.1 z g)
       (step_as typed L (sym (wf.counted-If n v.0 p.0.0 None line))
-      (step_map typed L (λ (q : (fits_either (fits typed results L v.0) ≡ true) × (formed typed results L (kind_of rty) p.0.0 looped ≡ true) × Unit {0}). wf.formed-If typed results L (kind_of rty) v.0 p.0.0 None looped ∙ and_both (and_both q.0 q.1) refl)
+      (step_map typed L (λ (q : (fits_either (fits typed results L v.0) ≡ true) × (formed typed results L (kind_of rty) p.0.0 looped ≡ true)
+      × Unit {0}). wf.formed-If typed results L (kind_of rty) v.0 p.0.0 None looped ∙ and_both (and_both q.0 q.1) refl)
       (step_map typed L (λ q. (q.0, q.1.0, q.1.1)) (step_with typed L v.2 (step_then typed L p.2 (step_here typed L (λ ok pre. tt)))))))
       (never_first (k.If c a None) (nodes.sort-If known n rty c a None) (tk.If v.0 p.0.0 None))
   choice_formed c a (Some b) h (present i) line looped s z e =
       let d = by_walk (nodes.walks-If known n rty c a (Some b) line looped) s z e in
-      let v = condition_ends line c (λ v. bind (w.part_if w.is_body (w.part known n rty a) looped) (λ p. bind (bind (w.part_if w.is_body (w.part known n rty b) looped) (λ t. pure (Some t))) (λ q. pure (tk.If v p q)))) s z d in
-      let p = part_ends w.is_body a looped (λ p. bind (bind (w.part_if w.is_body (w.part known n rty b) looped) (λ t. pure (Some t))) (λ q. pure (tk.If v.0 p q))) s z h v.1 in
+      let v = condition_ends line c
+      (λ v. bind (w.part_if w.is_body (w.part known n rty a) looped)
+      (λ p. bind (bind (w.part_if w.is_body (w.part known n rty b) looped) (λ t. pure (Some t))) (λ q. pure (tk.If v p q)))) s z d in
+      let p = part_ends w.is_body a looped
+      (λ p. bind (bind (w.part_if w.is_body (w.part known n rty b) looped) (λ t. pure (Some t))) (λ q. pure (tk.If v.0 p q))) s z h v.1 in
       let g = sym (assoc (w.part_if w.is_body (w.part known n rty b) looped) (λ t. pure (Some t)) (λ q. pure (tk.If v.0 p.0.0 q)) p.0.1) ∙ p.4 in
       let q = part_ends w.is_body b looped (λ t. bind (pure (Some t)) (λ q. pure (tk.If v.0 p.0.0 q))) p.0.1 z i g in
       let j = sym (pure_ends (Some q.0.0) (λ q. pure (tk.If v.0 p.0.0 q)) q.0.1) ∙ q.4 in
       made line looped (tk.If v.0 p.0.0 (Some q.0.0), q.0.1) z (pure_is (tk.If v.0 p.0.0 (Some q.0.0)) q.0.1 z j)
       (step_as typed L (sym (wf.counted-If n v.0 p.0.0 (Some q.0.0) line))
-      (step_map typed L (λ (u : (fits_either (fits typed results L v.0) ≡ true) × (formed typed results L (kind_of rty) p.0.0 looped ≡ true) × (formed typed results L (kind_of rty) q.0.0 looped ≡ true)). wf.formed-If typed results L (kind_of rty) v.0 p.0.0 (Some q.0.0) looped ∙ and_both (and_both u.0 u.1) u.2)
+      (step_map typed L (λ (u : (fits_either (fits typed results L v.0) ≡ true) × (formed typed results L (kind_of rty) p.0.0 looped ≡ true)
+      × (formed typed results L (kind_of rty) q.0.0 looped ≡ true)). wf.formed-If typed results L (kind_of rty) v.0 p.0.0 (Some q.0.0) looped
+      ∙ and_both (and_both u.0 u.1) u.2)
       (step_map typed L (λ q. (q.0, q.1.0, q.1.1)) (step_with typed L v.2 (step_then typed L p.2 q.2)))))
       (never_first (k.If c a (Some b)) (nodes.sort-If known n rty c a (Some b)) (tk.If v.0 p.0.0 (Some q.0.0)))
 
@@ -499,32 +586,47 @@ module _ (typed : Typed) (results : List (Option Kind)) (known : Known) (n : ℕ
       (step_map typed L (λ q. wf.formed-While typed results L (kind_of rty) v.0 p.0.0 looped ∙ and_both q.0 q.1) (step_with typed L v.2 p.2)))
       (never_first (k.While c a) (nodes.sort-While known n rty c a) (tk.While v.0 p.0.0))
 
-  for_formed : (first : Option Stmt) (test : Option Expr) (third : Option Stmt) (body : Stmt) (note : Option LoopNote) → IfAny Formed first → IfAny Formed third → Formed body → KindFormed (k.For first test third body note)
+  for_formed : (first : Option Stmt) (test : Option Expr) (third : Option Stmt) (body : Stmt) (note : Option LoopNote) → IfAny Formed first → IfAny Formed third
+      → Formed body → KindFormed (k.For first test third body note)
   for_formed first test third body note h i j line looped s z e =
       let d = by_walk (nodes.walks-For known n rty first test third body note line looped) s z e in
-      let m = choice_ends line note (w.for_loop known n rty line looped (nodes.part_of known n rty first) test (nodes.part_of known n rty third) (w.part known n rty body)) s z d in
+      let m = choice_ends line note
+      (w.for_loop known n rty line looped (nodes.part_of known n rty first) test (nodes.part_of known n rty third) (w.part known n rty body)) s z d in
       let own = m.0 in
       let s1 = scoped s (nested s.scope) in
-      let inside = bind (w.any_part w.is_first (nodes.part_of known n rty first) looped) (λ a. bind (w.any_condition known n rty line test) (λ c. bind (w.any_part w.is_third (nodes.part_of known n rty third) looped) (λ u. bind (w.looped_body known n rty line own (w.part known n rty body)) (λ b. pure (tk.For a c u b.0 b.1))))) in
+      let inside =
+      bind (w.any_part w.is_first (nodes.part_of known n rty first) looped)
+      (λ a. bind (w.any_condition known n rty line test)
+      (λ c. bind (w.any_part w.is_third (nodes.part_of known n rty third) looped)
+      (λ u. bind (w.looped_body known n rty line own (w.part known n rty body)) (λ b. pure (tk.For a c u b.0 b.1))))) in
       let q = within_ends inside s z m.1 in
-      let a = any_ends w.is_first (λ d e. e) first looped (λ a. bind (w.any_condition known n rty line test) (λ c. bind (w.any_part w.is_third (nodes.part_of known n rty third) looped) (λ u. bind (w.looped_body known n rty line own (w.part known n rty body)) (λ b. pure (tk.For a c u b.0 b.1))))) s1 q.0 h q.1 in
-      let c = test_ends line test (λ c. bind (w.any_part w.is_third (nodes.part_of known n rty third) looped) (λ u. bind (w.looped_body known n rty line own (w.part known n rty body)) (λ b. pure (tk.For a.end.0 c u b.0 b.1)))) a.end.1 q.0 a.rest in
-      let u = any_ends w.is_third third_is_first third looped (λ u. bind (w.looped_body known n rty line own (w.part known n rty body)) (λ b. pure (tk.For a.end.0 c.0 u b.0 b.1))) a.end.1 q.0 i c.1 in
+      let a = any_ends w.is_first (λ d e. e) first looped
+      (λ a. bind (w.any_condition known n rty line test)
+      (λ c. bind (w.any_part w.is_third (nodes.part_of known n rty third) looped)
+      (λ u. bind (w.looped_body known n rty line own (w.part known n rty body)) (λ b. pure (tk.For a c u b.0 b.1))))) s1 q.0 h q.1 in
+      let c = test_ends line test
+      (λ c. bind (w.any_part w.is_third (nodes.part_of known n rty third) looped)
+      (λ u. bind (w.looped_body known n rty line own (w.part known n rty body)) (λ b. pure (tk.For a.end.0 c u b.0 b.1)))) a.end.1 q.0 a.rest in
+      let u = any_ends w.is_third third_is_first third looped
+      (λ u. bind (w.looped_body known n rty line own (w.part known n rty body)) (λ b. pure (tk.For a.end.0 c.0 u b.0 b.1))) a.end.1 q.0 i c.1 in
       let c1 = if_counted (wf.counted_any n a.end.0) in
       let c2 = if_counted (wf.counted_any n u.end.0) in
       let quiet : (l : ℕ) → (both_counted c1 c2).loops l ≡ [] = λ l. ap (λ us. us ++ c2.loops (c1.after l)) (a.quiet l) ∙ u.quiet (c1.after l) in
-      let b = body_ends line own body (λ b. pure (tk.For a.end.0 c.0 u.end.0 b.0 b.1)) u.end.1 q.0 j quiet (λ ok pre. m.2 ok pre) (step_then typed L a.facts (step_with typed L c.2 u.facts)) u.rest in
+      let b = body_ends line own body (λ b. pure (tk.For a.end.0 c.0 u.end.0 b.0 b.1)) u.end.1 q.0 j quiet (λ ok pre. m.2 ok pre)
+      (step_then typed L a.facts (step_with typed L c.2 u.facts)) u.rest in
       let t = tk.For a.end.0 c.0 u.end.0 b.0.0 b.0.1 in
       let same : (t, scoped b.1.0 s.scope) ≡ z = ap (λ (p : TKind × Progress). (p.0, scoped p.1 s.scope)) (pure_is t b.1.0 q.0 b.1.1) ∙ q.2 in
       made line looped (t, scoped b.1.0 s.scope) z same
       (step_within typed L (step_as typed L (sym (wf.counted-For n a.end.0 c.0 u.end.0 b.0.0 b.0.1 line))
-      (step_map typed L (λ v. wf.formed-For typed results L (kind_of rty) a.end.0 c.0 u.end.0 b.0.0 b.0.1 looped ∙ and_both (and_both (and_both v.0.0 v.0.1.0) v.0.1.1) v.1) b.1.2)))
+      (step_map typed L (λ v. wf.formed-For typed results L (kind_of rty) a.end.0 c.0 u.end.0 b.0.0 b.0.1 looped
+      ∙ and_both (and_both (and_both v.0.0 v.0.1.0) v.0.1.1) v.1) b.1.2)))
       (never_first (k.For first test third body note) (nodes.sort-For known n rty first test third body note) t)
 
   abbrev ListFacts : Bool → Progress → List TStmt × Progress → Type 0
   ListFacts looped s z = Step typed L s z.1 (counted_all n z.0) (list_all (λ b. formed typed results L (kind_of rty) b looped) z.0 ≡ true)
 
-  list_ends : {B : Type 0} (ss : List Stmt) (looped : Bool) (f : List TStmt → Walk B) (s : Progress) (z : B × Progress) → AllOf Formed ss → Ends (bind (w.statements known n rty looped ss) f s) z
+  list_ends : {B : Type 0} (ss : List Stmt) (looped : Bool) (f : List TStmt → Walk B) (s : Progress) (z : B × Progress) → AllOf Formed ss
+      → Ends (bind (w.statements known n rty looped ss) f s) z
       → (q : List TStmt × Progress) × Ends (f q.0 q.1) z × ListFacts looped s q
   list_ends [] looped f s z hs e = (([], s), sym (pure_ends [] f s) ∙ e, step_here typed L (λ ok pre. refl))
   list_ends (b ∷ ss) looped f s z (more h hs) e =
@@ -542,9 +644,11 @@ module _ (typed : Typed) (results : List (Option Kind)) (known : Known) (n : ℕ
       let d = by_walk (nodes.walks-Block known n rty ss line looped) s z e in
       let q = within_ends (bind (w.statements known n rty looped ss) (λ ts. pure (tk.Block ts))) s z d in
       let p = list_ends ss looped (λ ts. pure (tk.Block ts)) (scoped s (nested s.scope)) q.0 hs q.1 in
-      let same : (tk.Block p.0.0, scoped p.0.1 s.scope) ≡ z = ap (λ (p : TKind × Progress). (p.0, scoped p.1 s.scope)) (pure_is (tk.Block p.0.0) p.0.1 q.0 p.1) ∙ q.2 in
+      let same : (tk.Block p.0.0, scoped p.0.1 s.scope) ≡ z =
+      ap (λ (p : TKind × Progress). (p.0, scoped p.1 s.scope)) (pure_is (tk.Block p.0.0) p.0.1 q.0 p.1) ∙ q.2 in
       made line looped (tk.Block p.0.0, scoped p.0.1 s.scope) z same
-      (step_within typed L (step_as typed L (sym (wf.counted-Block n p.0.0 line)) (step_map typed L (λ u. wf.formed-Block typed results L (kind_of rty) p.0.0 looped ∙ u) p.2)))
+      (step_within typed L
+      (step_as typed L (sym (wf.counted-Block n p.0.0 line)) (step_map typed L (λ u. wf.formed-Block typed results L (kind_of rty) p.0.0 looped ∙ u) p.2)))
       (never_first (k.Block ss) (nodes.sort-Block known n rty ss) (tk.Block p.0.0))
 
   return_formed_at : (v : Option Expr) → KindFormed (k.Return v)
@@ -558,7 +662,8 @@ module _ (typed : Typed) (results : List (Option Kind)) (known : Known) (n : ℕ
       (never_first (k.Return None) (nodes.sort-Return known n rty None) (tk.Return None))
   return_formed_at (Some y) line looped s z e =
       let d = by_walk (nodes.walks-Return known n rty (Some y) line looped) s z e in
-      let p = checks_ends line (λ scope. x.operand known (in_scope scope) y) (λ p. bind (lift line (ensure (not (w.is_void rty)) Return)) (λ _. bind (lift line (o.fitting rty p)) (λ a. pure (tk.Return (Some a))))) s z d in
+      let p = checks_ends line (λ scope. x.operand known (in_scope scope) y)
+      (λ p. bind (lift line (ensure (not (w.is_void rty)) Return)) (λ _. bind (lift line (o.fitting rty p)) (λ a. pure (tk.Return (Some a))))) s z d in
       let u = lift_ends line (ensure (not (w.is_void rty)) Return) (λ _. bind (lift line (o.fitting rty p.0)) (λ a. pure (tk.Return (Some a)))) s z p.2 in
       let v = lift_ends line (o.fitting rty p.0) (λ a. pure (tk.Return (Some a))) s z u.2 in
       made line looped (tk.Return (Some v.0), s) z (pure_is (tk.Return (Some v.0)) s z v.2)
@@ -566,7 +671,8 @@ module _ (typed : Typed) (results : List (Option Kind)) (known : Known) (n : ℕ
       let j = fe.fitting_kind typed results L known (in_scope s.scope) cx (placed_grows pre ok) p.0 rty v.0 v.1 in
       wf.formed-Return typed results L (kind_of rty) (Some v.0) looped
       ∙ ap (λ j. return_formed typed results L j (Some v.0)) j.1
-      ∙ fe.fitting_fits typed results L known (in_scope s.scope) cx (placed_grows pre ok) p.0 rty v.0 (good_in s L y p.0 p.1 (placed_grows pre ok)) v.1 j.0 j.1)))
+      ∙ fe.fitting_fits typed results L known (in_scope s.scope) cx (placed_grows pre ok) p.0 rty v.0
+      (good_in s L y p.0 p.1 (placed_grows pre ok)) v.1 j.0 j.1)))
       (never_first (k.Return (Some y)) (nodes.sort-Return known n rty (Some y)) (tk.Return (Some v.0)))
 
   break_formed : KindFormed k.Break
@@ -574,7 +680,8 @@ module _ (typed : Typed) (results : List (Option Kind)) (known : Known) (n : ℕ
       let d = by_walk (nodes.walks-Break known n rty line looped) s z e in
       let u = lift_ends line (ensure looped Outside) (λ _. pure tk.Break) s z d in
       made line looped (tk.Break, s) z (pure_is tk.Break s z u.2)
-      (step_as typed L (sym (wf.counted-Break n line)) (step_here typed L (λ ok pre. wf.formed-Break typed results L (kind_of rty) looped ∙ ensure_ok looped Outside u.0 u.1)))
+      (step_as typed L (sym (wf.counted-Break n line)) (step_here typed L (λ ok pre. wf.formed-Break typed results L (kind_of rty) looped
+      ∙ ensure_ok looped Outside u.0 u.1)))
       (never_first k.Break (nodes.sort-Break known n rty) tk.Break)
 
   continue_formed : KindFormed k.Continue
@@ -582,7 +689,8 @@ module _ (typed : Typed) (results : List (Option Kind)) (known : Known) (n : ℕ
       let d = by_walk (nodes.walks-Continue known n rty line looped) s z e in
       let u = lift_ends line (ensure looped Outside) (λ _. pure tk.Continue) s z d in
       made line looped (tk.Continue, s) z (pure_is tk.Continue s z u.2)
-      (step_as typed L (sym (wf.counted-Continue n line)) (step_here typed L (λ ok pre. wf.formed-Continue typed results L (kind_of rty) looped ∙ ensure_ok looped Outside u.0 u.1)))
+      (step_as typed L (sym (wf.counted-Continue n line)) (step_here typed L (λ ok pre. wf.formed-Continue typed results L (kind_of rty) looped
+      ∙ ensure_ok looped Outside u.0 u.1)))
       (never_first k.Continue (nodes.sort-Continue known n rty) tk.Continue)
 
   empty_formed : KindFormed k.Empty
@@ -594,14 +702,18 @@ module _ (typed : Typed) (results : List (Option Kind)) (known : Known) (n : ℕ
   stmt_formed : (line : ℕ) (d : StmtKind) → KindFormed d → Formed (roll-Stmt (record { line = line; kind = d }))
   stmt_formed line d h looped s z e =
       let p = by_walk (nodes.walks-stmt known n rty (roll-Stmt (record { line = line; kind = d })) looped) s z e in
-      let q = sym (ap (λ (b : Stmt-F StmtKind Stmt). bind ((w.kind_part known n rty b.kind).walk b.line looped) (λ d. pure (roll-TStmt (record { line = b.line; kind = d }))) s) (out-roll-Stmt (record { line = line; kind = d }))) ∙ p in
+      let q = sym
+      (ap (λ (b : Stmt-F StmtKind Stmt). bind ((w.kind_part known n rty b.kind).walk b.line looped)
+      (λ d. pure (roll-TStmt (record { line = b.line; kind = d }))) s) (out-roll-Stmt (record { line = line; kind = d }))) ∙ p in
       let a = bind_ends ((w.kind_part known n rty d).walk line looped) (λ d. pure (roll-TStmt (record { line = line; kind = d }))) s z q in
       let t = roll-TStmt (record { line = line; kind = a.0.0 }) in
       let same = pure_is t a.0.1 z a.2 in
       let g = h line looped s a.0 a.1 in
       let facts : StmtFacts looped s (t, a.0.1) =
-      step_as typed L (sym (wf.counted-stmt n line a.0.0)) (step_map typed L (λ u. ap (λ (b : Bool → Bool). b looped) (wf.formed-stmt typed results L (kind_of rty) line a.0.0) ∙ u) g.0) in
-      subst (λ (z : TStmt × Progress). StmtFacts looped s z × (w.is_first (sort_of (roll-Stmt (record { line = line; kind = d }))) ≡ true → is_simple z.0 ≡ true)) same
+      step_as typed L (sym (wf.counted-stmt n line a.0.0)) (step_map typed L (λ u. ap (λ (b : Bool
+      → Bool). b looped) (wf.formed-stmt typed results L (kind_of rty) line a.0.0) ∙ u) g.0) in
+      subst (λ (z : TStmt × Progress). StmtFacts looped s z
+      × (w.is_first (sort_of (roll-Stmt (record { line = line; kind = d }))) ≡ true → is_simple z.0 ≡ true)) same
       (facts, λ first. wf.simple-stmt line a.0.0 ∙ g.1 (sym (ap w.is_first (sort_at known n rty line d)) ∙ first))
 
   formed_cases : StmtCases Formed KindFormed
@@ -626,7 +738,8 @@ module _ (typed : Typed) (results : List (Option Kind)) (known : Known) (n : ℕ
   all_formed_of [] = none
   all_formed_of (b ∷ ss) = more (stmt_induct Formed KindFormed formed_cases b) (all_formed_of ss)
 
-  pub statements_formed : (ss : List Stmt) (looped : Bool) (s : Progress) (z : List TStmt × Progress) → Ends (w.statements known n rty looped ss s) z → ListFacts looped s z
+  pub statements_formed : (ss : List Stmt) (looped : Bool) (s : Progress) (z : List TStmt × Progress) → Ends (w.statements known n rty looped ss s) z
+      → ListFacts looped s z
   statements_formed ss looped s z e =
       let q = list_ends ss looped (λ ts. pure ts) s z (all_formed_of ss) (bind_pure (w.statements known n rty looped ss) s ∙ e) in
       subst (ListFacts looped s) (pure_is q.0.0 q.0.1 z q.1) q.2

@@ -67,24 +67,28 @@ notes_get n (suc k) (note ∷ notes) = notes_get (n + 1) k notes ∙ ap (λ m. o
 notes_set : (n k : ℕ) (notes : List TNote) (note : TNote) → notes_from n (slice_set notes k note) ≡ slice_set (notes_from n notes) k (stood (n + k) note)
 notes_set n k [] note = refl
 notes_set n zero (x ∷ notes) note = ap (λ m. stood m note ∷ notes_from (n + 1) notes) (omega arith)
-notes_set n (suc k) (x ∷ notes) note = ap (λ us. stood n x ∷ us) (notes_set (n + 1) k notes note ∙ ap (λ m. slice_set (notes_from (n + 1) notes) k (stood m note)) (omega arith))
+notes_set n (suc k) (x ∷ notes) note =
+    ap (λ us. stood n x ∷ us) (notes_set (n + 1) k notes note ∙ ap (λ m. slice_set (notes_from (n + 1) notes) k (stood m note)) (omega arith))
 
 pub notes_more : (n : ℕ) (notes : List TNote) (note : TNote) → notes_from n (notes ++ note ∷ []) ≡ notes_from n notes ++ stood (n + length notes) note ∷ []
 notes_more n [] note = ap (λ m. stood m note ∷ []) (omega arith)
-notes_more n (x ∷ notes) note = ap (λ us. stood n x ∷ us) (notes_more (n + 1) notes note ∙ ap (λ m. notes_from (n + 1) notes ++ stood m note ∷ []) (omega arith))
+notes_more n (x ∷ notes) note =
+    ap (λ us. stood n x ∷ us) (notes_more (n + 1) notes note ∙ ap (λ m. notes_from (n + 1) notes ++ stood m note ∷ []) (omega arith))
 
 pub notes_length : (n : ℕ) (notes : List TNote) → length (notes_from n notes) ≡ length notes
 notes_length n [] = refl
 notes_length n (x ∷ notes) = ap suc (notes_length (n + 1) notes)
 
 -- the end of a loop is told in its own note
-pub notes_end : (notes : List TNote) (last : ℕ) (front back : List Standing) (x : Standing) → notes_from 0 notes ≡ front ++ x ∷ back → notes_from 0 (with_end notes (length front) last (slice_get notes (length front))) ≡ front ++ record x { last = last } ∷ back
+pub notes_end : (notes : List TNote) (last : ℕ) (front back : List Standing) (x : Standing) → notes_from 0 notes ≡ front ++ x ∷ back
+    → notes_from 0 (with_end notes (length front) last (slice_get notes (length front))) ≡ front ++ record x { last = last } ∷ back
 notes_end notes last front back x e = by (slice_get notes (length front)) refl
   where
     at : slice_get (notes_from 0 notes) (length front) ≡ Some x
     at = ap (λ us. slice_get us (length front)) e ∙ get_last front back x
 
-    by : (m : Option TNote) → slice_get notes (length front) ≡ m → notes_from 0 (with_end notes (length front) last m) ≡ front ++ record x { last = last } ∷ back
+    by : (m : Option TNote) → slice_get notes (length front) ≡ m
+        → notes_from 0 (with_end notes (length front) last m) ≡ front ++ record x { last = last } ∷ back
     by None is = let d : None ≡ Some x = sym (notes_get 0 (length front) notes ∙ ap (option_map (stood (0 + length front))) is) ∙ at in absurd cc
     by (Some note) is =
         let d : Some (stood (0 + length front) note) ≡ Some x = sym (notes_get 0 (length front) notes ∙ ap (option_map (stood (0 + length front))) is) ∙ at in
@@ -154,7 +158,15 @@ module _ (typed : Typed) (locals : List TLocal) where
   pub step_with : {s z : Progress} {c : Counted} {E F : Type 0} → (ScopeGood s → Prefix s.locals locals → E) → Step s z c F → Step s z c (E × F)
   step_with f p ok =
       let a = p ok in
-      record { grows = a.grows; counts = a.counts; notes = a.notes; scope = a.scope; facts = λ p. (f ok (prefix_trans a.grows p), a.facts p); reductions = a.reductions }
+      record {
+        grows = a.grows;
+        counts = a.counts;
+        notes = a.notes;
+        scope = a.scope;
+        facts = λ p.
+            (f ok (prefix_trans a.grows p), a.facts p);
+        reductions = a.reductions;
+      }
 
   pub step_within : {s z : Progress} {c : Counted} {F : Type 0} → Step (scoped s (nested s.scope)) z c F → Step s (scoped z s.scope) c F
   step_within p ok =
@@ -162,12 +174,18 @@ module _ (typed : Typed) (locals : List TLocal) where
       record { grows = a.grows; counts = a.counts; notes = a.notes; scope = placed_grows a.grows ok; facts = a.facts; reductions = a.reductions }
 
   -- one more local
-  pub step_add : (name : Name) (a : CType) (s : Progress) (k : Kind) → kind_of a ≡ Some k → Step s (added name a s) (record { after = λ j. max j (length s.locals + 1); loops = λ j. [] }) (Unit {0})
+  pub step_add : (name : Name) (a : CType) (s : Progress) (k : Kind) → kind_of a ≡ Some k
+      → Step s (added name a s) (record { after = λ j. max j (length s.locals + 1); loops = λ j. [] }) (Unit {0})
   step_add name a s k is ok = record {
     grows = record { rest = local_of name a ∷ []; is = refl };
     counts = counted_one (length s.locals) ∙ sym (length-append s.locals (local_of name a ∷ []));
     notes = sym (append-nil (notes_from 0 s.loops));
-    scope = more (record { local = local_of name a; stands = get_last s.locals [] (local_of name a); kind = is ∙ ap (λ m. Some (or_integer m)) (sym is) }) (placed_grows (record { rest = local_of name a ∷ []; is = refl }) ok);
+    scope = more (record {
+      local = local_of name a;
+      stands = get_last s.locals [] (local_of name a);
+      kind = is
+          ∙ ap (λ m. Some (or_integer m)) (sym is);
+    }) (placed_grows (record { rest = local_of name a ∷ []; is = refl }) ok);
     facts = λ p. tt;
     reductions = λ p h. h;
   }
@@ -176,7 +194,8 @@ module _ (typed : Typed) (locals : List TLocal) where
       counted_one n = grind arith
 
   -- a local that is there is set
-  pub step_set : (m : ℕ) (s : Progress) {F : Type 0} → (ScopeGood s → m < length s.locals) → (ScopeGood s → Prefix s.locals locals → F) → Step s s (record { after = λ j. max j (m + 1); loops = λ j. [] }) F
+  pub step_set : (m : ℕ) (s : Progress) {F : Type 0} → (ScopeGood s → m < length s.locals) → (ScopeGood s → Prefix s.locals locals → F)
+      → Step s s (record { after = λ j. max j (m + 1); loops = λ j. [] }) F
   step_set m s lt f ok = record {
     grows = prefix_refl s.locals;
     counts = counted_none m (length s.locals) (lt ok);
@@ -220,7 +239,8 @@ module _ (typed : Typed) (locals : List TLocal) where
   -- an annotated loop, whose first and third part have no loops
   pub step_loop : (func line : ℕ) (own : Choice) {s m z : Progress} {head body : Counted} {E F : Type 0}
       → ((j : ℕ) → head.loops j ≡ [])
-      → (ScopeGood s → Prefix s.locals locals → length s.locals ≤ length m.locals → AllOf (IsNoted typed (record { func = func; line = line; own = own; first = length m.locals; last = length m.locals })) own.reds)
+      → (ScopeGood s → Prefix s.locals locals → length s.locals ≤ length m.locals
+      → AllOf (IsNoted typed (record { func = func; line = line; own = own; first = length m.locals; last = length m.locals })) own.reds)
       → Step s m head E → Step (begun_loop func line own m) z body F
       → Step s (ended_loop (length m.loops) z) (for_counted func line (Some (length m.loops)) head body) (E × F)
   step_loop func line own {s = s} {m = m} {z = z} {head = head} {body = body} quiet reds p q ok =
@@ -230,22 +250,29 @@ module _ (typed : Typed) (locals : List TLocal) where
       let entry : TNote = record { func = func; line = line; own = own; first = first; last = first } in
       let x : Standing = record { number = length m.loops; func = func; line = line; first = first; last = first } in
       let before : notes_from 0 z.loops ≡ notes_from 0 m.loops ++ x ∷ body.loops first =
-      b.notes ∙ ap (λ us. us ++ body.loops first) (notes_more 0 m.loops entry) ∙ append_assoc (notes_from 0 m.loops) (stood (0 + length m.loops) entry ∷ []) (body.loops first) ∙ ap (λ n. notes_from 0 m.loops ++ stood n entry ∷ body.loops first) (zero-add (length m.loops)) in
+      b.notes ∙ ap (λ us. us ++ body.loops first) (notes_more 0 m.loops entry)
+      ∙ append_assoc (notes_from 0 m.loops) (stood (0 + length m.loops) entry ∷ []) (body.loops first)
+      ∙ ap (λ n. notes_from 0 m.loops ++ stood n entry ∷ body.loops first) (zero-add (length m.loops)) in
       let told = notes_end z.loops (length z.locals) (notes_from 0 m.loops) (body.loops first) x before in
-      let there : notes_from 0 (with_end z.loops (length m.loops) (length z.locals) (slice_get z.loops (length m.loops))) ≡ notes_from 0 m.loops ++ record x { last = length z.locals } ∷ body.loops first =
+      let there : notes_from 0 (with_end z.loops (length m.loops) (length z.locals) (slice_get z.loops (length m.loops)))
+      ≡ notes_from 0 m.loops ++ record x { last = length z.locals } ∷ body.loops first =
       ap (λ n. notes_from 0 (with_end z.loops n (length z.locals) (slice_get z.loops n))) (sym (notes_length 0 m.loops)) ∙ told in
       record {
         grows = prefix_trans a.grows b.grows;
         counts = ap body.after a.counts ∙ b.counts;
         notes =
             there
-            ∙ ap (λ us. us ++ record x { last = length z.locals } ∷ body.loops first) (a.notes ∙ ap (λ us. notes_from 0 s.loops ++ us) (quiet (length s.locals)) ∙ append-nil (notes_from 0 s.loops))
+            ∙ ap (λ us. us ++ record x { last = length z.locals } ∷ body.loops first) (a.notes ∙ ap (λ us. notes_from 0 s.loops ++ us) (quiet (length s.locals))
+            ∙ append-nil (notes_from 0 s.loops))
             ∙ ap (λ us. notes_from 0 s.loops ++ record x { last = length z.locals } ∷ (us ++ body.loops first)) (sym (quiet (length s.locals)))
             ∙ ap (λ l. notes_from 0 s.loops ++ record x { last = l } ∷ (head.loops (length s.locals) ++ body.loops first)) (sym b.counts)
-            ∙ ap (λ f. notes_from 0 s.loops ++ record { number = length m.loops; func = func; line = line; first = f; last = body.after f } ∷ (head.loops (length s.locals) ++ body.loops f)) (sym a.counts);
+            ∙ ap (λ f. notes_from 0 s.loops
+            ++ record { number = length m.loops; func = func; line = line; first = f; last = body.after f } ∷ (head.loops (length s.locals)
+            ++ body.loops f)) (sym a.counts);
         scope = b.scope;
         facts = λ p. (a.facts (prefix_trans b.grows p), b.facts p);
         reductions = λ p h.
             noted_with_end z.loops (length m.loops) (length z.locals) (slice_get z.loops (length m.loops)) refl
-            (b.reductions p (noted_more (a.reductions (prefix_trans b.grows p) h) (reds ok (prefix_trans (prefix_trans a.grows b.grows) p) (prefix_length a.grows))));
+            (b.reductions p
+            (noted_more (a.reductions (prefix_trans b.grows p) h) (reds ok (prefix_trans (prefix_trans a.grows b.grows) p) (prefix_length a.grows))));
       }

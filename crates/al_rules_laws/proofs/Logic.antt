@@ -1,12 +1,17 @@
 -- What an answer that is there says of the checks that it came through.
 use Rattle.std.proofs.Common.{◌≡◌, Bool, true, false, not, ◌&&◌, ◌||◌, Option, Some, None, Result, Ok, Err, refl, ◌⊎◌, inl, inr}
+use Rattle.al_source.specs.Steps.{and_then}
 use Rattle.al_rules.specs.declared.faults.TypeKind.{TypeKind}
-use Rattle.al_rules.specs.Checks.{Checked, and_then, ensure, some_or, or_else}
+use Rattle.al_rules.specs.Checks.{Checked, ensure, some_or, or_else}
 
 pub and_parts : (a b : Bool) → (a && b) ≡ true → (a ≡ true) × (b ≡ true)
 and_parts true true e = (refl, refl)
 and_parts true false e = absurd cc
 and_parts false b e = absurd cc
+
+pub and_false : (a : Bool) → (a && false) ≡ false
+and_false true = refl
+and_false false = refl
 
 pub and_both : {a b : Bool} → a ≡ true → b ≡ true → (a && b) ≡ true
 and_both p q = rw (p, q) refl

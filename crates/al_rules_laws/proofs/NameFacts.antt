@@ -1,6 +1,7 @@
 -- Names by their look-ups, as the walk has them and as the rules have them.
-use Rattle.std.proofs.Common.{◌≡◌, ℕ, zero, suc, ◌+◌, Bool, true, false, not, cond, nat_lt, List, [], ◌∷◌, map, length, Option, Some, None, Ok, option_map, option_and_then, slice_get, find, position, bytes_eq, is_none, refl, sym, ap, ◌∙◌, subst, ◌||◌, ◌≤◌, arith, lt-ltb, ltb-true, ltb-false}
+use Rattle.std.proofs.Common.{◌≡◌, ℕ, zero, suc, ◌+◌, Bool, true, false, not, cond, nat_lt, List, [], ◌∷◌, map, length, Option, Some, None, Ok, option_map, option_and_then, slice_get, find, position, bytes_eq, is_none, refl, sym, ap, ◌∙◌, subst, ◌&&◌, ◌||◌, ◌≤◌, codes, arith, lt-ltb, ltb-true, ltb-false}
 use Rattle.std.specs.List.{list_any, position_or_len}
+use Rattle.std.proofs.lemmas.Slice.Eq.{bytes_eq-Decides}
 use Rattle.al_source.specs.declared.source_tree.CType.{CType}
 use Rattle.al_source.specs.declared.source_tree.Field.{Field}
 use Rattle.al_source.specs.declared.source_tree.GlobalDef.{GlobalDef}
@@ -9,9 +10,11 @@ use Rattle.al_source.specs.declared.source_tree.Func.{Func}
 use Rattle.al_rules.specs.declared.faults.TypeKind.TheVariants.{Unknown}
 use Rattle.al_rules.specs.declared.layout.StructLayout.{StructLayout}
 use Rattle.al_rules.specs.Names.{Name}
-use Rattle.al_rules.specs.Scopes.{Binding, Known, Variable, Local, Global, Callee, Function, global_named, function_named, variable_named, first_some, built_in, callee_by, callee_named, field_at, offset_at, field_in, field_of}
+use Rattle.al_rules.specs.Scopes.{Binding, Known, Variable, Local, Global, Callee, Function, global_named, function_named, variable_named, first_some, built_in, callee_by, callee_named, is_free, frees, field_at, offset_at, field_in, field_of}
 use Rattle.al_rules.specs.Checks.{some_or}
 use Rattle.al_rules.specs.ExpressionRules as r
+use Rattle.al_rules.specs.StatementRules.{Frees}
+use Rattle.al_rules_laws.proofs.Logic.{and_parts, and_false}
 
 -- ---- lists
 
@@ -32,7 +35,8 @@ place_by p x xs b = at_cons (cond (not b) (1 + position_or_len p xs) 0) (suc (le
 
 place_cons : {A : Type 0} (p : A → Bool) (x : A) (xs : List A) (b : Bool) → place_by p x xs b ≡ cond b (Some 0) (option_map suc (position p xs))
 place_cons p x xs true = here (length xs)
-place_cons p x xs false = later_by (position_or_len p xs) (length xs) (nat_lt (position_or_len p xs) (length xs)) (nat_lt (1 + position_or_len p xs) (suc (length xs))) refl refl
+place_cons p x xs false =
+    later_by (position_or_len p xs) (length xs) (nat_lt (position_or_len p xs) (length xs)) (nat_lt (1 + position_or_len p xs) (suc (length xs))) refl refl
 
 pub position_cons : {A : Type 0} (p : A → Bool) (x : A) (xs : List A) → position p (x ∷ xs) ≡ cond (p x) (Some 0) (option_map suc (position p xs))
 position_cons p x xs = place_cons p x xs (p x)
@@ -41,14 +45,16 @@ get_suc : {A : Type 0} (x : A) (xs : List A) (o : Option ℕ) → option_and_the
 get_suc x xs None = refl
 get_suc x xs (Some k) = refl
 
-find_by : {A : Type 0} (x : A) (xs : List A) (f : Option A) (o : Option ℕ) (b : Bool) → f ≡ option_and_then (slice_get xs) o → cond b (Some x) f ≡ option_and_then (slice_get (x ∷ xs)) (cond b (Some 0) (option_map suc o))
+find_by : {A : Type 0} (x : A) (xs : List A) (f : Option A) (o : Option ℕ) (b : Bool) → f ≡ option_and_then (slice_get xs) o
+    → cond b (Some x) f ≡ option_and_then (slice_get (x ∷ xs)) (cond b (Some 0) (option_map suc o))
 find_by x xs f o true e = refl
 find_by x xs f o false e = e ∙ sym (get_suc x xs o)
 
 -- what is found stands at the first place that passes
 pub find_place : {A : Type 0} (p : A → Bool) (xs : List A) → find p xs ≡ option_and_then (slice_get xs) (position p xs)
 find_place p [] = refl
-find_place p (x ∷ xs) = find_by x xs (find p xs) (position p xs) (p x) (find_place p xs) ∙ ap (option_and_then (slice_get (x ∷ xs))) (sym (position_cons p x xs))
+find_place p (x ∷ xs) =
+    find_by x xs (find p xs) (position p xs) (p x) (find_place p xs) ∙ ap (option_and_then (slice_get (x ∷ xs))) (sym (position_cons p x xs))
 
 -- where one passes, it is found, and the list has an element that passes
 any_by : {A : Type 0} (x : A) (f : Option A) (b c : Bool) → is_none f ≡ not c → is_none (cond b (Some x) f) ≡ not (b || c)
@@ -108,7 +114,8 @@ field_of_binding b = record { name = b.name; ty = b.ty }
 abbrev pub names : Known → List Binding → r.Names
 names known scope = record { locals = map field_of_binding scope; structs = known.structs; globals = known.globals; funcs = known.funcs }
 
-pub local_found : (name : Name) (bs : List Binding) → r.named (λ f. f.name) name (map field_of_binding bs) ≡ option_map field_of_binding (find (λ b. bytes_eq b.name name) bs)
+pub local_found : (name : Name) (bs : List Binding)
+    → r.named (λ f. f.name) name (map field_of_binding bs) ≡ option_map field_of_binding (find (λ b. bytes_eq b.name name) bs)
 local_found name bs = find_map field_of_binding (λ f. bytes_eq f.name name) bs
 
 -- ---- variables
@@ -118,24 +125,30 @@ local_by o = option_map (λ b. Local b.number b.ty) o
 
 -- what a name is, of the three that it may be
 pub data VariableIs (known : Known) (scope : List Binding) (name : Name) : Option Variable → Type 0 where
-  is_local : (b : Binding) → r.named (λ f. f.name) name (map field_of_binding scope) ≡ Some (field_of_binding b) → VariableIs known scope name (Some (Local b.number b.ty))
-  is_global : (k : ℕ) (x : GlobalDef) → r.named (λ f. f.name) name (map field_of_binding scope) ≡ None → r.named (λ x. x.name) name known.globals ≡ Some x → VariableIs known scope name (Some (Global k x.ty))
+  is_local : (b : Binding) → r.named (λ f. f.name) name (map field_of_binding scope) ≡ Some (field_of_binding b)
+      → VariableIs known scope name (Some (Local b.number b.ty))
+  is_global : (k : ℕ) (x : GlobalDef) → r.named (λ f. f.name) name (map field_of_binding scope) ≡ None → r.named (λ x. x.name) name known.globals ≡ Some x
+      → VariableIs known scope name (Some (Global k x.ty))
   is_no_variable : r.IsNoVariable (names known scope) name → VariableIs known scope name None
 
 module _ (known : Known) (scope : List Binding) (name : Name) where
-  locals_of : (o : Option Binding) → find (λ b. bytes_eq b.name name) scope ≡ o → r.named (λ f. f.name) name (map field_of_binding scope) ≡ option_map field_of_binding o
+  locals_of : (o : Option Binding) → find (λ b. bytes_eq b.name name) scope ≡ o
+      → r.named (λ f. f.name) name (map field_of_binding scope) ≡ option_map field_of_binding o
   locals_of o e = local_found name scope ∙ ap (option_map field_of_binding) e
 
-  global_by : (o : Option GlobalDef) → find (λ x. bytes_eq x.name name) known.globals ≡ o → r.named (λ f. f.name) name (map field_of_binding scope) ≡ None → VariableIs known scope name (global_named name known.globals)
+  global_by : (o : Option GlobalDef) → find (λ x. bytes_eq x.name name) known.globals ≡ o → r.named (λ f. f.name) name (map field_of_binding scope) ≡ None
+      → VariableIs known scope name (global_named name known.globals)
   global_by None e l =
-      subst (λ p. VariableIs known scope name (option_and_then (λ k. option_map (λ g. Global k g.ty) (slice_get known.globals k)) p)) (sym (no_place (λ x. bytes_eq x.name name) known.globals e))
+      subst (λ p. VariableIs known scope name (option_and_then (λ k. option_map (λ g. Global k g.ty) (slice_get known.globals k)) p))
+      (sym (no_place (λ x. bytes_eq x.name name) known.globals e))
       (is_no_variable (record { no_local = l; no_global = e }))
   global_by (Some x) e l =
       let p = place_found (λ x. bytes_eq x.name name) known.globals x e in
       subst (λ q. VariableIs known scope name (option_and_then (λ k. option_map (λ g. Global k g.ty) (slice_get known.globals k)) q)) (sym p.1)
       (subst (λ q. VariableIs known scope name (option_map (λ g. Global p.0 g.ty) q)) (sym p.2) (is_global p.0 x l e))
 
-  variable_by : (o : Option Binding) → find (λ b. bytes_eq b.name name) scope ≡ o → VariableIs known scope name (first_some (local_by o) (global_named name known.globals))
+  variable_by : (o : Option Binding) → find (λ b. bytes_eq b.name name) scope ≡ o
+      → VariableIs known scope name (first_some (local_by o) (global_named name known.globals))
   variable_by (Some b) e = is_local b (locals_of (Some b) e)
   variable_by None e = global_by (find (λ x. bytes_eq x.name name) known.globals) refl (locals_of None e)
 
@@ -145,7 +158,8 @@ module _ (known : Known) (scope : List Binding) (name : Name) where
 -- ---- what may be called
 
 pub data CalleeIs (known : Known) (scope : List Binding) (name : Name) : Callee → Type 0 where
-  is_function : (k : ℕ) (f : Func) → r.IsNoVariable (names known scope) name → r.named (λ f. f.name) name known.funcs ≡ Some f → CalleeIs known scope name (Function k f)
+  is_function : (k : ℕ) (f : Func) → r.IsNoVariable (names known scope) name → r.named (λ f. f.name) name known.funcs ≡ Some f
+      → CalleeIs known scope name (Function k f)
   is_built_in : {c : Callee} → r.IsNoVariable (names known scope) name → r.IsBuiltIn (names known scope) name c → CalleeIs known scope name c
 
 module _ (known : Known) (scope : List Binding) (name : Name) where
@@ -160,12 +174,18 @@ module _ (known : Known) (scope : List Binding) (name : Name) where
       let p = place_found (λ f. bytes_eq f.name name) known.funcs f e in
       (p.0, ap function_by p.1 ∙ ap (option_map (λ f. Function p.0 f)) p.2)
 
-  found_callee : r.IsNoVariable (names known scope) name → (o : Option Func) → find (λ f. bytes_eq f.name name) known.funcs ≡ o → (c : Callee) → some_or (first_some (function_named name known.funcs) (built_in name)) Unknown ≡ Ok c → CalleeIs known scope name c
+  found_callee : r.IsNoVariable (names known scope) name → (o : Option Func) → find (λ f. bytes_eq f.name name) known.funcs ≡ o → (c : Callee)
+      → some_or (first_some (function_named name known.funcs) (built_in name)) Unknown ≡ Ok c → CalleeIs known scope name c
   found_callee h (Some f) e c g =
       let p = function_some f e in
       let q : Ok (Function p.0 f) ≡ Ok c = sym (ap (λ o. some_or (first_some o (built_in name)) Unknown) p.1) ∙ g in
       subst (CalleeIs known scope name) (cc) (is_function p.0 f h e)
-  found_callee h None e c g = is_built_in h (record { no_function = e; means = some_is (built_in name) (sym (ap (λ o. some_or (first_some o (built_in name)) Unknown) (function_none e)) ∙ g) })
+  found_callee h None e c g =
+      is_built_in h (record {
+        no_function = e;
+        means = some_is (built_in name) (sym (ap (λ o. some_or (first_some o (built_in name)) Unknown) (function_none e))
+            ∙ g);
+      })
     where
       some_is : (o : Option Callee) → some_or o Unknown ≡ Ok c → o ≡ Some c
       some_is (Some d) g = cc
@@ -186,14 +206,61 @@ module _ (known : Known) (scope : List Binding) (name : Name) where
   pub no_variable : r.IsNoVariable (names known scope) name → variable_named known scope name ≡ None
   no_variable = no_variable_by (variable_named known scope name) (variable_is known scope name)
 
-  pub callee_function : (f : Func) → r.IsNoVariable (names known scope) name → r.named (λ f. f.name) name known.funcs ≡ Some f → (k : ℕ) × (callee_named known scope name ≡ Ok (Function k f))
+  pub callee_function : (f : Func) → r.IsNoVariable (names known scope) name → r.named (λ f. f.name) name known.funcs ≡ Some f
+      → (k : ℕ) × (callee_named known scope name ≡ Ok (Function k f))
   callee_function f n e =
       let p = function_some f e in
       (p.0, ap (callee_by known name) (no_variable n) ∙ ap (λ o. some_or (first_some o (built_in name)) Unknown) p.1)
 
   pub callee_built_in : (c : Callee) → r.IsNoVariable (names known scope) name → r.IsBuiltIn (names known scope) name c → callee_named known scope name ≡ Ok c
   callee_built_in c n b =
-      ap (callee_by known name) (no_variable n) ∙ ap (λ o. some_or (first_some o (built_in name)) Unknown) (function_none b.no_function) ∙ ap (λ o. some_or o Unknown) b.means
+      ap (callee_by known name) (no_variable n) ∙ ap (λ o. some_or (first_some o (built_in name)) Unknown) (function_none b.no_function)
+      ∙ ap (λ o. some_or o Unknown) b.means
+
+  nothing_named : (o : Option Variable) → VariableIs known scope name o → o ≡ None → r.IsNoVariable (names known scope) name
+  nothing_named _ (is_no_variable h) e = h
+  nothing_named _ (is_local b d) e = absurd cc
+  nothing_named _ (is_global k x l d) e = absurd cc
+
+  -- ---- what frees an object
+
+  no_function_by : (o : Option Func) → find (λ f. bytes_eq f.name name) known.funcs ≡ o → is_none (function_named name known.funcs) ≡ true → o ≡ None
+  no_function_by None e n = refl
+  no_function_by (Some f) e n = let there : false ≡ true = sym (ap is_none (function_some f e).1) ∙ n in absurd cc
+
+  pub frees_sound : frees known scope name ≡ true → Frees (names known scope) name
+  frees_sound e =
+      let p = and_parts (is_free name && is_none (variable_named known scope name)) (is_none (function_named name known.funcs)) e in
+      let q = and_parts (is_free name) (is_none (variable_named known scope name)) p.0 in
+      record {
+        no_variable = nothing_named (variable_named known scope name) variable_there (none_of (variable_named known scope name) q.1);
+        no_function = no_function_by (find (λ f. bytes_eq f.name name) known.funcs) refl p.1;
+        is_free = q.0;
+      }
+    where
+      variable_there : VariableIs known scope name (variable_named known scope name)
+      variable_there = variable_is known scope name
+
+  pub frees_complete : Frees (names known scope) name → frees known scope name ≡ true
+  frees_complete h = rw (h.is_free, no_variable h.no_variable, function_none h.no_function) refl
+
+  -- the name is not built in
+  free_not_built_in : {c : Callee} → built_in name ≡ Some c → is_free name ≡ false
+  free_not_built_in {c = c} e = by (is_free name) refl
+    where
+      by : (b : Bool) → is_free name ≡ b → b ≡ false
+      by false is = refl
+      by true is =
+          let none : built_in (codes "free") ≡ Some c = sym (ap built_in ((bytes_eq-Decides name (codes "free")).0 is)) ∙ e in
+          absurd cc
+
+  -- what may be called frees nothing
+  pub called_frees_nothing : (c : Callee) → callee_named known scope name ≡ Ok c → frees known scope name ≡ false
+  called_frees_nothing c e = by (callee_is c e)
+    where
+      by : {c : Callee} → CalleeIs known scope name c → frees known scope name ≡ false
+      by (is_function k f nv found) = rw (function_some f found).1 (and_false (is_free name && is_none (variable_named known scope name)))
+      by (is_built_in nv b) = rw (free_not_built_in b.means) refl
 
 -- ---- fields
 
@@ -201,19 +268,22 @@ module _ (known : Known) (scope : List Binding) (structure field : Name) where
   abbrev layout_named : Option StructLayout
   layout_named = find (λ l. bytes_eq l.name structure) known.layout.structs
 
-  field_some : (s : StructDef) (o : Option Field) → find (λ f. bytes_eq f.name field) s.fields ≡ o → (p : CType × ℕ) → field_in field layout_named s ≡ Some p → (f : Field) × (find (λ f. bytes_eq f.name field) s.fields ≡ Some f) × (f.ty ≡ p.0)
+  field_some : (s : StructDef) (o : Option Field) → find (λ f. bytes_eq f.name field) s.fields ≡ o → (p : CType × ℕ) → field_in field layout_named s ≡ Some p
+      → (f : Field) × (find (λ f. bytes_eq f.name field) s.fields ≡ Some f) × (f.ty ≡ p.0)
   field_some s None e p g =
       let d : None ≡ Some p = sym (ap (option_and_then (field_at s layout_named)) (no_place (λ f. bytes_eq f.name field) s.fields e)) ∙ g in absurd cc
   field_some s (Some f) e p g =
       let q = place_found (λ f. bytes_eq f.name field) s.fields f e in
-      let d : Some (f.ty, offset_at layout_named q.0) ≡ Some p = sym (ap (option_and_then (field_at s layout_named)) q.1 ∙ ap (option_map (λ f. (f.ty, offset_at layout_named q.0))) q.2) ∙ g in
+      let d : Some (f.ty, offset_at layout_named q.0) ≡ Some p =
+      sym (ap (option_and_then (field_at s layout_named)) q.1 ∙ ap (option_map (λ f. (f.ty, offset_at layout_named q.0))) q.2) ∙ g in
       (f, e, ap (λ (o : Option (CType × ℕ)). type_of o) d)
     where
       type_of : Option (CType × ℕ) → CType
       type_of (Some t) = t.0
       type_of None = f.ty
 
-  has_field_by : (o : Option StructDef) → find (λ s. bytes_eq s.name structure) known.structs ≡ o → (p : CType × ℕ) → option_and_then (field_in field layout_named) o ≡ Some p → r.HasField (names known scope) structure field p.0
+  has_field_by : (o : Option StructDef) → find (λ s. bytes_eq s.name structure) known.structs ≡ o → (p : CType × ℕ)
+      → option_and_then (field_in field layout_named) o ≡ Some p → r.HasField (names known scope) structure field p.0
   has_field_by None e p g = absurd cc
   has_field_by (Some s) e p g = record { definition = s; defined = e; field_type = field_some s (find (λ f. bytes_eq f.name field) s.fields) refl p g }
 

@@ -27,10 +27,10 @@ use Rattle.al_rules.specs.Names.{AllOf, none, more}
 use Rattle.al_rules.specs.Candidates.{all_of, expr_names, place_names, names, names_at, any_names, kind_names, variables, variables_in}
 use Rattle.al_rules.specs.Programs.{Resolved}
 use Rattle.al_rules.specs.WellFormed.{FitsKind, PlaceKind, local_kind, is_some_kind, is_one, may_want, fits_either, fits_want, fit_all, param_kinds, fit_params, gives, global_kind, operand_fits, expr_fits, place_kind_case, fits, place_kind, is_int_local, call_formed, sets_formed, test_formed, return_formed, FormedStmt, FormedKind, is_simple, all_formed, kind_formed, formed, formed_in, IsFormedFunc}
-use Rattle.al_rules_laws.specs.FormedLaws.{IsThere, IsInRange}
+use Rattle.al_rules_laws.specs.FormedLaws.{AreInPlace, IsThere, IsInRange}
 use Rattle.al_rules_laws.proofs.Logic.{and_parts, or_parts}
 use Rattle.al_rules_laws.proofs.FormedPrograms.{resolved_is_well_formed}
-use Rattle.al_rules_laws.proofs.LoopEntries.{all_append, all_told, loops_told}
+use Rattle.al_rules_laws.proofs.LoopEntries.{all_append, all_told, loops_told, as_many_loops, loop_in_place}
 
 unfoldable terms_in : TKind → Terms
 terms_in = fold-TKind Terms Terms kind_terms (λ s. s.kind)
@@ -93,13 +93,16 @@ module _ (typed : Typed) (results : List (Option Kind)) (f : TFunc) where
   global_there n (Some g) at e = slice_get_within typed.globals n g at
   global_there n None at e = absurd cc
 
-  args_ranged : {xs : List TExpr} → AllOf ExprRanged xs → (ks : List Kind) → fit_all (map Fits xs) ks ≡ true → Ranged (all_of (map names xs)) (all_called (map calls xs))
+  args_ranged : {xs : List TExpr} → AllOf ExprRanged xs → (ks : List Kind) → fit_all (map Fits xs) ks ≡ true
+      → Ranged (all_of (map names xs)) (all_called (map calls xs))
   args_ranged none ks e = nothing
   args_ranged (more h hs) [] e = absurd cc
   args_ranged (more {a = x} {rest = xs} h hs) (k ∷ ks) e = let q = and_parts (Fits x k) (fit_all (map Fits xs) ks) e in both (h k q.0) (args_ranged hs ks q.1)
 
-  call_ranged : (g : ℕ) {xs : List TExpr} → AllOf ExprRanged xs → (m : Option TFunc) → slice_get typed.funcs g ≡ m → fit_params (map Fits xs) m ≡ true → Ranged (all_of (map names xs)) (g ∷ all_called (map calls xs))
-  call_ranged g hs (Some h) at e = let q = args_ranged hs (param_kinds h) e in record { mentioned = q.mentioned; called = more (slice_get_within typed.funcs g h at) q.called }
+  call_ranged : (g : ℕ) {xs : List TExpr} → AllOf ExprRanged xs → (m : Option TFunc) → slice_get typed.funcs g ≡ m → fit_params (map Fits xs) m ≡ true
+      → Ranged (all_of (map names xs)) (g ∷ all_called (map calls xs))
+  call_ranged g hs (Some h) at e =
+      let q = args_ranged hs (param_kinds h) e in record { mentioned = q.mentioned; called = more (slice_get_within typed.funcs g h at) q.called }
   call_ranged g hs None at e = absurd cc
 
   parts : (xs : List X) → AllOf ExprRanged (map (λ e. e.0) xs)
@@ -123,15 +126,18 @@ module _ (typed : Typed) (results : List (Option Kind)) (f : TFunc) where
       let q = and_parts (is_one Int want && Fits x.0 j) (Fits y.0 k) e in
       both (x.1 j (and_parts (is_one Int want) (Fits x.0 j) q.0).1) (y.1 k q.1)
 
-  two_tests : (want : Kind) (x y : X) → (is_one Int want && fits_either (Fits x.0) && fits_either (Fits y.0)) ≡ true → Ranged (names x.0 ++ names y.0) (calls x.0 ++ calls y.0)
+  two_tests : (want : Kind) (x y : X) → (is_one Int want && fits_either (Fits x.0) && fits_either (Fits y.0)) ≡ true
+      → Ranged (names x.0 ++ names y.0) (calls x.0 ++ calls y.0)
   two_tests want x y e =
       let q = and_parts (is_one Int want && fits_either (Fits x.0)) (fits_either (Fits y.0)) e in
       both (either_fits x (and_parts (is_one Int want) (fits_either (Fits x.0)) q.0).1) (either_fits y q.1)
 
-  layer_ranged : (y : TExpr-F X Q) (want : Kind) → expr_fits typed results f.locals (map_fits (expr_layer y)) want ≡ true → Ranged (expr_names (map_names (expr_layer y))) (expr_calls (map_calls (expr_layer y)))
+  layer_ranged : (y : TExpr-F X Q) (want : Kind) → expr_fits typed results f.locals (map_fits (expr_layer y)) want ≡ true
+      → Ranged (expr_names (map_names (expr_layer y))) (expr_calls (map_calls (expr_layer y)))
   layer_ranged (TExpr-F.Number n) want e = nothing
   layer_ranged (TExpr-F.Local n) want e = record { mentioned = more (local_there n want (slice_get f.locals n) refl e) none; called = none }
-  layer_ranged (TExpr-F.Load k q) want e = q.1 (and_parts (is_one k want) (Formed q.0) (and_parts (is_one k want && Formed q.0) (may_want (place_kind typed results f.locals q.0).wants k) e).0).1
+  layer_ranged (TExpr-F.Load k q) want e =
+      q.1 (and_parts (is_one k want) (Formed q.0) (and_parts (is_one k want && Formed q.0) (may_want (place_kind typed results f.locals q.0).wants k) e).0).1
   layer_ranged (TExpr-F.Addr q) want e = q.1 (and_parts (is_one Ptr want) (Formed q.0) e).1
   layer_ranged (TExpr-F.Unary op x) want e = operand_ranged op x (and_parts (is_one Int want) (operand_fits op (Fits x.0)) e).1
   layer_ranged (TExpr-F.Binary op x y) want e = two want x y Int Int e
@@ -139,14 +145,17 @@ module _ (typed : Typed) (results : List (Option Kind)) (f : TFunc) where
   layer_ranged (TExpr-F.And x y) want e = two_tests want x y e
   layer_ranged (TExpr-F.Or x y) want e = two_tests want x y e
   layer_ranged (TExpr-F.Call g xs) want e =
-      call_ranged g (parts xs) (slice_get typed.funcs g) refl (and_parts (gives (slice_get results g) want) (fit_params (map Fits (map (λ e. e.0) xs)) (slice_get typed.funcs g)) e).1
+      call_ranged g (parts xs) (slice_get typed.funcs g) refl
+      (and_parts (gives (slice_get results g) want) (fit_params (map Fits (map (λ e. e.0) xs)) (slice_get typed.funcs g)) e).1
   layer_ranged (TExpr-F.Input x) want e = x.1 Int (and_parts (is_one Int want) (Fits x.0 Int) e).1
   layer_ranged TExpr-F.Inputs want e = nothing
   layer_ranged (TExpr-F.Choose op x y) want e = two want x y Int Int e
   layer_ranged (TExpr-F.Calloc x size) want e = x.1 Int (and_parts (is_one Ptr want) (Fits x.0 Int) e).1
+  layer_ranged (TExpr-F.Free x) want e = absurd cc
 
   place_ranged_at : (y : TPlace-F X Q) → (place_kind_case typed results f.locals (map_forms (place_layer y))).formed ≡ true
-      → Ranged (place_names (map-TPlace TExpr TPlace (List Addr) (List Addr) names names_at (place_layer y))) (place_calls (map-TPlace TExpr TPlace (List ℕ) (List ℕ) calls calls_at (place_layer y)))
+      → Ranged (place_names (map-TPlace TExpr TPlace (List Addr) (List Addr) names names_at (place_layer y)))
+      (place_calls (map-TPlace TExpr TPlace (List ℕ) (List ℕ) calls calls_at (place_layer y)))
   place_ranged_at (TPlace-F.Global n) e = record { mentioned = more (global_there n (slice_get typed.globals n) refl e) none; called = none }
   place_ranged_at (TPlace-F.At x) e = x.1 Ptr e
   place_ranged_at (TPlace-F.Plus q n) e = q.1 e
@@ -157,14 +166,19 @@ module _ (typed : Typed) (results : List (Option Kind)) (f : TFunc) where
   expr_step y want e =
       subst (λ as'. Ranged as' (calls (roll-TExpr (expr_layer y)))) (sym (fold-roll-TExpr (List Addr) (List Addr) expr_names place_names (expr_layer y)))
       (subst (λ gs. Ranged (expr_names (map_names (expr_layer y))) gs) (sym (fold-roll-TExpr (List ℕ) (List ℕ) expr_calls place_calls (expr_layer y)))
-      (layer_ranged y want (sym (ap (λ (h : FitsKind). h want) (fold-roll-TExpr FitsKind PlaceKind (expr_fits typed results f.locals) (place_kind_case typed results f.locals) (expr_layer y))) ∙ e)))
+      (layer_ranged y want
+      (sym (ap (λ (h : FitsKind). h want)
+      (fold-roll-TExpr FitsKind PlaceKind (expr_fits typed results f.locals) (place_kind_case typed results f.locals) (expr_layer y))) ∙ e)))
 
   place_step : (y : TPlace-F X Q) → PlaceRanged (roll-TPlace (place_layer y))
   unfolding fits place_kind names names_at calls calls_at
   place_step y e =
       subst (λ as'. Ranged as' (calls_at (roll-TPlace (place_layer y)))) (sym (fold-roll-TPlace (List Addr) (List Addr) expr_names place_names (place_layer y)))
-      (subst (λ gs. Ranged (place_names (map-TPlace TExpr TPlace (List Addr) (List Addr) names names_at (place_layer y))) gs) (sym (fold-roll-TPlace (List ℕ) (List ℕ) expr_calls place_calls (place_layer y)))
-      (place_ranged_at y (sym (ap (λ (h : PlaceKind). h.formed) (fold-roll-TPlace FitsKind PlaceKind (expr_fits typed results f.locals) (place_kind_case typed results f.locals) (place_layer y))) ∙ e)))
+      (subst (λ gs. Ranged (place_names (map-TPlace TExpr TPlace (List Addr) (List Addr) names names_at (place_layer y))) gs)
+      (sym (fold-roll-TPlace (List ℕ) (List ℕ) expr_calls place_calls (place_layer y)))
+      (place_ranged_at y
+      (sym (ap (λ (h : PlaceKind). h.formed)
+      (fold-roll-TPlace FitsKind PlaceKind (expr_fits typed results f.locals) (place_kind_case typed results f.locals) (place_layer y))) ∙ e)))
 
   expr_ranged : (x : TExpr) → ExprRanged x
   expr_ranged = expr_induct ExprRanged PlaceRanged expr_step place_step
@@ -193,6 +207,9 @@ module _ (typed : Typed) (results : List (Option Kind)) (f : TFunc) where
       subst (λ as'. Ranged as' (calls x)) (sym (names_out x ∙ ap (λ y. expr_names (map_names y)) is))
       (subst (λ gs. Ranged (all_of (map names xs)) gs) (sym (calls_out x ∙ ap (λ y. expr_calls (map_calls y)) is))
       (call_ranged g (all_ranged xs) (slice_get typed.funcs g) refl e))
+  statement_ranged x (TExpr-F.Free p) is e =
+      subst (λ as'. Ranged as' (calls x)) (sym (names_out x ∙ ap (λ y. expr_names (map_names y)) is))
+      (subst (λ gs. Ranged (names p) gs) (sym (calls_out x ∙ ap (λ y. expr_calls (map_calls y)) is)) (expr_ranged p Ptr e))
   statement_ranged x (TExpr-F.Number n) is e = test_ranged x e
   statement_ranged x (TExpr-F.Local n) is e = test_ranged x e
   statement_ranged x (TExpr-F.Load k q) is e = test_ranged x e
@@ -239,7 +256,8 @@ module _ (typed : Typed) (results : List (Option Kind)) (f : TFunc) where
   want_ranged x (Some k) e = expr_ranged x k e
   want_ranged x None e = test_ranged x e
 
-  set_spoken : (n : ℕ) (x : TExpr) (m : Option TLocal) → slice_get f.locals n ≡ m → sets_formed typed results f.locals (local_kind m) x ≡ true → Spoken (Local n ∷ names x) (one_expr x)
+  set_spoken : (n : ℕ) (x : TExpr) (m : Option TLocal) → slice_get f.locals n ≡ m → sets_formed typed results f.locals (local_kind m) x ≡ true
+      → Spoken (Local n ∷ names x) (one_expr x)
   set_spoken n x (Some v) at e = of_local n x (slice_get_within f.locals n v at) (expr_ranged x v.kind e)
   set_spoken n x None at e = absurd cc
 
@@ -297,7 +315,8 @@ module _ (typed : Typed) (results : List (Option Kind)) (f : TFunc) where
     part_spoken a looped e = a.1 looped (and_parts (is_simple a.0) (is_formed a.0 looped) e).1
 
     -- the parts of a `for`
-    for_spoken : {a b c d : List Addr} {t u v w : Terms} → Spoken a t → Spoken b u → Spoken c v → Spoken d w → Spoken (a ++ b ++ c ++ d) (both_terms t (both_terms u (both_terms v w)))
+    for_spoken : {a b c d : List Addr} {t u v w : Terms} → Spoken a t → Spoken b u → Spoken c v → Spoken d w
+        → Spoken (a ++ b ++ c ++ d) (both_terms t (both_terms u (both_terms v w)))
     for_spoken p q r z = record {
       mentioned = all_append (all_append (all_append p.mentioned q.mentioned) r.mentioned) z.mentioned;
       exprs = all_append p.exprs (all_append q.exprs (all_append r.exprs z.exprs));
@@ -359,8 +378,10 @@ module _ (typed : Typed) (results : List (Option Kind)) (f : TFunc) where
         let d = and_parts (is_simple first.0 && is_formed first.0 looped) (test_formed typed results f.locals test) c.0 in
         for_spoken (part_spoken first looped d.0) (test_spoken test d.1) silent (body.1 true b.1)
     layer_spoken (TKind-F.For (Some first) test (Some third) body number) looped e =
-        let b = and_parts ((is_simple first.0 && is_formed first.0 looped) && (test_formed typed results f.locals test) && (is_simple third.0 && is_formed third.0 looped)) (is_formed body.0 true) e in
-        let c = and_parts ((is_simple first.0 && is_formed first.0 looped) && (test_formed typed results f.locals test)) (is_simple third.0 && is_formed third.0 looped) b.0 in
+        let b = and_parts ((is_simple first.0 && is_formed first.0 looped) && (test_formed typed results f.locals test)
+        && (is_simple third.0 && is_formed third.0 looped)) (is_formed body.0 true) e in
+        let c = and_parts ((is_simple first.0 && is_formed first.0 looped) && (test_formed typed results f.locals test)) (is_simple third.0
+        && is_formed third.0 looped) b.0 in
         let d = and_parts (is_simple first.0 && is_formed first.0 looped) (test_formed typed results f.locals test) c.0 in
         for_spoken (part_spoken first looped d.0) (test_spoken test d.1) (part_spoken third looped c.1) (body.1 true b.1)
     layer_spoken (TKind-F.Block zs) looped e = block_spoken zs looped e
@@ -373,7 +394,8 @@ module _ (typed : Typed) (results : List (Option Kind)) (f : TFunc) where
     kind_step y looped e =
         subst (λ as'. Spoken as' (terms_in (roll-TKind (kind_layer y)))) (sym (fold-roll-TKind (List Addr) (List Addr) kind_names (λ s. s.kind) (kind_layer y)))
         (subst (λ t. Spoken (kind_names (map_variables (kind_layer y))) t) (sym (fold-roll-TKind Terms Terms kind_terms (λ s. s.kind) (kind_layer y)))
-        (layer_spoken y looped (sym (ap (λ (h : Bool → Bool). h looped) (para-roll-TKind (Bool → Bool) (Bool → Bool) (kind_formed typed results f.locals result) (λ s. s.kind.1) (kind_layer y))) ∙ e)))
+        (layer_spoken y looped (sym (ap (λ (h : Bool → Bool). h looped) (para-roll-TKind (Bool → Bool) (Bool
+        → Bool) (kind_formed typed results f.locals result) (λ s. s.kind.1) (kind_layer y))) ∙ e)))
 
     abbrev stmt_layer : TStmt-F W S → TStmt-F TKind TStmt
     stmt_layer y = map-TStmt W S TKind TStmt (λ e. e.0) (λ e. e.0) y
@@ -383,7 +405,8 @@ module _ (typed : Typed) (results : List (Option Kind)) (f : TFunc) where
     stmt_step y looped e =
         subst (λ as'. Spoken as' (terms (roll-TStmt (stmt_layer y)))) (sym (fold-roll-TStmt (List Addr) (List Addr) kind_names (λ s. s.kind) (stmt_layer y)))
         (subst (λ t. Spoken (variables_in y.kind.0) t) (sym (fold-roll-TStmt Terms Terms kind_terms (λ s. s.kind) (stmt_layer y)))
-        (y.kind.1 looped (sym (ap (λ (h : Bool → Bool). h looped) (para-roll-TStmt (Bool → Bool) (Bool → Bool) (kind_formed typed results f.locals result) (λ s. s.kind.1) (stmt_layer y))) ∙ e)))
+        (y.kind.1 looped (sym (ap (λ (h : Bool → Bool). h looped) (para-roll-TStmt (Bool → Bool) (Bool
+        → Bool) (kind_formed typed results f.locals result) (λ s. s.kind.1) (stmt_layer y))) ∙ e)))
 
     body_spoken : (ss : List TStmt) → list_all (λ s. is_formed s false) ss ≡ true → Spoken (flat_map variables ss) (terms_of ss)
     body_spoken [] e = silent
@@ -417,3 +440,8 @@ numbers_are_in_range q typed resolved =
     let h = in_range typed wf.results f k (wf.funcs k f at) in
     record { variables = all_told h.0; calls = all_told h.1; loops = all_told (loops_told typed wf.loops k f at) }) in
     all_told each
+
+pub loops_are_in_place : (q : Program) (typed : Typed) → Resolved q typed → AreInPlace typed
+loops_are_in_place q typed resolved =
+    let wf = resolved_is_well_formed q typed resolved in
+    record { as_many = as_many_loops typed wf.loops; number = loop_in_place typed wf.loops }

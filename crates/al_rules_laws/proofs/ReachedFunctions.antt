@@ -37,10 +37,14 @@ module _ (typed : Typed) where
   one_call (suc n) f g e = or_left (reaches typed n f n && reaches typed n n g) (one_call n f g e)
 
   to_last : (n f : ℕ) → reaches typed (suc n) f n ≡ true → reaches typed n f n ≡ true
-  to_last n f p = ⊎_elim (λ a. a) (λ b. (and_parts (reaches typed n f n) (reaches typed n n n) b).0) (or_parts (reaches typed n f n) (reaches typed n f n && reaches typed n n n) p)
+  to_last n f p =
+      ⊎_elim (λ a. a) (λ b. (and_parts (reaches typed n f n) (reaches typed n n n) b).0) (or_parts (reaches typed n f n) (reaches typed n f n
+      && reaches typed n n n) p)
 
   from_last : (n g : ℕ) → reaches typed (suc n) n g ≡ true → reaches typed n n g ≡ true
-  from_last n g p = ⊎_elim (λ a. a) (λ b. (and_parts (reaches typed n n n) (reaches typed n n g) b).1) (or_parts (reaches typed n n g) (reaches typed n n n && reaches typed n n g) p)
+  from_last n g p =
+      ⊎_elim (λ a. a) (λ b. (and_parts (reaches typed n n n) (reaches typed n n g) b).1) (or_parts (reaches typed n n g) (reaches typed n n n
+      && reaches typed n n g) p)
 
   by_last : (n f g : ℕ) → reaches typed n f n ≡ true → reaches typed n n g ≡ true → reaches typed (suc n) f g ≡ true
   by_last n f g p q = or_right (reaches typed n f g) (and_both p q)
@@ -74,5 +78,6 @@ module _ (typed : Typed) where
       let step = one_call all g f (ap (λ m. has f (calls_in m)) stands ∙ contained (calls_of (terms_of func.body)) f c) in
       or_right (has f (calls_of (terms s))) (⊎_elim
       (λ a. any_weaker (λ e. e == g) (λ e. reaches typed all e f) (λ e same. ap (λ k. reaches typed all k f) (eqb-true e g same) ∙ step) (calls_of (terms s)) a)
-      (λ b. any_weaker (λ e. reaches typed all e g) (λ e. reaches typed all e f) (λ e there. through all e g f (slice_get_within typed.funcs g func stands) there step) (calls_of (terms s)) b)
+      (λ b. any_weaker (λ e. reaches typed all e g) (λ e. reaches typed all e f)
+      (λ e there. through all e g f (slice_get_within typed.funcs g func stands) there step) (calls_of (terms s)) b)
       (or_parts (has g (calls_of (terms s))) (list_any (λ e. reaches typed all e g) (calls_of (terms s))) (is_found s r)))

@@ -111,7 +111,8 @@ pub record StmtCases (P : Stmt → Type 0) (Q : StmtKind → Type 0) : Type 0 wh
   pub continues : Q s.Continue
 
 module _ (P : Stmt → Type 0) (Q : StmtKind → Type 0) (c : StmtCases P Q) where
-  kind_layer : (y : StmtKind-F (With StmtKind Q) (With Stmt P)) → Q (roll-StmtKind (map-StmtKind (With StmtKind Q) (With Stmt P) StmtKind Stmt (λ a. a.0) (λ a. a.0) y))
+  kind_layer : (y : StmtKind-F (With StmtKind Q) (With Stmt P))
+      → Q (roll-StmtKind (map-StmtKind (With StmtKind Q) (With Stmt P) StmtKind Stmt (λ a. a.0) (λ a. a.0) y))
   kind_layer StmtKind-F.Empty = subst Q (sym s.rolls-Empty) c.empty
   kind_layer (StmtKind-F.Declare a name v) = subst Q (sym (s.rolls-Declare a name v)) (c.declare a name v)
   kind_layer (StmtKind-F.Assign x y) = subst Q (sym (s.rolls-Assign x y)) (c.assign x y)

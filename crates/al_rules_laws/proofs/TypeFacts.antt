@@ -57,7 +57,8 @@ sound_pointer a h b CType-F.Void is e = absurd cc
 sound_pointer a h b (CType-F.Struct name) is e = absurd cc
 sound_pointer a h b (CType-F.Array c n) is e = absurd cc
 
-sound_array : (a : CType) (m : ℕ) → Sound a → (b : CType) (y : CType-F CType) → out-CType b ≡ y → same_case (CType-F.Array (same_type a) m) y ≡ true → t.Array a m ≡ b
+sound_array : (a : CType) (m : ℕ) → Sound a → (b : CType) (y : CType-F CType) → out-CType b ≡ y → same_case (CType-F.Array (same_type a) m) y ≡ true
+    → t.Array a m ≡ b
 sound_array a m h b (CType-F.Array c n) is e =
     let p = and_parts (same_type a c) (m == n) e in
     ap (λ d. t.Array d m) (h c p.0) ∙ ap (t.Array c) (eqb-true m n p.1) ∙ sym (is_array_type b c n is)
@@ -150,11 +151,17 @@ module _ (before known : Name → Bool) where
   pointer_forms a h (inl e) k = r.pointer (h.0 e k)
   pointer_forms a h (inr e) k =
       let s = h.1 e in
-      subst (λ b. r.Scalar known (t.Ptr b)) (sym s.1) (r.to_struct (sym (ap (λ (p : Bool × Bool). p.1) (known-Struct before known s.0)) ∙ ap (λ b. (are_known before known b).1) (sym s.1) ∙ k))
+      subst (λ b. r.Scalar known (t.Ptr b)) (sym s.1) (r.to_struct (sym (ap (λ (p : Bool × Bool). p.1) (known-Struct before known s.0))
+      ∙ ap (λ b. (are_known before known b).1) (sym s.1) ∙ k))
 
   forms : (a : CType) → Forms a
   forms = type_induct Forms (record {
-    int = (λ e k. r.int, λ e. absurd (lemma_int e), λ e. ap (λ (p : Bool × Bool). p.0) (known-Int before known) ∙ sym (ap (λ (p : Bool × Bool). p.1) (known-Int before known)));
+    int = (
+      λ e k. r.int,
+      λ e. absurd (lemma_int e),
+      λ e. ap (λ (p : Bool × Bool). p.0) (known-Int before known)
+          ∙ sym (ap (λ (p : Bool × Bool). p.1) (known-Int before known)),
+    );
     void = (λ e k. absurd (lemma_void e), λ e. absurd (lemma_void_structure e), λ e. absurd (lemma_void e));
     structure = λ name. (λ e k. absurd (lemma_struct name e), λ e. (name, refl), λ e. absurd (lemma_struct name e));
     pointer = λ a h. (
@@ -214,18 +221,31 @@ module _ (before known : Name → Bool) where
   scalar_form : {a : CType} → r.Scalar known a → (form a ≡ Scalar) × ((are_known before known a).0 ≡ true) × ((are_known before known a).1 ≡ true)
   scalar_form r.int = (form-Int, ap (λ (p : Bool × Bool). p.0) (known-Int before known), ap (λ (p : Bool × Bool). p.1) (known-Int before known))
   scalar_form (r.pointer {a = a} d) =
-      let h = scalar_form d in
-      (form-Ptr a ∙ ap pointer_form h.0, ap (λ (p : Bool × Bool). p.0) (known-Ptr before known a) ∙ h.2, ap (λ (p : Bool × Bool). p.1) (known-Ptr before known a) ∙ h.2)
+      let h = scalar_form d in (
+        form-Ptr a ∙ ap pointer_form h.0,
+        ap (λ (p : Bool × Bool). p.0) (known-Ptr before known a)
+            ∙ h.2,
+        ap (λ (p : Bool × Bool). p.1) (known-Ptr before known a) ∙ h.2,
+      )
   scalar_form (r.to_struct {name = name} k) =
-      let h = ap (λ (p : Bool × Bool). p.1) (known-Struct before known name) ∙ k in
-      (form-Ptr (t.Struct name) ∙ ap pointer_form (form-Struct name), ap (λ (p : Bool × Bool). p.0) (known-Ptr before known (t.Struct name)) ∙ h, ap (λ (p : Bool × Bool). p.1) (known-Ptr before known (t.Struct name)) ∙ h)
+      let h = ap (λ (p : Bool × Bool). p.1) (known-Struct before known name) ∙ k in (
+        form-Ptr (t.Struct name) ∙ ap pointer_form (form-Struct name),
+        ap (λ (p : Bool × Bool). p.0) (known-Ptr before known (t.Struct name))
+            ∙ h,
+        ap (λ (p : Bool × Bool). p.1) (known-Ptr before known (t.Struct name)) ∙ h,
+      )
 
   held_form : {a : CType} → r.Held before known a → Checks is_held a
   held_form (r.scalar d) = let h = scalar_form d in record { allows = ap is_held h.0; knows = h.1 }
-  held_form (r.structure {name = name} k) = record { allows = ap is_held (form-Struct name); knows = ap (λ (p : Bool × Bool). p.0) (known-Struct before known name) ∙ k }
+  held_form (r.structure {name = name} k) =
+      record { allows = ap is_held (form-Struct name); knows = ap (λ (p : Bool × Bool). p.0) (known-Struct before known name) ∙ k }
   held_form (r.array {a = a} {n = n} le d) =
       let h = held_form d in
-      record { allows = ap is_held (form-Array a n) ∙ held_array n (form a) le h.allows; knows = ap (λ (p : Bool × Bool). p.0) (known-Array before known a n) ∙ h.knows }
+      record {
+        allows = ap is_held (form-Array a n) ∙ held_array n (form a) le h.allows;
+        knows = ap (λ (p : Bool × Bool). p.0) (known-Array before known a n)
+            ∙ h.knows;
+      }
 
   result_form : {a : CType} → r.Result known a → Checks is_result a
   result_form r.void = record { allows = ap is_result form-Void; knows = ap (λ (p : Bool × Bool). p.0) (known-Void before known) }
@@ -320,12 +340,18 @@ module _ (known : Name → Bool) where
   sized_by a k (inl e) = r.scalar (scalar_of known known a e k)
   sized_by a k (inr e) =
       let s = (forms known known a).1 e in
-      subst (λ b. r.Sized known b) (sym s.1) (r.structure (sym (ap (λ (p : Bool × Bool). p.0) (known-Struct known known s.0)) ∙ ap (λ b. (are_known known known b).0) (sym s.1) ∙ k))
+      subst (λ b. r.Sized known b) (sym s.1) (r.structure (sym (ap (λ (p : Bool × Bool). p.0) (known-Struct known known s.0))
+      ∙ ap (λ b. (are_known known known b).0) (sym s.1) ∙ k))
 
   pub sized_sound : (a : CType) (u : Unit {0}) → type_checked known known is_sized a ≡ Ok u → r.Sized known a
   sized_sound a u e = let c = checks_of known known is_sized a u e in sized_by a c.knows (sized_cases known known (form a) c.allows)
 
   pub sized_complete : {a : CType} → r.Sized known a → type_checked known known is_sized a ≡ Ok tt
-  sized_complete {a = a} (r.scalar d) = let h = scalar_form known known d in checked_by known known is_sized a (record { allows = ap is_sized h.0; knows = h.1 })
+  sized_complete {a = a} (r.scalar d) =
+      let h = scalar_form known known d in checked_by known known is_sized a (record { allows = ap is_sized h.0; knows = h.1 })
   sized_complete (r.structure {name = name} k) =
-      checked_by known known is_sized (t.Struct name) (record { allows = ap is_sized (form-Struct name); knows = ap (λ (p : Bool × Bool). p.0) (known-Struct known known name) ∙ k })
+      checked_by known known is_sized (t.Struct name) (record {
+        allows = ap is_sized (form-Struct name);
+        knows = ap (λ (p : Bool
+            × Bool). p.0) (known-Struct known known name) ∙ k;
+      })

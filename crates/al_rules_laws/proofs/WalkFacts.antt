@@ -1,11 +1,12 @@
 -- What a walk that comes to an end says of its steps.
 use Rattle.std.proofs.Common.{◌≡◌, ℕ, List, [], ◌∷◌, ◌++◌, map, length, Result, Ok, Err, slice_get, refl, sym, ap, ◌∙◌}
+use Rattle.al_source.specs.Steps.{and_then}
 use Rattle.al_source.specs.declared.source_tree.CType.{CType}
 use Rattle.al_core.specs.declared.choices.Choice.{Choice}
 use Rattle.al_rules.specs.declared.faults.TypeFault.{TypeFault}
 use Rattle.al_rules.specs.declared.faults.TypeKind.{TypeKind}
 use Rattle.al_rules.specs.Names.{Name}
-use Rattle.al_rules.specs.Checks.{Checked, and_then}
+use Rattle.al_rules.specs.Checks.{Checked}
 use Rattle.al_rules.specs.Scopes.{Scope, nested, with_binding}
 use Rattle.al_rules.specs.Walks.{Progress, Walk, at_line, bind, pure, checks, lift, fails, get_scope, set_scope, add_local, local_of, with_end, begin_loop, end_loop, within}
 use Rattle.al_rules.specs.StatementRules as r
@@ -45,22 +46,26 @@ module _ {A B : Type 0} where
       by (Ok q) is e = (q, is, e)
       by (Err x) is e = absurd cc
 
-  pub checks_ends : (line : ℕ) (c : Scope → Checked A) (f : A → Walk B) (s : Progress) (r : B × Progress) → Ends (bind (checks line c) f s) r → (a : A) × (c s.scope ≡ Ok a) × Ends (f a s) r
+  pub checks_ends : (line : ℕ) (c : Scope → Checked A) (f : A → Walk B) (s : Progress) (r : B × Progress) → Ends (bind (checks line c) f s) r
+      → (a : A) × (c s.scope ≡ Ok a) × Ends (f a s) r
   unfolding bind checks
   checks_ends line c f s r e = by (c s.scope) refl e
     where
-      by : (t : Checked A) → c s.scope ≡ t → and_then (and_then {B = A × Progress} (at_line line t) (λ a. Ok (a, s))) (λ q. f q.0 q.1) ≡ Ok r → (a : A) × (c s.scope ≡ Ok a) × Ends (f a s) r
+      by : (t : Checked A) → c s.scope ≡ t → and_then (and_then {B = A × Progress} (at_line line t) (λ a. Ok (a, s))) (λ q. f q.0 q.1) ≡ Ok r
+          → (a : A) × (c s.scope ≡ Ok a) × Ends (f a s) r
       by (Ok a) is e = (a, is, e)
       by (Err k) is e = absurd cc
 
-  pub lift_ends : (line : ℕ) (c : Checked A) (f : A → Walk B) (s : Progress) (r : B × Progress) → Ends (bind (lift line c) f s) r → (a : A) × (c ≡ Ok a) × Ends (f a s) r
+  pub lift_ends : (line : ℕ) (c : Checked A) (f : A → Walk B) (s : Progress) (r : B × Progress) → Ends (bind (lift line c) f s) r
+      → (a : A) × (c ≡ Ok a) × Ends (f a s) r
   lift_ends line c f s r e = checks_ends line (λ _. c) f s r e
 
   pub assoc : {C : Type 0} (p : Walk A) (f : A → Walk B) (k : B → Walk C) (s : Progress) → bind (bind p f) k s ≡ bind p (λ a. bind (f a) k) s
   unfolding bind
   assoc {C = C} p f k s = by (p s)
     where
-      by : (t : Result (A × Progress) TypeFault) → and_then (and_then t (λ q. f q.0 q.1)) (λ q. k q.0 q.1) ≡ and_then t (λ q. and_then (f q.0 q.1) (λ q. k q.0 q.1))
+      by : (t : Result (A × Progress) TypeFault)
+          → and_then (and_then t (λ q. f q.0 q.1)) (λ q. k q.0 q.1) ≡ and_then t (λ q. and_then (f q.0 q.1) (λ q. k q.0 q.1))
       by (Ok q) = refl
       by (Err x) = refl
 
@@ -95,7 +100,8 @@ module _ {A : Type 0} where
   unfolding bind add_local
   add_ends name a f s = refl
 
-  pub begin_ends : (func line : ℕ) (own : Choice) (f : ℕ → Walk A) (s : Progress) → bind (begin_loop func line own) f s ≡ f (length s.loops) (begun_loop func line own s)
+  pub begin_ends : (func line : ℕ) (own : Choice) (f : ℕ → Walk A) (s : Progress)
+      → bind (begin_loop func line own) f s ≡ f (length s.loops) (begun_loop func line own s)
   unfolding bind begin_loop
   begin_ends func line own f s = refl
 
@@ -108,10 +114,12 @@ module _ {A : Type 0} where
   within_by p s = refl
 
   -- in a scope of its own, and then in the scope before it
-  pub within_ends : (p : Walk A) (s : Progress) (r : A × Progress) → Ends (within p s) r → (q : A × Progress) × Ends (p (scoped s (nested s.scope))) q × ((q.0, scoped q.1 s.scope) ≡ r)
+  pub within_ends : (p : Walk A) (s : Progress) (r : A × Progress) → Ends (within p s) r
+      → (q : A × Progress) × Ends (p (scoped s (nested s.scope))) q × ((q.0, scoped q.1 s.scope) ≡ r)
   within_ends p s r e = by (p (scoped s (nested s.scope))) refl (sym (within_by p s) ∙ e)
     where
-      by : (t : Result (A × Progress) TypeFault) → p (scoped s (nested s.scope)) ≡ t → and_then t (λ q. Ok (q.0, scoped q.1 s.scope)) ≡ Ok r → (q : A × Progress) × Ends (p (scoped s (nested s.scope))) q × ((q.0, scoped q.1 s.scope) ≡ r)
+      by : (t : Result (A × Progress) TypeFault) → p (scoped s (nested s.scope)) ≡ t → and_then t (λ q. Ok (q.0, scoped q.1 s.scope)) ≡ Ok r
+          → (q : A × Progress) × Ends (p (scoped s (nested s.scope))) q × ((q.0, scoped q.1 s.scope) ≡ r)
       by (Ok q) is e = (q, is, cc)
       by (Err x) is e = absurd cc
 
@@ -131,7 +139,8 @@ module _ {A B : Type 0} where
 
   pub checks_by : (line : ℕ) (c : Scope → Checked A) (f : A → Walk B) (s : Progress) (a : A) → c s.scope ≡ Ok a → bind (checks line c) f s ≡ f a s
   unfolding bind checks
-  checks_by line c f s a e = ap (λ (t : Checked A). and_then {B = B × Progress} (and_then {B = A × Progress} (at_line line t) (λ a. Ok (a, s))) (λ q. f q.0 q.1)) e
+  checks_by line c f s a e =
+      ap (λ (t : Checked A). and_then {B = B × Progress} (and_then {B = A × Progress} (at_line line t) (λ a. Ok (a, s))) (λ q. f q.0 q.1)) e
 
   pub lift_by : (line : ℕ) (c : Checked A) (f : A → Walk B) (s : Progress) (a : A) → c ≡ Ok a → bind (lift line c) f s ≡ f a s
   lift_by line c f s a e = checks_by line (λ _. c) f s a e

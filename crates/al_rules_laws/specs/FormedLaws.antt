@@ -1,5 +1,5 @@
 -- What holds of the typed tree of a program.
-use Rattle.std.specs.Prelude.{◌<◌, length, All, flat_map}
+use Rattle.std.specs.Prelude.{◌≡◌, ℕ, ◌<◌, length, All, Some, flat_map, slice_get}
 use Rattle.al_source.specs.declared.source_tree.Program.{Program}
 use Rattle.al_core.specs.declared.values.Obj.{Obj}
 use Rattle.al_core.specs.declared.values.Obj.TheVariants.{Global}
@@ -8,7 +8,7 @@ use Rattle.al_core.specs.declared.values.Addr.TheVariants.{Word, Head, Local}
 use Rattle.al_core.specs.declared.typed_tree.TFunc.{TFunc}
 use Rattle.al_core.specs.declared.typed_tree.Typed.{Typed}
 use Rattle.al_core.specs.Accepted.{terms_of, calls_of}
-use Rattle.al_rules.specs.ForLoops.{for_loops_in}
+use Rattle.al_core.specs.Loops.{for_loops_in, PlacedLoop, program_loops}
 use Rattle.al_rules.specs.Candidates.{variables}
 use Rattle.al_rules.specs.Programs.{Resolved}
 use Rattle.al_rules.specs.WellFormed.{IsWellFormed}
@@ -28,7 +28,8 @@ IsThere typed f (Local n) = n < length f.locals
 IsThere typed f (Word o w) = IsThereObject typed o
 IsThere typed f (Head o) = ⊥
 
--- All that a function mentions is there: each variable, each function that it calls, and the note of each annotated loop in it.
+-- All that a function mentions is there: each variable, each function that it calls, and the note of each annotated loop
+-- in it.
 pub record IsInRange (typed : Typed) (f : TFunc) : Type 0 where
   pub variables : All (IsThere typed f) (flat_map variables f.body)
   pub calls : All (λ g. g < length typed.funcs) (calls_of (terms_of f.body))
@@ -36,3 +37,11 @@ pub record IsInRange (typed : Typed) (f : TFunc) : Type 0 where
 
 abbrev pub NumbersAreInRange : Type 0
 NumbersAreInRange = (p : Program) (typed : Typed) → Resolved p typed → All (IsInRange typed) typed.funcs
+
+-- Each annotated loop has a note, and its number is its place among the loops of the program.
+pub record AreInPlace (typed : Typed) : Type 0 where
+  pub as_many : length (program_loops typed) ≡ length typed.loops
+  pub number : (n : ℕ) (l : PlacedLoop) → slice_get (program_loops typed) n ≡ Some l → l.loop.number ≡ n
+
+abbrev pub LoopsAreInPlace : Type 0
+LoopsAreInPlace = (p : Program) (typed : Typed) → Resolved p typed → AreInPlace typed

@@ -14,7 +14,8 @@ use Rattle.al_rules.specs.Candidates.{choices}
 abbrev pub EntriesAreTheLoops : Type 0
 EntriesAreTheLoops =
     (p : Program) (typed : Typed) → Resolved p typed → note_fault typed ≡ None
-    → (length (infos typed) ≡ length typed.loops) × ((n : ℕ) (info : LoopInfo) → slice_get (infos typed) n ≡ Some info → info.number ≡ n)
+    → (length (infos typed) ≡ length typed.loops)
+    × ((n : ℕ) (info : LoopInfo) → slice_get (infos typed) n ≡ Some info → info.number ≡ n)
 
 -- The loop of this number stands in the tree with this entry, and the reductions are accepted for it.
 pub record IsAcceptedFor (typed : Typed) (info : LoopInfo) (reds : List Red) : Type 0 where
@@ -25,8 +26,12 @@ pub record IsAcceptedFor (typed : Typed) (info : LoopInfo) (reds : List Red) : T
 
 -- those that the loop's annotation names
 abbrev pub OwnReductionsAreAccepted : Type 0
-OwnReductionsAreAccepted = (p : Program) (typed : Typed) → Resolved p typed → note_fault typed ≡ None → All (λ info. IsAcceptedFor typed info info.own.reds) (infos typed)
+OwnReductionsAreAccepted =
+    (p : Program) (typed : Typed) → Resolved p typed → note_fault typed ≡ None
+    → All (λ info. IsAcceptedFor typed info info.own.reds) (infos typed)
 
 -- those of each choice that is tried for it
 abbrev pub ChoicesAreAccepted : Type 0
-ChoicesAreAccepted = (p : Program) (typed : Typed) → Resolved p typed → note_fault typed ≡ None → All (λ info. All (λ c. IsAcceptedFor typed info c.reds) (choices typed info)) (infos typed)
+ChoicesAreAccepted =
+    (p : Program) (typed : Typed) → Resolved p typed → note_fault typed ≡ None
+    → All (λ info. All (λ c. IsAcceptedFor typed info c.reds) (choices typed info)) (infos typed)

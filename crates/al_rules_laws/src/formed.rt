@@ -1,5 +1,5 @@
-ghost use Rattle.al_rules_laws.specs.FormedLaws.{NumbersAreInRange, ResolvedIsWellFormed};
-ghost use Rattle.al_rules_laws.specs.IllFormed.{NoGlobalOutOfRange, NoLocalOutOfRange, NoPointerInInteger, NoValueOfNothing};
+ghost use Rattle.al_rules_laws.specs.FormedLaws.{LoopsAreInPlace, NumbersAreInRange, ResolvedIsWellFormed};
+ghost use Rattle.al_rules_laws.specs.IllFormed.{NoGlobalOutOfRange, NoLocalOutOfRange, NoPointerInInteger, NoValueOfFree, NoValueOfNothing};
 
 /// The typed tree of a program that has neither a layout fault nor a type fault is well formed: each number of a local,
 /// global, function and loop is in range, and each value is of the kind that its place wants.
@@ -14,12 +14,18 @@ pub fn numbers_are_in_range()
     ensures { NumbersAreInRange }
 {}
 
-/// No well-formed tree has a local or a global out of range, uses the value of a function that gives none, or stores a
-/// pointer in an integer local.
-#[tactic(auto, using(crate::proofs::IllFormedTrees::no_local, crate::proofs::IllFormedTrees::no_global, crate::proofs::IllFormedTrees::no_value, crate::proofs::IllFormedTrees::no_pointer))]
+/// In the typed tree of such a program the number of an annotated loop is its place among all of them, and each has a note.
+pub fn loops_are_in_place()
+    ensures { LoopsAreInPlace }
+{}
+
+/// No well-formed tree has a local or a global out of range, uses the value of a function that gives none or of what frees
+/// an object, or stores a pointer in an integer local.
+#[tactic(auto, using(crate::proofs::IllFormedTrees::ill_formed))]
 pub fn ill_formed_is_refused()
     ensures locals { NoLocalOutOfRange }
     ensures globals { NoGlobalOutOfRange }
     ensures values { NoValueOfNothing }
+    ensures freed { NoValueOfFree }
     ensures pointers { NoPointerInInteger }
 {}

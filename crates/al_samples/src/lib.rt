@@ -166,3 +166,29 @@ int main(void) {
   return 0;
 }
 ";
+
+/// An object that is freed twice.
+pub const FREES_TWICE: &str = "struct n { long v; };
+int main(void) {
+  struct n *p = calloc(1, sizeof(struct n));
+  p->v = 4;
+  printf(\"%ld\\n\", p->v);
+  free(NULL);
+  free(p);
+  free(p);
+}
+";
+
+/// An object that an iteration frees, and the next one would write.
+pub const FREES_IN_A_LOOP: &str = "struct n { long v; };
+struct n *g;
+int main(void) {
+  g = calloc(1, sizeof(struct n));
+#pragma alter RAW InOrder
+  for (long i = 0; i < 2; i++) {
+    if (i == 0) { free(g); g = NULL; }
+    else if (g != NULL) g->v = 5;
+  }
+  printf(\"%ld\\n\", g == NULL);
+}
+";

@@ -243,7 +243,7 @@ fn p10_walks(b: Build) -> Stmt {
     let first = b.set(11, 2, b.load_pointer(b.global(0)));
     let third = b.set(11, 2, b.load_pointer(b.field(2, 1)));
     let prints = b.print(11, [b.load(b.field(2, 0))], " ");
-    b.for_loop(11, (first, b.is_not_null(2), third), prints, None)
+    b.for_loop(11, (first, b.is_not_null(b.local(2)), third), prints, None)
 }
 
 /// ```c
@@ -328,4 +328,59 @@ pub fn p13(b: Build) -> Program {
     let note = b.note(5, (Policy::Raw, CommitOrder::InOrder), (2, 2), &[]);
     let body = [b.set(3, 0, b.address(b.global(0))), p13_loop(b)];
     b.program(&[(3, None)], note, b.main(2, &[Kind::Ptr, Kind::Int], body))
+}
+
+/// `if (i == 0) { free(g); g = NULL; } else if (g != NULL) g->v = 5;`
+fn p14_choice(b: Build) -> Stmt {
+    let frees = b.call(7, b.free(b.load_pointer(b.global(0))));
+    let forgets = b.store(7, b.global(0), b.number(0));
+    let sets = b.store(8, b.target(b.load_pointer(b.global(0))), b.number(5));
+    let other = b.if_only(8, b.is_not_null(b.load_pointer(b.global(0))), sets);
+    b.if_else(7, b.is(0, 0), b.block(7, [frees, forgets]), other)
+}
+
+/// ```c
+/// struct n { long v; };
+/// struct n *g;
+/// int main(void) {
+///   g = calloc(1, sizeof(struct n));
+/// #pragma alter RAW InOrder
+///   for (long i = 0; i < 2; i++) {
+///     if (i == 0) { free(g); g = NULL; }
+///     else if (g != NULL) g->v = 5;
+///   }
+///   printf("%ld\n", g == NULL);
+/// }
+/// ```
+pub fn p14(b: Build, policy: Policy) -> Program {
+    let note = b.note(6, (policy, CommitOrder::InOrder), (1, 1), &[]);
+    let body = [
+        b.store(4, b.global(0), b.calloc(b.number(1), 1)),
+        b.count(6, 0, (0, b.number(2)), b.block(6, [p14_choice(b)]), Some(0)),
+        b.print(10, [b.is_null(b.load_pointer(b.global(0)))], "\n"),
+    ];
+    b.program(&[POINTER], note, b.main(3, &[Kind::Int], body))
+}
+
+/// `for (long i = 0; i < 4; i++) a[i] += 1;`
+fn p15_loop(b: Build) -> Stmt {
+    let place = b.element(b.global(0), b.local(0));
+    let body = b.update_at(4, BinOp::Add, place, b.number(1));
+    b.count(4, 0, (0, b.number(4)), body, Some(0))
+}
+
+/// ```c
+/// long a[4];
+/// int main(void) {
+/// #pragma alter RAW InOrder
+///   for (long i = 0; i < 4; i++) a[i] += 1;
+///   printf("%ld %ld\n", a[0], a[3]);
+/// }
+/// ```
+pub fn p15(b: Build) -> Program {
+    let note = b.note(4, (Policy::Raw, CommitOrder::InOrder), (1, 1), &[]);
+    let first = b.load(b.element(b.global(0), b.number(0)));
+    let last = b.load(b.element(b.global(0), b.number(3)));
+    let body = [p15_loop(b), b.print(5, [first, last], "\n")];
+    b.program(&[(4, None)], note, b.main(2, &[Kind::Int], body))
 }

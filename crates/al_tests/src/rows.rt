@@ -1,13 +1,18 @@
-//! What programs print, how they end, and what a trace tells of their rounds. The values were worked out by hand from the
-//! rules of the language and of the rounds.
+//! What programs print, how they end, and what a trace tells of their rounds. The values were worked out by hand from
+//! the rules of the language and of the rounds.
 ghost use Rattle.std.specs.Prelude.{◌≤◌};
+ghost use Rattle.al_source.specs.declared.limits.TheConstants as limit;
 ghost use Rattle.al_core.specs.Limits.{AreInRange};
 
-use crate::programs::{p1, p2, p3, p4, p5, p6, p7, p8, p9, p10, p11, p12, p13};
+use crate::programs::{p1, p2, p3, p4, p5, p6, p7, p8, p9, p10, p11, p12, p13, p14, p15};
 use crate::trees::{Build, Built, Program};
 use al_core::{Choice, Ending, Knobs, Report, TNote, Trap};
 use al_plain::runs::run;
 use al_report::trace_text;
+use al_source::limits::{
+    DEFAULT_CHUNK, DEFAULT_ITERATION_STEPS, DEFAULT_LANES, DEFAULT_LINE, DEFAULT_SERIAL_STEPS,
+    DEFAULT_THREADS,
+};
 use al_source::{CommitOrder, Policy};
 use sqlite_items::Items;
 use std::alloc::Global;
@@ -15,47 +20,50 @@ use std::test::Fail;
 
 /// Chunks in a round, iterations in a chunk and steps in an iteration. All else is as where no option is given.
 fn knobs(lanes: u32, chunk: u32, iter_steps: u64) -> Knobs
-    requires lanes { (1 ≤ lanes) × (lanes ≤ 64) }
-    requires chunk { (1 ≤ chunk) × (chunk ≤ 65536) }
-    requires steps { (1 ≤ iter_steps) × (iter_steps ≤ 1000000000) }
+    requires lanes { (1 ≤ lanes) × (lanes ≤ limit.MOST_LANES) }
+    requires chunk { (1 ≤ chunk) × (chunk ≤ limit.MOST_CHUNK) }
+    requires steps { (1 ≤ iter_steps) × (iter_steps ≤ limit.MOST_STEPS) }
     ensures { AreInRange result }
 {
     Knobs {
         lanes,
         chunk,
-        threads: 4,
+        threads: DEFAULT_THREADS,
+        line: DEFAULT_LINE,
         iter_steps,
-        serial_steps: 10_000_000,
+        serial_steps: u64::from(DEFAULT_SERIAL_STEPS),
     }
 }
 
 fn defaults() -> Knobs
     ensures { AreInRange result }
 {
-    knobs(4, 16, 1_000_000)
+    knobs(DEFAULT_LANES, DEFAULT_CHUNK, u64::from(DEFAULT_ITERATION_STEPS))
 }
 
 /// Rounds of so many chunks, each of one iteration.
 fn one_each(lanes: u32) -> Knobs
-    requires { (1 ≤ lanes) × (lanes ≤ 64) }
+    requires { (1 ≤ lanes) × (lanes ≤ limit.MOST_LANES) }
     ensures { AreInRange result }
 {
-    knobs(lanes, 1, 1_000_000)
+    knobs(lanes, 1, u64::from(DEFAULT_ITERATION_STEPS))
 }
 
-fn copied(alloc: Global, choice: &Choice) -> Built<Choice> {
+/// A choice with lines of so many words.
+fn with_line(alloc: Global, choice: &Choice, line: u32) -> Built<Choice> {
     Ok(Choice {
         policy: choice.policy,
         order: choice.order,
         reds: Items::from_slice(alloc, choice.reds.as_slice())?,
+        line,
     })
 }
 
-/// The annotation that is written at each loop.
-fn written(alloc: Global, loops: &[TNote]) -> Built<Items<Option<Choice>>> {
+/// The annotation that is written at each loop, with lines of so many words.
+fn written(alloc: Global, loops: &[TNote], line: u32) -> Built<Items<Option<Choice>>> {
     let mut all = Items::new(alloc);
     for note in loops {
-        all.push(Some(copied(alloc, &note.own)?))?;
+        all.push(Some(with_line(alloc, &note.own, line)?))?;
     }
     Ok(all)
 }
@@ -69,13 +77,20 @@ fn none(alloc: Global, loops: &[TNote]) -> Built<Items<Option<Choice>>> {
     Ok(all)
 }
 
-/// The watched report of a run in rounds.
-fn in_rounds(b: Build, program: Program, input: &[i64], knobs: Knobs) -> Built<Report>
+/// The watched report of a run in rounds, with lines of so many words.
+fn by_lines(b: Build, program: Program, input: &[i64], knobs: Knobs, line: u32) -> Built<Report>
     requires { AreInRange knobs }
 {
     let typed = program?;
-    let choices = written(b.alloc, typed.loops.as_slice())?;
+    let choices = written(b.alloc, typed.loops.as_slice(), line)?;
     run(b.alloc, &typed, input, knobs, choices.as_slice(), true)
+}
+
+/// The same with lines of one word.
+fn in_rounds(b: Build, program: Program, input: &[i64], knobs: Knobs) -> Built<Report>
+    requires { AreInRange knobs }
+{
+    by_lines(b, program, input, knobs, DEFAULT_LINE)
 }
 
 /// The watched report of a plain run.
@@ -92,6 +107,17 @@ fn is_told(report: &Report, output: &str, ending: Ending) -> bool {
 /// Whether a run prints this and ends so.
 fn tells(report: Built<Report>, output: &str, ending: Ending) -> Built<bool> {
     Ok(is_told(&report?, output, ending))
+}
+
+/// Whether a run prints this to its end, in so many rounds with so many attempts, of which so many are aborted.
+fn rounds(report: Built<Report>, output: &str, totals: (u64, u64, u64)) -> Built<bool> {
+    let report = report?;
+    Ok(
+        is_told(&report, output, Ending::Done)
+            && report.rounds == totals.0
+            && report.attempts == totals.1
+            && report.aborted == totals.2,
+    )
 }
 
 /// Whether a run prints this and ends so, and makes so many attempts, of which so many are aborted.
@@ -291,5 +317,38 @@ fn a_committed_trap_ends_the_program(rt: HostRuntime) -> Result<(), Fail> {
     let run = in_rounds(b, p13(b), &[], one_each(4));
     let ending = Ending::Trap(Trap::Bounds, 7);
     assert!(rt; traces(b, run, "0 1 2 3 ", ending, P13)?);
+    Ok(())
+}
+
+#[test]
+fn an_object_that_a_chunk_freed_is_no_more(rt: HostRuntime) -> Result<(), Fail> {
+    let b = Build { alloc: rt.alloc() };
+    let run = in_rounds(b, p14(b, Policy::Raw), &[], one_each(2));
+    assert!(rt; rounds(run, "1\n", (2, 3, 1))?);
+    Ok(())
+}
+
+#[test]
+fn a_write_to_a_freed_object_is_lost(rt: HostRuntime) -> Result<(), Fail> {
+    let b = Build { alloc: rt.alloc() };
+    let run = in_rounds(b, p14(b, Policy::Waw), &[], one_each(2));
+    assert!(rt; rounds(run, "1\n", (1, 2, 0))?);
+    let run = in_rounds(b, p14(b, Policy::None), &[], one_each(2));
+    assert!(rt; rounds(run, "1\n", (1, 2, 0))?);
+    Ok(())
+}
+
+/// Whether the run with lines of so many words has these totals at the end of its trace.
+fn line_totals(b: Build, line: u32, totals: &str) -> Built<bool> {
+    let run = by_lines(b, p15(b), &[], one_each(4), line);
+    traces_around(b, run, "1 1\n", "", totals)
+}
+
+#[test]
+fn neighbours_on_a_line_conflict(rt: HostRuntime) -> Result<(), Fail> {
+    let b = Build { alloc: rt.alloc() };
+    assert!(rt; line_totals(b, 1, "\nloops 1 rounds 1 attempts 4 aborted 0 span 5\n")?);
+    assert!(rt; line_totals(b, 2, "\nloops 1 rounds 3 attempts 8 aborted 4 span 9\n")?);
+    assert!(rt; line_totals(b, 4, "\nloops 1 rounds 4 attempts 10 aborted 6 span 11\n")?);
     Ok(())
 }

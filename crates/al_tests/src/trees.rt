@@ -61,9 +61,14 @@ impl Build {
         self.binary(BinOp::Eq, self.local(k), self.number(n))
     }
 
-    /// Whether a local does not hold the null pointer.
-    pub fn is_not_null(self, k: u32) -> Expr {
-        let (a, b) = both(self.local(k), self.number(0))?;
+    /// Whether a pointer is null.
+    pub fn is_null(self, e: Expr) -> Expr {
+        let (a, b) = both(e, self.number(0))?;
+        self.expr(TExpr::Same(true, a, b))
+    }
+
+    pub fn is_not_null(self, e: Expr) -> Expr {
+        let (a, b) = both(e, self.number(0))?;
         self.expr(TExpr::Same(false, a, b))
     }
 
@@ -86,6 +91,10 @@ impl Build {
     pub fn calloc(self, a: Expr, words: u32) -> Expr {
         self.expr(TExpr::Calloc(a?, words))
     }
+
+    pub fn free(self, a: Expr) -> Expr {
+        self.expr(TExpr::Free(a?))
+    }
 }
 
 /// Places.
@@ -96,6 +105,11 @@ impl Build {
 
     pub fn global(self, k: u32) -> Place {
         self.place(TPlace::Global(k))
+    }
+
+    /// Where a pointer leads.
+    pub fn target(self, e: Expr) -> Place {
+        self.place(TPlace::At(inner(e)?))
     }
 
     /// Where a local leads.
@@ -139,6 +153,15 @@ impl Build {
     pub fn store(self, line: u32, p: Place, e: Expr) -> Stmt {
         let (p, e) = both(inner(p), inner(e))?;
         self.stmt(line, TKind::Store(p, e))
+    }
+
+    pub fn update_at(self, line: u32, op: BinOp, p: Place, e: Expr) -> Stmt {
+        let (p, e) = both(inner(p), inner(e))?;
+        self.stmt(line, TKind::UpdateAt(op, p, e))
+    }
+
+    pub fn call(self, line: u32, e: Expr) -> Stmt {
+        self.stmt(line, TKind::Call(inner(e)?))
     }
 
     pub fn if_else(self, line: u32, test: Expr, a: Stmt, b: Stmt) -> Stmt {
@@ -251,7 +274,8 @@ impl Build {
         Ok(Items::new(self.alloc))
     }
 
-    /// The annotation of the loop at a line, whose body declares the locals from the first to below the last of `declared`.
+    /// The annotation of the loop at a line, whose body declares the locals from the first to below the last of
+    /// `declared`.
     pub fn note(
         self,
         line: u32,
@@ -259,11 +283,7 @@ impl Build {
         declared: (u32, u32),
         reds: &[Red],
     ) -> Notes {
-        let own = Choice {
-            policy: how.0,
-            order: how.1,
-            reds: Items::from_slice(self.alloc, reds)?,
-        };
+        let own = Choice::by_words(how.0, how.1, Items::from_slice(self.alloc, reds)?);
         let mut notes = Items::new(self.alloc);
         notes.push(TNote {
             func: 0,

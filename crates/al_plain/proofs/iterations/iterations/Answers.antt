@@ -12,6 +12,8 @@ loop-j-preserved c =
     let more : end - l.j ≡ suc (end - (l.j + 1)) = omega arith in
     let next : l.j + 1 ≡ suc l.j = omega arith in
     record {
-      runs = sym (goes_on (execution_of c.args.x.now) (end - l.j) (end - (l.j + 1)) l.j (l.j + 1) l.steps l.content r more next (c.r.view_is ∙ c.in_ok-r.ensures.exact) c.in-Done.is) ∙ l.invariant.runs;
+      runs =
+          sym (goes_on (execution_of c.args.x.now) (end - l.j) (end - (l.j + 1)) l.j (l.j + 1) l.steps l.content r more next
+          (c.r.view_is ∙ c.in_ok-r.ensures.exact) c.in-Done.is) ∙ l.invariant.runs;
       few = omega (arith, l.invariant.few, c.in_ok-r.ensures.few, ap (λ (f : Finished). f.steps) c.r.view_is);
     }

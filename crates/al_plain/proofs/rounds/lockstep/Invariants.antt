@@ -5,6 +5,7 @@ use Rattle.al_plain.proofs.rounds.lockstep.Given as goal
 
 abbrev pub invariant-loop-i : goal.invariant-loop-i
 invariant-loop-i l = record {
-  runs : rounds_from (l.count - l.i) (execution_of l.x) l.choice l.x.on.knobs.lanes l.pending l.so_far ≡ lockstep (execution_of l.x) l.choice l.x.on.knobs.lanes l.fn.memory;
+  runs : rounds_from (l.count - l.i) (execution_of l.x) l.choice l.x.on.knobs.lanes l.pending l.so_far
+      ≡ lockstep (execution_of l.x) l.choice l.x.on.knobs.lanes l.fn.memory;
   few : length l.so_far.rounds ≤ l.i;
 }

@@ -7,4 +7,6 @@ use Rattle.al_plain.proofs.Kept.{set_contains}
 use Rattle.al_plain.proofs.addresses.Addresses.contains.Goals as goal
 
 pub returns : goal.returns
-returns c = c.contains.ensures ∙ set_contains addr_derived addr_cmp addr_order addr_total addr_apart c.self.inside.all c.args.a ∙ ap (λ s. set.contains s c.args.a) c.self.view_is
+returns c =
+    c.contains.ensures ∙ set_contains addr_derived addr_cmp addr_order addr_total addr_apart c.self.inside.all c.args.a
+    ∙ ap (λ s. set.contains s c.args.a) c.self.view_is

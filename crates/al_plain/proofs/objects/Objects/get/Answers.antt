@@ -7,4 +7,5 @@ use Rattle.al_plain.proofs.Kept.{map_get}
 use Rattle.al_plain.proofs.objects.Objects.get.Goals as goal
 
 pub returns : goal.returns
-returns c = c.get.ensures.value ∙ map_get obj_derived obj_cmp obj_order obj_total obj_apart c.self.inside.words c.args.o ∙ ap (λ m. map.get m c.args.o) c.self.view_is
+returns c =
+    c.get.ensures.value ∙ map_get obj_derived obj_cmp obj_order obj_total obj_apart c.self.inside.words c.args.o ∙ ap (λ m. map.get m c.args.o) c.self.view_is

@@ -7,7 +7,9 @@ use Rattle.al_plain.proofs.Kept.{map_get, map_remove}
 use Rattle.al_plain.proofs.objects.Objects.take.Goals as goal
 
 pub returns-clause-taken : goal.returns-clause-taken
-returns-clause-taken c = c.remove.ensures.value ∙ map_get obj_derived obj_cmp obj_order obj_total obj_apart c.self.inside.words c.args.o ∙ ap (λ m. map.get m c.args.o) c.self.view_is
+returns-clause-taken c =
+    c.remove.ensures.value ∙ map_get obj_derived obj_cmp obj_order obj_total obj_apart c.self.inside.words c.args.o
+    ∙ ap (λ m. map.get m c.args.o) c.self.view_is
 
 pub returns-clause-rest : goal.returns-clause-rest
 returns-clause-rest c =

@@ -13,7 +13,12 @@ returns c =
     let count = c.range-first.result.1 in
     let content : c.recording-content.result ≡ from_iteration x c.args.reds.now c.args.memory.now first =
     c.recording-content.ensures
-    ∙ (λ t. record { memory = c.in_ok-copy.ensures t; allocations = record { allocator = InIteration x.number first; next = 0; words = 0 }; printed = []; accesses = Some (c.in_ok-accesses.ensures t) }) in
+    ∙ (λ t. record {
+      memory = c.in_ok-copy.ensures t;
+      allocations = record { allocator = InIteration x.number first; next = 0; words = 0 };
+      printed = [];
+      accesses = Some (c.in_ok-accesses.ensures t);
+    }) in
     let e : outcome_of c.in_ok-iterations.field-0 c.in_ok-iterations.field-0.content.accesses ≡ outcome x c.args.reds.now c.args.memory.now c.args.c =
     ap (λ (r : Finished). outcome_of r r.content.accesses) (c.in_ok-iterations.ensures.exact ∙ ap (iterations x count first) content)
     ∙ same_outcome x c.args.reds.now c.args.memory.now c.args.c count first c.range-first.ensures.count c.range-first.ensures.first in
