@@ -56,11 +56,14 @@ module _ (g : ℕ) where
   test_calls None = refl
   test_calls (Some e) = refl
 
-  block_calls : (ss : List (With TStmt OfStmt)) → has g (all_called (map called_by (map (λ a. a.0) ss))) ≡ list_any (λ b. b) (map stmt_calls_it (map (λ a. a.0) ss))
+  block_calls : (ss : List (With TStmt OfStmt))
+      → has g (all_called (map called_by (map (λ a. a.0) ss))) ≡ list_any (λ b. b) (map stmt_calls_it (map (λ a. a.0) ss))
   block_calls [] = refl
   block_calls (s ∷ ss) = both _ _ _ _ s.1 (block_calls ss)
 
-  of_kind : (y : TKind-F (With TKind OfKind) (With TStmt OfStmt)) → has g (kind_called (map-TKind TKind TStmt (List ℕ) (List ℕ) kind_called_by called_by (kept y))) ≡ kind_passes calls_it calls_it_at (map-TKind TKind TStmt Bool Bool kind_calls_it stmt_calls_it (kept y))
+  of_kind : (y : TKind-F (With TKind OfKind) (With TStmt OfStmt))
+      → has g (kind_called (map-TKind TKind TStmt (List ℕ) (List ℕ) kind_called_by called_by (kept y)))
+      ≡ kind_passes calls_it calls_it_at (map-TKind TKind TStmt Bool Bool kind_calls_it stmt_calls_it (kept y))
   of_kind TKind-F.Empty = refl
   of_kind (TKind-F.SetLocal n e) = refl
   of_kind (TKind-F.Store at e) = two (calls_at at) (calls e) (calls_it e) refl
@@ -68,9 +71,11 @@ module _ (g : ℕ) where
   of_kind (TKind-F.UpdateAt op at e) = two (calls_at at) (calls e) (calls_it e) refl
   of_kind (TKind-F.Call e) = refl
   of_kind (TKind-F.Print format es) = each calls es
-  of_kind (TKind-F.If e a None) = both (calls e ++ called_by a.0) [] (calls_it e || stmt_calls_it a.0) false (two (calls e) (called_by a.0) (stmt_calls_it a.0) a.1) refl
+  of_kind (TKind-F.If e a None) =
+      both (calls e ++ called_by a.0) [] (calls_it e || stmt_calls_it a.0) false (two (calls e) (called_by a.0) (stmt_calls_it a.0) a.1) refl
   of_kind (TKind-F.If e a (Some b)) =
-      both (calls e ++ called_by a.0) (called_by b.0) (calls_it e || stmt_calls_it a.0) (stmt_calls_it b.0) (two (calls e) (called_by a.0) (stmt_calls_it a.0) a.1) b.1
+      both (calls e ++ called_by a.0) (called_by b.0) (calls_it e
+      || stmt_calls_it a.0) (stmt_calls_it b.0) (two (calls e) (called_by a.0) (stmt_calls_it a.0) a.1) b.1
   of_kind (TKind-F.While e a) = two (calls e) (called_by a.0) (stmt_calls_it a.0) a.1
   of_kind (TKind-F.For None test None body number) = both _ _ _ _ (both _ [] _ false (both [] _ false _ refl (test_calls test)) refl) body.1
   of_kind (TKind-F.For None test (Some third) body number) = both _ _ _ _ (both _ _ _ _ (both [] _ false _ refl (test_calls test)) third.1) body.1
@@ -83,7 +88,8 @@ module _ (g : ℕ) where
 
   all_stmts : (s : TStmt) → OfStmt s
   all_stmts = stmt_induct OfKind OfStmt
-      (λ y. ap (has g) (fold-roll-TKind (List ℕ) (List ℕ) kind_called (λ s. s.kind) (kept y)) ∙ of_kind y ∙ sym (fold-roll-TKind Bool Bool (kind_passes calls_it calls_it_at) (λ s. s.kind) (kept y)))
+      (λ y. ap (has g) (fold-roll-TKind (List ℕ) (List ℕ) kind_called (λ s. s.kind) (kept y)) ∙ of_kind y
+      ∙ sym (fold-roll-TKind Bool Bool (kind_passes calls_it calls_it_at) (λ s. s.kind) (kept y)))
       (λ y. ap (has g) (fold-roll-TStmt (List ℕ) (List ℕ) kind_called (λ s. s.kind) (record { line = y.line; kind = y.kind.0 })) ∙ y.kind.1
       ∙ sym (fold-roll-TStmt Bool Bool (kind_passes calls_it calls_it_at) (λ s. s.kind) (record { line = y.line; kind = y.kind.0 })))
 

@@ -35,16 +35,20 @@ abbrev pub firsts_after : List Addr → List Addr → List Addr
 firsts_after seen left = seen ++ firsts (turned seen) left
 
 -- a variable that is there
-pub again : (seen names : List Addr) (i : ℕ) (a d : Addr) → i < length names → a ≡ get_or names i d → list_any (addr_eq a) seen ≡ true → firsts_after seen (drop i names) ≡ firsts_after seen (drop (i + 1) names)
+pub again : (seen names : List Addr) (i : ℕ) (a d : Addr) → i < length names → a ≡ get_or names i d → list_any (addr_eq a) seen ≡ true
+    → firsts_after seen (drop i names) ≡ firsts_after seen (drop (i + 1) names)
 again seen names i a d within is there =
     ap (firsts_after seen) (next_of names i a d within is)
-    ∙ ap (λ b. seen ++ (if b then firsts (turned seen) (drop (i + 1) names) else a ∷ firsts (a ∷ turned seen) (drop (i + 1) names))) (any_turned (addr_eq a) seen ∙ there)
+    ∙ ap (λ b. seen
+    ++ (if b then firsts (turned seen) (drop (i + 1) names) else a ∷ firsts (a ∷ turned seen) (drop (i + 1) names))) (any_turned (addr_eq a) seen ∙ there)
 
 -- a new one
-pub another : (seen more names : List Addr) (i : ℕ) (a d : Addr) → more ≡ seen ++ a ∷ [] → i < length names → a ≡ get_or names i d → list_any (addr_eq a) seen ≡ false → firsts_after seen (drop i names) ≡ firsts_after more (drop (i + 1) names)
+pub another : (seen more names : List Addr) (i : ℕ) (a d : Addr) → more ≡ seen ++ a ∷ [] → i < length names → a ≡ get_or names i d
+    → list_any (addr_eq a) seen ≡ false → firsts_after seen (drop i names) ≡ firsts_after more (drop (i + 1) names)
 another seen more names i a d grown within is there =
     ap (firsts_after seen) (next_of names i a d within is)
-    ∙ ap (λ b. seen ++ (if b then firsts (turned seen) (drop (i + 1) names) else a ∷ firsts (a ∷ turned seen) (drop (i + 1) names))) (any_turned (addr_eq a) seen ∙ there)
+    ∙ ap (λ b. seen
+    ++ (if b then firsts (turned seen) (drop (i + 1) names) else a ∷ firsts (a ∷ turned seen) (drop (i + 1) names))) (any_turned (addr_eq a) seen ∙ there)
     ∙ sym (append_assoc seen (a ∷ []) (firsts (a ∷ turned seen) (drop (i + 1) names)))
     ∙ ap (λ l. (seen ++ a ∷ []) ++ firsts l (drop (i + 1) names)) (sym (turned_more seen a))
     ∙ ap (λ l. firsts_after l (drop (i + 1) names)) (sym grown)
@@ -68,11 +72,13 @@ module _ {A B : Type 0} (g : A → Option B) (most : ℕ) where
   unfoldable pub counted : List B → List A → List B
   counted done left = take most (done ++ filter_map g left)
 
-  pub counted_none : (done : List B) (xs : List A) (i : ℕ) (a d : A) → i < length xs → a ≡ get_or xs i d → g a ≡ None → counted done (drop i xs) ≡ counted done (drop (i + 1) xs)
+  pub counted_none : (done : List B) (xs : List A) (i : ℕ) (a d : A) → i < length xs → a ≡ get_or xs i d → g a ≡ None
+      → counted done (drop i xs) ≡ counted done (drop (i + 1) xs)
   unfolding counted
   counted_none done xs i a d within is none = rw (next_of xs i a d within is, none) refl
 
-  pub counted_one : (done more : List B) (xs : List A) (i : ℕ) (a d : A) (b : B) → more ≡ done ++ b ∷ [] → i < length xs → a ≡ get_or xs i d → g a ≡ Some b → counted done (drop i xs) ≡ counted more (drop (i + 1) xs)
+  pub counted_one : (done more : List B) (xs : List A) (i : ℕ) (a d : A) (b : B) → more ≡ done ++ b ∷ [] → i < length xs → a ≡ get_or xs i d → g a ≡ Some b
+      → counted done (drop i xs) ≡ counted more (drop (i + 1) xs)
   unfolding counted
   counted_one done more xs i a d b grown within is some = rw (next_of xs i a d within is, some, grown, append_assoc) refl
 

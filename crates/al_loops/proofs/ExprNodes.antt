@@ -41,16 +41,21 @@ module _ {A B : Type 0} (on_expr : TExpr-F A B → A) (on_place : TPlace-F A B �
   pub on-Unary : (op : UnOp) (x : TExpr) → fold-TExpr A B on_expr on_place (e.Unary op x) ≡ on_expr (TExpr-F.Unary op (fold-TExpr A B on_expr on_place x))
   on-Unary op x = of_expr (TExpr-F.Unary op x) _ (e.rolls-Unary op x)
 
-  pub on-Binary : (op : BinOp) (x y : TExpr) → fold-TExpr A B on_expr on_place (e.Binary op x y) ≡ on_expr (TExpr-F.Binary op (fold-TExpr A B on_expr on_place x) (fold-TExpr A B on_expr on_place y))
+  pub on-Binary : (op : BinOp) (x y : TExpr)
+      → fold-TExpr A B on_expr on_place (e.Binary op x y) ≡ on_expr (TExpr-F.Binary op (fold-TExpr A B on_expr on_place x) (fold-TExpr A B on_expr on_place y))
   on-Binary op x y = of_expr (TExpr-F.Binary op x y) _ (e.rolls-Binary op x y)
 
-  pub on-Same : (equal : Bool) (x y : TExpr) → fold-TExpr A B on_expr on_place (e.Same equal x y) ≡ on_expr (TExpr-F.Same equal (fold-TExpr A B on_expr on_place x) (fold-TExpr A B on_expr on_place y))
+  pub on-Same : (equal : Bool) (x y : TExpr)
+      → fold-TExpr A B on_expr on_place (e.Same equal x y)
+      ≡ on_expr (TExpr-F.Same equal (fold-TExpr A B on_expr on_place x) (fold-TExpr A B on_expr on_place y))
   on-Same equal x y = of_expr (TExpr-F.Same equal x y) _ (e.rolls-Same equal x y)
 
-  pub on-And : (x y : TExpr) → fold-TExpr A B on_expr on_place (e.And x y) ≡ on_expr (TExpr-F.And (fold-TExpr A B on_expr on_place x) (fold-TExpr A B on_expr on_place y))
+  pub on-And : (x y : TExpr)
+      → fold-TExpr A B on_expr on_place (e.And x y) ≡ on_expr (TExpr-F.And (fold-TExpr A B on_expr on_place x) (fold-TExpr A B on_expr on_place y))
   on-And x y = of_expr (TExpr-F.And x y) _ (e.rolls-And x y)
 
-  pub on-Or : (x y : TExpr) → fold-TExpr A B on_expr on_place (e.Or x y) ≡ on_expr (TExpr-F.Or (fold-TExpr A B on_expr on_place x) (fold-TExpr A B on_expr on_place y))
+  pub on-Or : (x y : TExpr)
+      → fold-TExpr A B on_expr on_place (e.Or x y) ≡ on_expr (TExpr-F.Or (fold-TExpr A B on_expr on_place x) (fold-TExpr A B on_expr on_place y))
   on-Or x y = of_expr (TExpr-F.Or x y) _ (e.rolls-Or x y)
 
   pub on-Call : (f : ℕ) (xs : List TExpr) → fold-TExpr A B on_expr on_place (e.Call f xs) ≡ on_expr (TExpr-F.Call f (map (fold-TExpr A B on_expr on_place) xs))
@@ -62,7 +67,8 @@ module _ {A B : Type 0} (on_expr : TExpr-F A B → A) (on_place : TPlace-F A B �
   pub on-Inputs : fold-TExpr A B on_expr on_place e.Inputs ≡ on_expr TExpr-F.Inputs
   on-Inputs = of_expr TExpr-F.Inputs _ e.rolls-Inputs
 
-  pub on-Choose : (op : RedOp) (x y : TExpr) → fold-TExpr A B on_expr on_place (e.Choose op x y) ≡ on_expr (TExpr-F.Choose op (fold-TExpr A B on_expr on_place x) (fold-TExpr A B on_expr on_place y))
+  pub on-Choose : (op : RedOp) (x y : TExpr)
+      → fold-TExpr A B on_expr on_place (e.Choose op x y) ≡ on_expr (TExpr-F.Choose op (fold-TExpr A B on_expr on_place x) (fold-TExpr A B on_expr on_place y))
   on-Choose op x y = of_expr (TExpr-F.Choose op x y) _ (e.rolls-Choose op x y)
 
   pub on-Calloc : (x : TExpr) (size : ℕ) → fold-TExpr A B on_expr on_place (e.Calloc x size) ≡ on_expr (TExpr-F.Calloc (fold-TExpr A B on_expr on_place x) size)
@@ -80,7 +86,30 @@ module _ {A B : Type 0} (on_expr : TExpr-F A B → A) (on_place : TPlace-F A B �
   pub on-Plus : (q : TPlace) (n : ℕ) → fold-TPlace A B on_expr on_place (p.Plus q n) ≡ on_place (TPlace-F.Plus (fold-TPlace A B on_expr on_place q) n)
   on-Plus q n = of_place (TPlace-F.Plus q n) _ (p.rolls-Plus q n)
 
-  pub on-Elem : (q : TPlace) (x : TExpr) (size : ℕ) → fold-TPlace A B on_expr on_place (p.Elem q x size) ≡ on_place (TPlace-F.Elem (fold-TPlace A B on_expr on_place q) (fold-TExpr A B on_expr on_place x) size)
+  pub on-Elem : (q : TPlace) (x : TExpr) (size : ℕ)
+      → fold-TPlace A B on_expr on_place (p.Elem q x size)
+      ≡ on_place (TPlace-F.Elem (fold-TPlace A B on_expr on_place q) (fold-TExpr A B on_expr on_place x) size)
   on-Elem q x size = of_place (TPlace-F.Elem q x size) _ (p.rolls-Elem q x size)
 
-pub ruleset expr_nodes = (each, on-Number, on-Local, on-Load, on-Addr, on-Unary, on-Binary, on-Same, on-And, on-Or, on-Call, on-Input, on-Inputs, on-Choose, on-Calloc, on-Free, on-Global, on-At, on-Plus, on-Elem)
+pub ruleset expr_nodes = (
+  each,
+  on-Number,
+  on-Local,
+  on-Load,
+  on-Addr,
+  on-Unary,
+  on-Binary,
+  on-Same,
+  on-And,
+  on-Or,
+  on-Call,
+  on-Input,
+  on-Inputs,
+  on-Choose,
+  on-Calloc,
+  on-Free,
+  on-Global,
+  on-At,
+  on-Plus,
+  on-Elem,
+)

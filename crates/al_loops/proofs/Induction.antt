@@ -9,6 +9,8 @@ use Rattle.al_core.specs.declared.typed_tree.TKind.TheOpen.{TStmt-F, TKind-F}
 abbrev pub With : (A : Type 0) → (A → Type 0) → Type 0
 With A P = (a : A) × P a
 
-module _ (P : TKind → Type 0) (Q : TStmt → Type 0) (k : (y : TKind-F (With TKind P) (With TStmt Q)) → P (roll-TKind (map-TKind (With TKind P) (With TStmt Q) TKind TStmt (λ a. a.0) (λ a. a.0) y))) (s : (y : TStmt-F (With TKind P) (With TStmt Q)) → Q (roll-TStmt (map-TStmt (With TKind P) (With TStmt Q) TKind TStmt (λ a. a.0) (λ a. a.0) y))) where
+module _ (P : TKind → Type 0) (Q : TStmt → Type 0) (k : (y : TKind-F (With TKind P) (With TStmt Q))
+    → P (roll-TKind (map-TKind (With TKind P) (With TStmt Q) TKind TStmt (λ a. a.0) (λ a. a.0) y))) (s : (y : TStmt-F (With TKind P) (With TStmt Q))
+    → Q (roll-TStmt (map-TStmt (With TKind P) (With TStmt Q) TKind TStmt (λ a. a.0) (λ a. a.0) y))) where
   pub stmt_induct : (d : TStmt) → Q d
   stmt_induct = ind-TStmt P Q (λ x y is. subst (λ z. P (roll-TKind z)) is (k y)) (λ x y is. subst (λ z. Q (roll-TStmt z)) is (s y))

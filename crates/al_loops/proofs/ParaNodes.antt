@@ -19,7 +19,8 @@ module _ {A B : Type 0} (on_kind : TKind-F (TKind × A) (TStmt × B) → A) (on_
   abbrev stmt : TStmt → B
   stmt = para-TStmt A B on_kind on_stmt
 
-  of_kind : (x : TKind-F TKind TStmt) (d : TKind) → roll-TKind x ≡ d → kind d ≡ on_kind (map-TKind TKind TStmt (TKind × A) (TStmt × B) (λ d. (d, kind d)) (λ s. (s, stmt s)) x)
+  of_kind : (x : TKind-F TKind TStmt) (d : TKind) → roll-TKind x ≡ d
+      → kind d ≡ on_kind (map-TKind TKind TStmt (TKind × A) (TStmt × B) (λ d. (d, kind d)) (λ s. (s, stmt s)) x)
   of_kind x d is = ap kind (sym is) ∙ para-roll-TKind A B on_kind on_stmt x
 
   pub on-stmt : (s : TStmt) → para-TStmt A B on_kind on_stmt s ≡ on_stmt (record { line = s.line; kind = (s.kind, para-TKind A B on_kind on_stmt s.kind) })
@@ -46,18 +47,24 @@ module _ {A B : Type 0} (on_kind : TKind-F (TKind × A) (TStmt × B) → A) (on_
   pub on-Print : (format : List Piece) (es : List TExpr) → para-TKind A B on_kind on_stmt (k.Print format es) ≡ on_kind (TKind-F.Print format es)
   on-Print format es = of_kind (TKind-F.Print format es) _ (k.rolls-Print format es)
 
-  pub on-If : (e : TExpr) (a : TStmt) (b : Option TStmt) → para-TKind A B on_kind on_stmt (k.If e a b) ≡ on_kind (TKind-F.If e (a, para-TStmt A B on_kind on_stmt a) (option_map (λ s. (s, para-TStmt A B on_kind on_stmt s)) b))
+  pub on-If : (e : TExpr) (a : TStmt) (b : Option TStmt)
+      → para-TKind A B on_kind on_stmt (k.If e a b)
+      ≡ on_kind (TKind-F.If e (a, para-TStmt A B on_kind on_stmt a) (option_map (λ s. (s, para-TStmt A B on_kind on_stmt s)) b))
   on-If e a None = of_kind (TKind-F.If e a None) _ (k.rolls-If e a None)
   on-If e a (Some b) = of_kind (TKind-F.If e a (Some b)) _ (k.rolls-If e a (Some b))
 
   pub on-While : (e : TExpr) (a : TStmt) → para-TKind A B on_kind on_stmt (k.While e a) ≡ on_kind (TKind-F.While e (a, para-TStmt A B on_kind on_stmt a))
   on-While e a = of_kind (TKind-F.While e a) _ (k.rolls-While e a)
 
-  pub on-For : (first : Option TStmt) (test : Option TExpr) (third : Option TStmt) (body : TStmt) (number : Option ℕ) → para-TKind A B on_kind on_stmt (k.For first test third body number) ≡ on_kind (TKind-F.For (option_map (λ s. (s, para-TStmt A B on_kind on_stmt s)) first) test (option_map (λ s. (s, para-TStmt A B on_kind on_stmt s)) third) (body, para-TStmt A B on_kind on_stmt body) number)
+  pub on-For : (first : Option TStmt) (test : Option TExpr) (third : Option TStmt) (body : TStmt) (number : Option ℕ)
+      → para-TKind A B on_kind on_stmt (k.For first test third body number)
+      ≡ on_kind (TKind-F.For (option_map (λ s. (s, para-TStmt A B on_kind on_stmt s)) first) test
+      (option_map (λ s. (s, para-TStmt A B on_kind on_stmt s)) third) (body, para-TStmt A B on_kind on_stmt body) number)
   on-For None test None body number = of_kind (TKind-F.For None test None body number) _ (k.rolls-For None test None body number)
   on-For None test (Some third) body number = of_kind (TKind-F.For None test (Some third) body number) _ (k.rolls-For None test (Some third) body number)
   on-For (Some first) test None body number = of_kind (TKind-F.For (Some first) test None body number) _ (k.rolls-For (Some first) test None body number)
-  on-For (Some first) test (Some third) body number = of_kind (TKind-F.For (Some first) test (Some third) body number) _ (k.rolls-For (Some first) test (Some third) body number)
+  on-For (Some first) test (Some third) body number =
+      of_kind (TKind-F.For (Some first) test (Some third) body number) _ (k.rolls-For (Some first) test (Some third) body number)
 
   pub on-Block : (ss : List TStmt) → para-TKind A B on_kind on_stmt (k.Block ss) ≡ on_kind (TKind-F.Block (map (λ s. (s, para-TStmt A B on_kind on_stmt s)) ss))
   on-Block ss = of_kind (TKind-F.Block ss) _ (k.rolls-Block ss)
@@ -71,4 +78,21 @@ module _ {A B : Type 0} (on_kind : TKind-F (TKind × A) (TStmt × B) → A) (on_
   pub on-Continue : para-TKind A B on_kind on_stmt k.Continue ≡ on_kind TKind-F.Continue
   on-Continue = of_kind TKind-F.Continue _ k.rolls-Continue
 
-pub ruleset para_nodes = (all_paired, on-stmt, on-Empty, on-SetLocal, on-Store, on-UpdateLocal, on-UpdateAt, on-Call, on-Print, on-If, on-While, on-For, on-Block, on-Return, on-Break, on-Continue)
+pub ruleset para_nodes = (
+  all_paired,
+  on-stmt,
+  on-Empty,
+  on-SetLocal,
+  on-Store,
+  on-UpdateLocal,
+  on-UpdateAt,
+  on-Call,
+  on-Print,
+  on-If,
+  on-While,
+  on-For,
+  on-Block,
+  on-Return,
+  on-Break,
+  on-Continue,
+)

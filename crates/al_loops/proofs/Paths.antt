@@ -29,13 +29,21 @@ two_hold a b f g = rw (f, g) refl
 pub holds_of : (p : ℕ → Bool) (g : ℕ) (ns : List ℕ) → has g ns ≡ true → p g ≡ true → list_any p ns ≡ true
 holds_of p g [] is h = absurd (cc)
 holds_of p g (n ∷ ns) is h =
-    elim (one_of (n == g) (has g ns) is) [ inl e ↦ or_left (p n) (list_any p ns) (ap p (eqb-true n g e) ∙ h) | inr e ↦ or_right (p n) (list_any p ns) (holds_of p g ns e h) ]
+    elim (one_of (n == g) (has g ns) is) [
+      | inl e ↦ or_left (p n) (list_any p ns) (ap p (eqb-true n g e)
+          ∙ h)
+      | inr e ↦ or_right (p n) (list_any p ns) (holds_of p g ns e h)
+    ]
 
 -- what follows of each of the list
 pub follows_of : (p : ℕ → Bool) (A : Type 0) (ns : List ℕ) → list_any p ns ≡ true → ((n : ℕ) → has n ns ≡ true → p n ≡ true → A) → A
 follows_of p A [] is h = absurd (cc)
 follows_of p A (n ∷ ns) is h =
-    elim (one_of (p n) (list_any p ns) is) [ inl e ↦ h n (or_left (n == n) (has n ns) (eq-eqb n n refl)) e | inr e ↦ follows_of p A ns e (λ m in' e. h m (or_right (n == m) (has m ns) in') e) ]
+    elim (one_of (p n) (list_any p ns) is) [
+      | inl e ↦ h n (or_left (n == n) (has n ns) (eq-eqb n n refl)) e
+      | inr e ↦ follows_of p A ns e
+          (λ m in' e. h m (or_right (n == m) (has m ns) in') e)
+    ]
 
 more_pass : (p q : ℕ → Bool) (ns : List ℕ) → ((n : ℕ) → p n ≡ true → q n ≡ true) → list_any p ns ≡ true → list_any q ns ≡ true
 more_pass p q ns h is = follows_of p (list_any q ns ≡ true) ns is (λ n in' e. holds_of q n ns in' (h n e))
@@ -60,7 +68,12 @@ module _ (typed : Typed) where
   -- how a function is reached with one more function between
   split_last : (n f g : ℕ) → reaches typed (suc n) f g ≡ true → (reaches typed n f g ≡ true) ⊎ ((reaches typed n f n ≡ true) × (reaches typed n n g ≡ true))
   split_last n f g is =
-      elim (one_of (reaches typed n f g) (reaches typed n f n && reaches typed n n g) is) [ inl e ↦ inl e | inr e ↦ inr (first_of_two (reaches typed n f n) (reaches typed n n g) e, second_of_two (reaches typed n f n) (reaches typed n n g) e) ]
+      elim (one_of (reaches typed n f g) (reaches typed n f n
+      && reaches typed n n g) is) [
+        | inl e ↦ inl e
+        | inr e ↦ inr
+            (first_of_two (reaches typed n f n) (reaches typed n n g) e, second_of_two (reaches typed n f n) (reaches typed n n g) e)
+      ]
 
   -- to the last function, and from it
   to_last : (n f : ℕ) → reaches typed (suc n) f n ≡ true → reaches typed n f n ≡ true
@@ -80,13 +93,15 @@ module _ (typed : Typed) where
           | inl a ↦ elim (split_last n j h b) [ inl b ↦ still n f h (through n j f h lt a b) | inr b ↦ over n f h (through n j f n lt a b.0) b.1 ]
           | inr a ↦ elim (split_last n j h b) [ inl b ↦ over n f h a.0 (through n j n h lt a.1 b) | inr b ↦ over n f h a.0 b.1 ]
         ]
-        | inr is ↦ over n f h (to_last n f (subst (λ (i : ℕ). reaches typed (suc n) f i ≡ true) is a)) (from_last n h (subst (λ (i : ℕ). reaches typed (suc n) i h ≡ true) is b))
+        | inr is ↦ over n f h (to_last n f (subst (λ (i : ℕ). reaches typed (suc n) f i
+            ≡ true) is a)) (from_last n h (subst (λ (i : ℕ). reaches typed (suc n) i h ≡ true) is b))
       ]
 
   -- ---- a set that is closed under calls has all that is reached
 
   module _ (marks : ℕ → Bool) (closed : (f g : ℕ) → marks f ≡ true → g < length typed.funcs → calls_one f g ≡ true → marks g ≡ true) where
-    has_all : (n f g : ℕ) → n ≤ length typed.funcs → ((h : ℕ) → h < length typed.funcs → calls_one f h ≡ true → marks h ≡ true) → g < length typed.funcs → reaches typed n f g ≡ true → marks g ≡ true
+    has_all : (n f g : ℕ) → n ≤ length typed.funcs → ((h : ℕ) → h < length typed.funcs → calls_one f h ≡ true → marks h ≡ true) → g < length typed.funcs
+        → reaches typed n f g ≡ true → marks g ≡ true
     has_all zero f g most start below is = start g below is
     has_all (suc n) f g most start below is =
         elim (split_last n f g is) [
@@ -106,14 +121,20 @@ module _ (typed : Typed) where
       or_right (has g (calls_of (terms s))) (list_any (λ f. reaches typed (length typed.funcs) f g) (calls_of (terms s)))
       (elim (one_of (has f (calls_of (terms s))) (list_any (λ h. reaches typed (length typed.funcs) h f) (calls_of (terms s))) is) [
         | inl e ↦ holds_of (λ h. reaches typed (length typed.funcs) h g) f (calls_of (terms s)) e (by_call (length typed.funcs) f g calls)
-        | inr e ↦ more_pass (λ h. reaches typed (length typed.funcs) h f) (λ h. reaches typed (length typed.funcs) h g) (calls_of (terms s)) (λ h r. through (length typed.funcs) f h g below r (by_call (length typed.funcs) f g calls)) e
+        | inr e ↦ more_pass (λ h. reaches typed (length typed.funcs) h f) (λ h. reaches typed (length typed.funcs) h g) (calls_of (terms s))
+            (λ h r. through (length typed.funcs) f h g below r (by_call (length typed.funcs) f g calls)) e
       ])
 
   -- a set that has what the statement calls, and is closed under calls, has all that it reaches
-  pub reached_only : (s : TStmt) (marks : ℕ → Bool) → ((g : ℕ) → g < length typed.funcs → has g (calls_of (terms s)) ≡ true → marks g ≡ true) → ((f g : ℕ) → marks f ≡ true → g < length typed.funcs → calls_one f g ≡ true → marks g ≡ true) → ((f g : ℕ) → length typed.funcs ≤ f → calls_one f g ≡ true → ⊥) → (g : ℕ) → g < length typed.funcs → is_reached typed s g ≡ true → marks g ≡ true
+  pub reached_only : (s : TStmt) (marks : ℕ → Bool) → ((g : ℕ) → g < length typed.funcs → has g (calls_of (terms s)) ≡ true → marks g ≡ true)
+      → ((f g : ℕ) → marks f ≡ true → g < length typed.funcs → calls_one f g ≡ true → marks g ≡ true)
+      → ((f g : ℕ) → length typed.funcs ≤ f → calls_one f g ≡ true → ⊥) → (g : ℕ) → g < length typed.funcs → is_reached typed s g ≡ true → marks g ≡ true
   unfolding is_reached
   reached_only s marks start closed none g below is =
       elim (one_of (has g (calls_of (terms s))) (list_any (λ f. reaches typed (length typed.funcs) f g) (calls_of (terms s))) is) [
         | inl e ↦ start g below e
-        | inr e ↦ follows_of (λ f. reaches typed (length typed.funcs) f g) (marks g ≡ true) (calls_of (terms s)) e (λ f in' r. has_all marks closed (length typed.funcs) f g (omega arith) (λ h lt c. elim (cases_lt f (length typed.funcs)) [ inl w ↦ closed f h (start f w in') lt c | inr w ↦ absurd (none f h w c) ]) below r)
+        | inr e ↦ follows_of (λ f. reaches typed (length typed.funcs) f g) (marks g
+            ≡ true) (calls_of (terms s)) e
+            (λ f in' r. has_all marks closed (length typed.funcs) f g (omega arith)
+            (λ h lt c. elim (cases_lt f (length typed.funcs)) [ inl w ↦ closed f h (start f w in') lt c | inr w ↦ absurd (none f h w c) ]) below r)
       ]

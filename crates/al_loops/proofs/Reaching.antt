@@ -74,7 +74,14 @@ module _ (typed : Typed) (s : TStmt) where
     module _ (seen : n < length typed.funcs → is_marked marks n ≡ true) where
       still_seen : (k : ℕ) → k < length typed.funcs → IsSeen marks (rest ++ n ∷ []) k → IsSeen marks rest k
       still_seen k lt h =
-          elim h [ inl e ↦ inl e | inr e ↦ elim (has_part k rest (n ∷ []) e) [ inl e ↦ inr e | inr e ↦ inl (subst (λ (i : ℕ). i < length typed.funcs → is_marked marks i ≡ true) (is_one k n e) seen lt) ] ]
+          elim h [
+            | inl e ↦ inl e
+            | inr e ↦ elim (has_part k rest (n ∷ []) e) [
+              | inl e ↦ inr e
+              | inr e ↦ inl (subst (λ (i : ℕ). i < length typed.funcs
+                  → is_marked marks i ≡ true) (is_one k n e) seen lt)
+            ]
+          ]
 
       passes_over : Reaching typed s marks rest
       passes_over = record {
@@ -97,7 +104,12 @@ module _ (typed : Typed) (s : TStmt) where
       marks_it = get_or-set_same marks n true false in_marks
 
       marks_still : (k : ℕ) → is_marked marks k ≡ true → is_marked (set marks n true) k ≡ true
-      marks_still k is = elim (eqb_tells k n) [ inl e ↦ subst (λ (i : ℕ). is_marked (set marks n true) i ≡ true) (sym e.1) marks_it | inr e ↦ get_or-set_other marks n k true false e.1 ∙ is ]
+      marks_still k is =
+          elim (eqb_tells k n) [
+            | inl e ↦ subst (λ (i : ℕ). is_marked (set marks n true) i
+                ≡ true) (sym e.1) marks_it
+            | inr e ↦ get_or-set_other marks n k true false e.1 ∙ is
+          ]
 
       its_calls : (k : ℕ) → has k (flat_map called f.body) ≡ calls_one typed n k
       its_calls k = body_called k f.body ∙ ap (λ (o : Option TFunc). has k (calls_in o)) (sym func)
@@ -118,8 +130,17 @@ module _ (typed : Typed) (s : TStmt) where
       visits : Reaching typed s (set marks n true) (rest ++ flat_map called f.body)
       visits = record {
         count = length-set marks n true ∙ r.count;
-        mark = λ k is. elim (eqb_tells k n) [ inl e ↦ subst (λ (i : ℕ). is_reached typed s i ≡ true) (sym e.1) itself | inr e ↦ r.mark k (sym (get_or-set_other marks n k true false e.1) ∙ is) ];
-        left = λ k is. elim (has_part k rest (flat_map called f.body) is) [ inl e ↦ r.left k (has_front k rest (n ∷ []) e) | inr e ↦ reached_further typed s n k within itself (sym (its_calls k) ∙ e) ];
+        mark = λ k is. elim (eqb_tells k n) [
+          | inl e ↦ subst (λ (i : ℕ). is_reached typed s i
+              ≡ true) (sym e.1) itself
+          | inr e ↦ r.mark k (sym (get_or-set_other marks n k true false e.1) ∙ is)
+        ];
+        left = λ k is. elim
+            (has_part k rest (flat_map called f.body) is) [
+              | inl e ↦ r.left k (has_front k rest (n ∷ []) e)
+              | inr e ↦ reached_further typed s n k within itself
+                  (sym (its_calls k) ∙ e)
+            ];
         start = λ k lt is. seen_then k (r.start k lt is);
         next = λ m k is lt c. elim (eqb_tells m n) [
           | inl e ↦ inr (has_back k rest (flat_map called f.body) (its_calls k ∙ subst (λ (i : ℕ). calls_one typed i k ≡ true) e.1 c))
@@ -130,10 +151,12 @@ module _ (typed : Typed) (s : TStmt) where
     with_none : (b : Option Bool) → Reaching typed s marks rest → Reaching typed s marks (rest ++ [])
     with_none b h = subst (λ (l : List ℕ). Reaching typed s marks l) (sym (append-nil rest)) h
 
-    goes_by : (o : Option TFunc) (b : Option Bool) → slice_get typed.funcs n ≡ o → slice_get marks n ≡ b → Reaching typed s (mark_then o b marks n) (rest ++ calls_then o b)
+    goes_by : (o : Option TFunc) (b : Option Bool) → slice_get typed.funcs n ≡ o → slice_get marks n ≡ b
+        → Reaching typed s (mark_then o b marks n) (rest ++ calls_then o b)
     goes_by (Some f) (Some false) func mark = visits f func
     goes_by (Some f) (Some true) func mark = with_none (Some true) (passes_over (λ lt. get_or_from_slice_get marks n true false mark))
-    goes_by (Some f) None func mark = with_none None (passes_over (λ lt. absurd (some_mark mark (slice_get-get_or marks n false (subst (λ (k : ℕ). n < k) (sym r.count) lt)))))
+    goes_by (Some f) None func mark =
+        with_none None (passes_over (λ lt. absurd (some_mark mark (slice_get-get_or marks n false (subst (λ (k : ℕ). n < k) (sym r.count) lt)))))
     goes_by None b func mark = with_none b (passes_over (λ lt. absurd (no_func typed.funcs n func lt)))
 
     pub goes : Reaching typed s (marked typed.funcs marks n) (rest ++ new_calls typed.funcs marks n)
@@ -155,7 +178,9 @@ module _ (typed : Typed) (s : TStmt) where
   pub ends : (marks : List Bool) → Reaching typed s marks [] → IsReach typed s marks
   ends marks r = record {
     count = r.count;
-    each = λ n lt. either_way (is_marked marks n) (is_reached typed s n) (r.mark n) (reached_only typed s (is_marked marks) (λ g below is. marked_or_none marks g (r.start g below is)) (λ f g is below c. marked_or_none marks g (r.next f g is below c)) calls_nothing n lt);
+    each = λ n lt. either_way (is_marked marks n) (is_reached typed s n) (r.mark n)
+        (reached_only typed s (is_marked marks) (λ g below is. marked_or_none marks g (r.start g below is))
+        (λ f g is below c. marked_or_none marks g (r.next f g is below c)) calls_nothing n lt);
   }
 
 -- ---- the visits end
@@ -166,7 +191,8 @@ calls_left [] marks = 0
 calls_left (f ∷ fs) [] = 0
 calls_left (f ∷ fs) (m ∷ ms) = (if m then 0 else length (flat_map called f.body)) + calls_left fs ms
 
-spent_here : (g : TFunc) (fs : List TFunc) (m : Bool) (ms : List Bool) (f : TFunc) → Some g ≡ Some f → Some m ≡ Some false → (if m then 0 else length (flat_map called g.body)) + calls_left fs ms ≡ length (flat_map called f.body) + (0 + calls_left fs ms)
+spent_here : (g : TFunc) (fs : List TFunc) (m : Bool) (ms : List Bool) (f : TFunc) → Some g ≡ Some f → Some m ≡ Some false
+    → (if m then 0 else length (flat_map called g.body)) + calls_left fs ms ≡ length (flat_map called f.body) + (0 + calls_left fs ms)
 spent_here g fs m ms f func mark = grind (arith)
 
 later : (k a b c : ℕ) → a ≡ b + c → k + a ≡ b + (k + c)
@@ -178,34 +204,44 @@ added a b more rest is = omega (arith, length-append rest more)
 one_less : (a b : ℕ) (rest : List ℕ) (n : ℕ) → a ≡ b + length rest → a < b + length (rest ++ n ∷ [])
 one_less a b rest n is = omega (arith, length-append rest (n ∷ []))
 
-spent : (funcs : List TFunc) (marks : List Bool) (n : ℕ) (f : TFunc) → slice_get funcs n ≡ Some f → slice_get marks n ≡ Some false → calls_left funcs marks ≡ length (flat_map called f.body) + calls_left funcs (set marks n true)
+spent : (funcs : List TFunc) (marks : List Bool) (n : ℕ) (f : TFunc) → slice_get funcs n ≡ Some f → slice_get marks n ≡ Some false
+    → calls_left funcs marks ≡ length (flat_map called f.body) + calls_left funcs (set marks n true)
 spent [] marks n f func mark = absurd (cc)
 spent (g ∷ fs) [] n f func mark = absurd (cc)
 spent (g ∷ fs) (m ∷ ms) zero f func mark = spent_here g fs m ms f func mark
 spent (g ∷ fs) (m ∷ ms) (suc n) f func mark = later (if m then 0 else length (flat_map called g.body)) _ _ _ (spent fs ms n f func mark)
 
-fewer_by : (funcs : List TFunc) (marks : List Bool) (rest : List ℕ) (n : ℕ) (o : Option TFunc) (b : Option Bool) → slice_get funcs n ≡ o → slice_get marks n ≡ b → calls_left funcs (mark_then o b marks n) + length (rest ++ calls_then o b) ≡ calls_left funcs marks + length rest
-fewer_by funcs marks rest n (Some f) (Some false) func mark = added (calls_left funcs marks) (calls_left funcs (set marks n true)) (flat_map called f.body) rest (spent funcs marks n f func mark)
+fewer_by : (funcs : List TFunc) (marks : List Bool) (rest : List ℕ) (n : ℕ) (o : Option TFunc) (b : Option Bool) → slice_get funcs n ≡ o → slice_get marks n ≡ b
+    → calls_left funcs (mark_then o b marks n) + length (rest ++ calls_then o b) ≡ calls_left funcs marks + length rest
+fewer_by funcs marks rest n (Some f) (Some false) func mark =
+    added (calls_left funcs marks) (calls_left funcs (set marks n true)) (flat_map called f.body) rest (spent funcs marks n f func mark)
 fewer_by funcs marks rest n (Some f) (Some true) func mark = ap (λ (l : List ℕ). calls_left funcs marks + length l) (append-nil rest)
 fewer_by funcs marks rest n (Some f) None func mark = ap (λ (l : List ℕ). calls_left funcs marks + length l) (append-nil rest)
 fewer_by funcs marks rest n None b func mark = ap (λ (l : List ℕ). calls_left funcs marks + length l) (append-nil rest)
 
 -- a visit leaves one less
-pub fewer : (funcs : List TFunc) (marks : List Bool) (rest : List ℕ) (n : ℕ) → calls_left funcs (marked funcs marks n) + length (rest ++ new_calls funcs marks n) < calls_left funcs marks + length (rest ++ n ∷ [])
+pub fewer : (funcs : List TFunc) (marks : List Bool) (rest : List ℕ) (n : ℕ)
+    → calls_left funcs (marked funcs marks n) + length (rest ++ new_calls funcs marks n) < calls_left funcs marks + length (rest ++ n ∷ [])
 fewer funcs marks rest n = let same = fewer_by funcs marks rest n (slice_get funcs n) (slice_get marks n) refl refl in one_less _ _ rest n same
 
 -- ---- as the loop goes
 
-pub begun : (typed : Typed) (s : TStmt) (marks : List Bool) (todo : List ℕ) → marks ≡ replicate (length typed.funcs) false → todo ≡ called s → Reaching typed s marks todo
-begun typed s marks todo m t = subst (λ (l : List ℕ). Reaching typed s marks l) (sym t) (subst (λ (l : List Bool). Reaching typed s l (called s)) (sym m) (begins typed s))
+pub begun : (typed : Typed) (s : TStmt) (marks : List Bool) (todo : List ℕ) → marks ≡ replicate (length typed.funcs) false → todo ≡ called s
+    → Reaching typed s marks todo
+begun typed s marks todo m t =
+    subst (λ (l : List ℕ). Reaching typed s marks l) (sym t) (subst (λ (l : List Bool). Reaching typed s l (called s)) (sym m) (begins typed s))
 
-pub gone : (typed : Typed) (s : TStmt) (funcs : List TFunc) (marks marks' : List Bool) (todo rest todo' : List ℕ) (n : ℕ) → funcs ≡ typed.funcs → Reaching typed s marks todo → todo ≡ rest ++ n ∷ [] → marks' ≡ marked funcs marks n → todo' ≡ rest ++ new_calls funcs marks n → Reaching typed s marks' todo'
+pub gone : (typed : Typed) (s : TStmt) (funcs : List TFunc) (marks marks' : List Bool) (todo rest todo' : List ℕ) (n : ℕ) → funcs ≡ typed.funcs
+    → Reaching typed s marks todo → todo ≡ rest ++ n ∷ [] → marks' ≡ marked funcs marks n → todo' ≡ rest ++ new_calls funcs marks n
+    → Reaching typed s marks' todo'
 gone typed s funcs marks marks' todo rest todo' n f r t m t' =
     subst (λ (l : List ℕ). Reaching typed s marks' l) (sym (t' ∙ ap (λ (fs : List TFunc). rest ++ new_calls fs marks n) f))
     (subst (λ (l : List Bool). Reaching typed s l (rest ++ new_calls typed.funcs marks n)) (sym (m ∙ ap (λ (fs : List TFunc). marked fs marks n) f))
     (goes typed s marks rest n (subst (λ (l : List ℕ). Reaching typed s marks l) t r)))
 
-pub less : (typed : Typed) (funcs : List TFunc) (marks marks' : List Bool) (todo rest todo' : List ℕ) (n : ℕ) → funcs ≡ typed.funcs → todo ≡ rest ++ n ∷ [] → marks' ≡ marked funcs marks n → todo' ≡ rest ++ new_calls funcs marks n → calls_left typed.funcs marks' + length todo' < calls_left typed.funcs marks + length todo
+pub less : (typed : Typed) (funcs : List TFunc) (marks marks' : List Bool) (todo rest todo' : List ℕ) (n : ℕ) → funcs ≡ typed.funcs → todo ≡ rest ++ n ∷ []
+    → marks' ≡ marked funcs marks n → todo' ≡ rest ++ new_calls funcs marks n
+    → calls_left typed.funcs marks' + length todo' < calls_left typed.funcs marks + length todo
 less typed funcs marks marks' todo rest todo' n f t m t' =
     rw (t, m, t', f) (fewer typed.funcs marks rest n)
 

@@ -46,18 +46,23 @@ module _ {A B : Type 0} (on_kind : TKind-F A B → A) (on_stmt : TStmt-F A B →
   pub on-Print : (format : List Piece) (es : List TExpr) → fold-TKind A B on_kind on_stmt (k.Print format es) ≡ on_kind (TKind-F.Print format es)
   on-Print format es = of_kind (TKind-F.Print format es) _ (k.rolls-Print format es)
 
-  pub on-If : (e : TExpr) (a : TStmt) (b : Option TStmt) → fold-TKind A B on_kind on_stmt (k.If e a b) ≡ on_kind (TKind-F.If e (fold-TStmt A B on_kind on_stmt a) (option_map (fold-TStmt A B on_kind on_stmt) b))
+  pub on-If : (e : TExpr) (a : TStmt) (b : Option TStmt)
+      → fold-TKind A B on_kind on_stmt (k.If e a b) ≡ on_kind (TKind-F.If e (fold-TStmt A B on_kind on_stmt a) (option_map (fold-TStmt A B on_kind on_stmt) b))
   on-If e a None = of_kind (TKind-F.If e a None) _ (k.rolls-If e a None)
   on-If e a (Some b) = of_kind (TKind-F.If e a (Some b)) _ (k.rolls-If e a (Some b))
 
   pub on-While : (e : TExpr) (a : TStmt) → fold-TKind A B on_kind on_stmt (k.While e a) ≡ on_kind (TKind-F.While e (fold-TStmt A B on_kind on_stmt a))
   on-While e a = of_kind (TKind-F.While e a) _ (k.rolls-While e a)
 
-  pub on-For : (first : Option TStmt) (test : Option TExpr) (third : Option TStmt) (body : TStmt) (number : Option ℕ) → fold-TKind A B on_kind on_stmt (k.For first test third body number) ≡ on_kind (TKind-F.For (option_map (fold-TStmt A B on_kind on_stmt) first) test (option_map (fold-TStmt A B on_kind on_stmt) third) (fold-TStmt A B on_kind on_stmt body) number)
+  pub on-For : (first : Option TStmt) (test : Option TExpr) (third : Option TStmt) (body : TStmt) (number : Option ℕ)
+      → fold-TKind A B on_kind on_stmt (k.For first test third body number)
+      ≡ on_kind (TKind-F.For (option_map (fold-TStmt A B on_kind on_stmt) first) test (option_map (fold-TStmt A B on_kind on_stmt) third)
+      (fold-TStmt A B on_kind on_stmt body) number)
   on-For None test None body number = of_kind (TKind-F.For None test None body number) _ (k.rolls-For None test None body number)
   on-For None test (Some third) body number = of_kind (TKind-F.For None test (Some third) body number) _ (k.rolls-For None test (Some third) body number)
   on-For (Some first) test None body number = of_kind (TKind-F.For (Some first) test None body number) _ (k.rolls-For (Some first) test None body number)
-  on-For (Some first) test (Some third) body number = of_kind (TKind-F.For (Some first) test (Some third) body number) _ (k.rolls-For (Some first) test (Some third) body number)
+  on-For (Some first) test (Some third) body number =
+      of_kind (TKind-F.For (Some first) test (Some third) body number) _ (k.rolls-For (Some first) test (Some third) body number)
 
   pub on-Block : (ss : List TStmt) → fold-TKind A B on_kind on_stmt (k.Block ss) ≡ on_kind (TKind-F.Block (map (fold-TStmt A B on_kind on_stmt) ss))
   on-Block ss = of_kind (TKind-F.Block ss) _ (k.rolls-Block ss)
@@ -71,8 +76,34 @@ module _ {A B : Type 0} (on_kind : TKind-F A B → A) (on_stmt : TStmt-F A B →
   pub on-Continue : fold-TKind A B on_kind on_stmt k.Continue ≡ on_kind TKind-F.Continue
   on-Continue = of_kind TKind-F.Continue _ k.rolls-Continue
 
-  pub on-for_stmt : (s : TStmt) (first : Option TStmt) (test : Option TExpr) (third : Option TStmt) (body : TStmt) (number : Option ℕ) → s.kind ≡ k.For first test third body number → fold-TStmt A B on_kind on_stmt s ≡ on_stmt (record { line = s.line; kind = on_kind (TKind-F.For (option_map (fold-TStmt A B on_kind on_stmt) first) test (option_map (fold-TStmt A B on_kind on_stmt) third) (fold-TStmt A B on_kind on_stmt body) number) })
+  pub on-for_stmt : (s : TStmt) (first : Option TStmt) (test : Option TExpr) (third : Option TStmt) (body : TStmt) (number : Option ℕ)
+      → s.kind ≡ k.For first test third body number
+      → fold-TStmt A B on_kind on_stmt s
+      ≡ on_stmt (record {
+        line = s.line;
+        kind = on_kind
+            (TKind-F.For (option_map (fold-TStmt A B on_kind on_stmt) first) test (option_map (fold-TStmt A B on_kind on_stmt) third)
+            (fold-TStmt A B on_kind on_stmt body) number);
+      })
   on-for_stmt s first test third body number is =
-      on-stmt s ∙ ap (λ (d : TKind). on_stmt (record { line = s.line; kind = kind d })) is ∙ ap (λ (a : A). on_stmt (record { line = s.line; kind = a })) (on-For first test third body number)
+      on-stmt s ∙ ap (λ (d : TKind). on_stmt (record { line = s.line; kind = kind d })) is
+      ∙ ap (λ (a : A). on_stmt (record { line = s.line; kind = a })) (on-For first test third body number)
 
-pub ruleset stmt_nodes = (each, on-stmt, on-Empty, on-SetLocal, on-Store, on-UpdateLocal, on-UpdateAt, on-Call, on-Print, on-If, on-While, on-For, on-Block, on-Return, on-Break, on-Continue)
+pub ruleset stmt_nodes = (
+  each,
+  on-stmt,
+  on-Empty,
+  on-SetLocal,
+  on-Store,
+  on-UpdateLocal,
+  on-UpdateAt,
+  on-Call,
+  on-Print,
+  on-If,
+  on-While,
+  on-For,
+  on-Block,
+  on-Return,
+  on-Break,
+  on-Continue,
+)

@@ -58,7 +58,8 @@ module _ (p : TExpr → Bool) (q : TPlace → Bool) where
   three_are : (s t u : Terms) (a b c : Bool) → a ≡ tested s → b ≡ tested t → c ≡ tested u → ((a || b) || c) ≡ tested (both_terms s (both_terms t u))
   three_are s t u a b c f g h = or_more a b c ∙ pair_is s (both_terms t u) a (b || c) f (pair_is t u b c g h)
 
-  four_are : (s t u v : Terms) (a b c d : Bool) → a ≡ tested s → b ≡ tested t → c ≡ tested u → d ≡ tested v → (((a || b) || c) || d) ≡ tested (both_terms s (both_terms t (both_terms u v)))
+  four_are : (s t u v : Terms) (a b c d : Bool) → a ≡ tested s → b ≡ tested t → c ≡ tested u → d ≡ tested v
+      → (((a || b) || c) || d) ≡ tested (both_terms s (both_terms t (both_terms u v)))
   four_are s t u v a b c d f g h i = or_more (a || b) c d ∙ three_are s t (both_terms u v) a b (c || d) f g (pair_is u v c d h i)
 
   abbrev kind_passes_it : TKind → Bool
@@ -86,7 +87,9 @@ module _ (p : TExpr → Bool) (q : TPlace → Bool) where
   block_is [] = refl
   block_is (s ∷ ss) = pair_is _ _ _ _ s.1 (block_is ss)
 
-  of_kind : (y : TKind-F (With TKind OfKind) (With TStmt OfStmt)) → kind_passes p q (map-TKind TKind TStmt Bool Bool kind_passes_it passes_it (kept y)) ≡ tested (kind_terms (map-TKind TKind TStmt Terms Terms kind_terms_it terms_it (kept y)))
+  of_kind : (y : TKind-F (With TKind OfKind) (With TStmt OfStmt))
+      → kind_passes p q (map-TKind TKind TStmt Bool Bool kind_passes_it passes_it (kept y))
+      ≡ tested (kind_terms (map-TKind TKind TStmt Terms Terms kind_terms_it terms_it (kept y)))
   of_kind TKind-F.Empty = refl
   of_kind (TKind-F.SetLocal n e) = one_is e
   of_kind (TKind-F.Store at e) = two_are at e
@@ -97,13 +100,17 @@ module _ (p : TExpr → Bool) (q : TPlace → Bool) where
   of_kind (TKind-F.If e a None) = three_are (one_expr e) (terms_it a.0) no_terms (p e) (passes_it a.0) false (one_is e) a.1 refl
   of_kind (TKind-F.If e a (Some b)) = three_are (one_expr e) (terms_it a.0) (terms_it b.0) (p e) (passes_it a.0) (passes_it b.0) (one_is e) a.1 b.1
   of_kind (TKind-F.While e a) = pair_is (one_expr e) (terms_it a.0) (p e) (passes_it a.0) (one_is e) a.1
-  of_kind (TKind-F.For None test None body number) = four_are no_terms (if_expr test) no_terms (terms_it body.0) false (any_passes p test) false (passes_it body.0) refl (test_is test) refl body.1
+  of_kind (TKind-F.For None test None body number) =
+      four_are no_terms (if_expr test) no_terms (terms_it body.0) false (any_passes p test) false (passes_it body.0) refl (test_is test) refl body.1
   of_kind (TKind-F.For None test (Some third) body number) =
-      four_are no_terms (if_expr test) (terms_it third.0) (terms_it body.0) false (any_passes p test) (passes_it third.0) (passes_it body.0) refl (test_is test) third.1 body.1
+      four_are no_terms (if_expr test) (terms_it third.0) (terms_it body.0) false (any_passes p test) (passes_it third.0) (passes_it body.0) refl
+      (test_is test) third.1 body.1
   of_kind (TKind-F.For (Some first) test None body number) =
-      four_are (terms_it first.0) (if_expr test) no_terms (terms_it body.0) (passes_it first.0) (any_passes p test) false (passes_it body.0) first.1 (test_is test) refl body.1
+      four_are (terms_it first.0) (if_expr test) no_terms (terms_it body.0) (passes_it first.0) (any_passes p test) false (passes_it body.0) first.1
+      (test_is test) refl body.1
   of_kind (TKind-F.For (Some first) test (Some third) body number) =
-      four_are (terms_it first.0) (if_expr test) (terms_it third.0) (terms_it body.0) (passes_it first.0) (any_passes p test) (passes_it third.0) (passes_it body.0) first.1 (test_is test) third.1 body.1
+      four_are (terms_it first.0) (if_expr test) (terms_it third.0) (terms_it body.0) (passes_it first.0) (any_passes p test) (passes_it third.0)
+      (passes_it body.0) first.1 (test_is test) third.1 body.1
   of_kind (TKind-F.Block ss) = block_is ss
   of_kind (TKind-F.Return e) = test_is e
   of_kind TKind-F.Break = refl
@@ -111,8 +118,10 @@ module _ (p : TExpr → Bool) (q : TPlace → Bool) where
 
   all_stmts : (s : TStmt) → OfStmt s
   all_stmts = stmt_induct OfKind OfStmt
-      (λ y. fold-roll-TKind Bool Bool (kind_passes p q) (λ s. s.kind) (kept y) ∙ of_kind y ∙ ap tested (sym (fold-roll-TKind Terms Terms kind_terms (λ s. s.kind) (kept y))))
-      (λ y. fold-roll-TStmt Bool Bool (kind_passes p q) (λ s. s.kind) (record { line = y.line; kind = y.kind.0 }) ∙ y.kind.1 ∙ ap tested (sym (fold-roll-TStmt Terms Terms kind_terms (λ s. s.kind) (record { line = y.line; kind = y.kind.0 }))))
+      (λ y. fold-roll-TKind Bool Bool (kind_passes p q) (λ s. s.kind) (kept y) ∙ of_kind y
+      ∙ ap tested (sym (fold-roll-TKind Terms Terms kind_terms (λ s. s.kind) (kept y))))
+      (λ y. fold-roll-TStmt Bool Bool (kind_passes p q) (λ s. s.kind) (record { line = y.line; kind = y.kind.0 }) ∙ y.kind.1
+      ∙ ap tested (sym (fold-roll-TStmt Terms Terms kind_terms (λ s. s.kind) (record { line = y.line; kind = y.kind.0 }))))
 
   -- a statement
   pub of_stmt : (s : TStmt) → passes p q s ≡ tested (terms s)

@@ -6,11 +6,37 @@ returns-then-branch c =
     let named = rw c.as_slice-reds.ensures at c.is_misnamed.ensures in
     let taken = rw c.as_slice-reds.ensures at c.has_taken.ensures in
     let used = rw c.as_slice-reds.ensures at c.in_ok-has_misused.ensures in
-    rw (← c.in_stmt.ensures, c.if-in_stmt.false, ← c.assigns_bound.ensures, c.if-assigns_bound.false, ← c.leaves.ensures, c.if-leaves.false, ← named, c.if-is_misnamed.false, ← taken, c.if-has_taken.false, ← used, c.if-branch.true) refl
+    rw (
+      ← c.in_stmt.ensures,
+      c.if-in_stmt.false,
+      ← c.assigns_bound.ensures,
+      c.if-assigns_bound.false,
+      ← c.leaves.ensures,
+      c.if-leaves.false,
+      ← named,
+      c.if-is_misnamed.false,
+      ← taken,
+      c.if-has_taken.false,
+      ← used,
+      c.if-branch.true,
+    ) refl
 
 pub returns-else-branch : goal.returns-else-branch
 returns-else-branch c =
     let named = rw c.as_slice-reds.ensures at c.is_misnamed.ensures in
     let taken = rw c.as_slice-reds.ensures at c.has_taken.ensures in
     let used = rw c.as_slice-reds.ensures at c.in_ok-has_misused.ensures in
-    rw (← c.in_stmt.ensures, c.if-in_stmt.false, ← c.assigns_bound.ensures, c.if-assigns_bound.false, ← c.leaves.ensures, c.if-leaves.false, ← named, c.if-is_misnamed.false, ← taken, c.if-has_taken.false, ← used, c.if-branch.false) refl
+    rw (
+      ← c.in_stmt.ensures,
+      c.if-in_stmt.false,
+      ← c.assigns_bound.ensures,
+      c.if-assigns_bound.false,
+      ← c.leaves.ensures,
+      c.if-leaves.false,
+      ← named,
+      c.if-is_misnamed.false,
+      ← taken,
+      c.if-has_taken.false,
+      ← used,
+      c.if-branch.false,
+    ) refl

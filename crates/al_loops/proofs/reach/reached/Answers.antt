@@ -14,7 +14,9 @@ pub loop-n-smaller : goal.loop-n-smaller
 loop-n-smaller c = less c.args.typed.now _ _ _ _ _ _ _ c.as_slice-funcs.ensures c.in-Some.ensures c.in_ok-visit.ensures.marks c.in_ok-visit.ensures.todo
 
 pub loop-n-preserved : goal.loop-n-preserved
-loop-n-preserved c = gone c.args.typed.now c.args.s.now _ _ _ _ _ _ _ c.as_slice-funcs.ensures c.loop-n.invariant c.in-Some.ensures c.in_ok-visit.ensures.marks c.in_ok-visit.ensures.todo
+loop-n-preserved c =
+    gone c.args.typed.now c.args.s.now _ _ _ _ _ _ _ c.as_slice-funcs.ensures c.loop-n.invariant c.in-Some.ensures c.in_ok-visit.ensures.marks
+    c.in_ok-visit.ensures.todo
 
 pub returns : goal.returns
 returns c = ended c.args.typed.now c.args.s.now _ _ c.loop-n.invariant c.in_default.ensures.0

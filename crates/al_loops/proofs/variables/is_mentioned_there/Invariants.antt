@@ -6,4 +6,6 @@ use Rattle.al_loops.proofs.variables.is_mentioned_there.Given as goal
 
 -- none so far does
 abbrev pub invariant-loop-n : goal.invariant-loop-n
-invariant-loop-n l = any_from (λ n f. is_reached l.typed l.body n && mentions_in l.a (terms_of f.body)) l.n (drop l.n l.typed.funcs) ≡ any_from (λ n f. is_reached l.typed l.body n && mentions_in l.a (terms_of f.body)) 0 l.typed.funcs
+invariant-loop-n l =
+    any_from (λ n f. is_reached l.typed l.body n && mentions_in l.a (terms_of f.body)) l.n (drop l.n l.typed.funcs)
+    ≡ any_from (λ n f. is_reached l.typed l.body n && mentions_in l.a (terms_of f.body)) 0 l.typed.funcs
