@@ -1,6 +1,6 @@
 -- Clauses of the top call that speak of valid words, and of refused ones.
 use Rattle.std.proofs.Common.{◌≡◌, ◌≢◌, ◌⊎◌, inl, inr, ℕ, List, [], ◌∷◌, Option, None, Some, Result, Ok, Err, IfSome, IsErr, ℤ, refl, sym, ap, subst, ◌∙◌, arith}
-use Rattle.al_core.specs.declared.typed_tree.Typed.{Typed}
+use Rattle.al_rules.specs.Refusals.{Noted}
 use Rattle.al_io.specs.Contents.{Contents}
 use Rattle.al_io.specs.Counts.{DidNotRise}
 use Rattle.al_serve.specs.declared.answers.Answer.{Answer}
@@ -21,11 +21,11 @@ use Rattle.al_cli.specs.Headline.{Holds, IsValid}
 use Rattle.al_cli.proofs.Valid.{holds_shows, valid_status}
 
 module _ (words : List (List ℕ)) (f g : FilesSeen) (o p e q : SinkSeen) where
-  pub headline : (s : ℕ) → Outcome (plan words) f g o p e q s → (job : Job) → (typed : Typed) → (input : List ℤ) → command words ≡ Ok (Run job)
+  pub headline : (s : ℕ) → Outcome (plan words) f g o p e q s → (job : Job) → (program : Noted) → (input : List ℤ) → command words ≡ Ok (Run job)
       → DidNotRise f.faults g.faults → DidNotRise o.faults p.faults → DidNotRise e.faults q.faults → s ≢ 6
-      → IfSome f.contents (λ files. Holds words files job typed input → Writes (bytes_of (source_name words job) (lockstep_report typed input job.knobs)) s o.written p.written e.written q.written)
-  headline s outcome job typed input is still still_out still_err not_six =
-      if_so f.contents _ _ (λ files w h. subst (λ a. Writes a s o.written p.written e.written q.written) (holds_shows words files task.Run job typed input is h) w) (is_as_played (plan words) f g o p e q s outcome still still_out still_err not_six)
+      → IfSome f.contents (λ files. Holds words files job program input → Writes (bytes_of (source_name words job) (lockstep_report program input job.knobs)) s o.written p.written e.written q.written)
+  headline s outcome job program input is still still_out still_err not_six =
+      if_so f.contents _ _ (λ files w h. subst (λ a. Writes a s o.written p.written e.written q.written) (holds_shows words files task.Run job program input is h) w) (is_as_played (plan words) f g o p e q s outcome still still_out still_err not_six)
 
   with_six : (s : ℕ) (a : Answer) → (s ≢ 6 → Writes a s o.written p.written e.written q.written) → IsOneOf (0 ∷ 3 ∷ []) a.status → (s ≡ 6) ⊎ (s ≢ 6) → IsOneOf (0 ∷ 3 ∷ 6 ∷ []) s
   with_six s a w h (inl six) = inr (inr (inl six))

@@ -2,10 +2,9 @@
 use Rattle.std.proofs.Common.{◌≡◌, ◌≢◌, ℕ, List, [], Option, None, Some, Result, Ok, Err, IfOk, OnErr, ℤ, refl, sym, ap, subst, ◌∙◌}
 use Rattle.std.specs.declared.alloc.AllocError.{AllocError}
 use Rattle.al_core.specs.declared.choices.Knobs.{Knobs}
-use Rattle.al_core.specs.declared.typed_tree.Typed.{Typed}
+use Rattle.al_rules.specs.Refusals.{Noted, accepted}
 use Rattle.al_report.specs.Faults.{input_text}
 use Rattle.al_rules.specs.declared.faults.Refusal.{Refusal}
-use Rattle.al_rules.specs.Refusals.{accepted}
 use Rattle.al_serve.specs.declared.answers.Answer.{Answer}
 use Rattle.al_serve.specs.declared.reading.FileRead.{FileRead}
 use Rattle.al_serve.specs.declared.reading.FileRead.TheVariants as file
@@ -14,7 +13,8 @@ use Rattle.al_serve.specs.Seen.{FilesSeen, ReadsOnce, TriesOnce}
 use Rattle.al_serve.specs.Outcome.{IsBeginning, Reading, Came, planned, read_on, Starved, at_once, at_read, later}
 use Rattle.al_text.specs.declared.faults.InputFault.{InputFault}
 use Rattle.al_text.specs.declared.faults.InputFault.TheVariants.{TooLong, NotNumber, OutOfRange, TooMany, Memory}
-use Rattle.al_text.specs.Answers.{Fails}
+use Rattle.al_source.specs.Answers.{Fails}
+use Rattle.al_text.specs.Faults.{told}
 use Rattle.al_text.specs.Numbers.{numbers_of}
 use Rattle.al_words.specs.declared.command.Command.{Command}
 use Rattle.al_words.specs.declared.command.WordFault.{WordFault}
@@ -54,8 +54,8 @@ pub plan_is : (words : List (List ℕ)) (r : Result Command WordFault) → r ≡
 unfolding plan
 plan_is words r is = ap (plan_of words) (sym is)
 
-pub task_shown : (t : Task) (knobs : Knobs) (name own : List ℕ) (typed : Typed) (ns ms : List ℤ) (a : Answer) → name ≡ own → ns ≡ ms → a ≡ task_of t knobs name typed ns → a ≡ task_of t knobs own typed ms
-task_shown t knobs name own typed ns ms a same numbers is = is ∙ ap (λ n. task_of t knobs n typed ns) same ∙ ap (task_of t knobs own typed) numbers
+pub task_shown : (t : Task) (knobs : Knobs) (name own : List ℕ) (program : Noted) (ns ms : List ℤ) (a : Answer) → name ≡ own → ns ≡ ms → a ≡ task_of t knobs name program ns → a ≡ task_of t knobs own program ms
+task_shown t knobs name own program ns ms a same numbers is = is ∙ ap (λ n. task_of t knobs n program ns) same ∙ ap (task_of t knobs own program) numbers
 
 -- ---- a source
 
@@ -63,29 +63,29 @@ module _ (name bytes : List ℕ) (f g : FilesSeen) (r : FileRead) (read : r ≡ 
   source_read : ReadsOnce f g × IsBeginning f name most_of_source bytes
   source_read = read_bytes name most_of_source f g r bytes read reading
 
-  pub source_goes : (typed : Typed) → accepted bytes ≡ Ok typed → GoesOn (source_plan name) f g typed
-  source_goes typed is = record {
+  pub source_goes : (program : Noted) → accepted bytes ≡ Ok program → GoesOn (source_plan name) f g program
+  source_goes program is = record {
     came = λ next last a c. read_on name most_of_source (λ source. if_accepted name next (accepted source)) f g last bytes a source_read.0 source_read.1 (rw is c);
     starved = λ next last s. later name most_of_source (λ source. if_accepted name next (accepted source)) f g last bytes source_read.0 source_read.1 (rw is s);
   }
 
-  pub source_refused : (cause : Refusal) (a : Answer) → accepted bytes ≡ Err cause → a ≡ failed 1 (refusal_line name cause) → (next : Typed → Plan) → Came (source_plan name next) f g a
+  pub source_refused : (cause : Refusal) (a : Answer) → accepted bytes ≡ Err cause → a ≡ failed 1 (refusal_line name cause) → (next : Noted → Plan) → Came (source_plan name next) f g a
   source_refused cause a is same next = read_on name most_of_source (λ source. if_accepted name next (accepted source)) f g g bytes a source_read.0 source_read.1 (rw is (came_answer _ a g same))
 
-  pub source_starved : (next : Typed → Plan) → Starved (source_plan name next) f g
+  pub source_starved : (next : Noted → Plan) → Starved (source_plan name next) f g
   source_starved next = later name most_of_source (λ source. if_accepted name next (accepted source)) f g g bytes source_read.0 source_read.1 (at_once _ g)
 
-pub source_untried : (name : List ℕ) (f g : FilesSeen) → TriesOnce f g → (next : Typed → Plan) → Starved (source_plan name next) f g
+pub source_untried : (name : List ℕ) (f g : FilesSeen) → TriesOnce f g → (next : Noted → Plan) → Starved (source_plan name next) f g
 source_untried name f g once next = at_read name most_of_source (λ source. if_accepted name next (accepted source)) f g once
 
 -- the source of this name was accepted
-pub source_accepted : (name own : List ℕ) (f g : FilesSeen) (r : SourceStep) (typed : Typed) → name ≡ own → r ≡ source.Accepted typed → SourceComes name f g r → GoesOn (source_plan own) f g typed
-source_accepted name own f g r typed same is comes = subst (λ n. GoesOn (source_plan n) f g typed) same (subst (SourceComes name f g) is comes)
+pub source_accepted : (name own : List ℕ) (f g : FilesSeen) (r : SourceStep) (program : Noted) → name ≡ own → r ≡ source.Accepted program → SourceComes name f g r → GoesOn (source_plan own) f g program
+source_accepted name own f g r program same is comes = subst (λ n. GoesOn (source_plan n) f g program) same (subst (SourceComes name f g) is comes)
 
 -- ---- an input
 
 -- a fault that is not want of memory is the one that the definition gives
-pub fails_so : {A : Type 0} (fault : InputFault) (defined : Result A InputFault) → fault ≢ Memory → Fails fault defined → defined ≡ Err fault
+pub fails_so : {A : Type 0} (fault : InputFault) (defined : Result A InputFault) → fault ≢ Memory → Fails defined (told fault) → defined ≡ Err fault
 fails_so TooLong defined other h = h
 fails_so (NotNumber line) defined other h = h
 fails_so (OutOfRange line) defined other h = h

@@ -3,11 +3,10 @@ use Rattle.std.proofs.Common.{◌≡◌, ◌⊎◌, inl, inr, ℕ, ◌==◌, Boo
 use Rattle.al_core.specs.declared.choices.Knobs.{Knobs}
 use Rattle.al_core.specs.declared.reports.Ending.{Ending}
 use Rattle.al_core.specs.declared.reports.Ending.TheVariants as ending
-use Rattle.al_core.specs.declared.typed_tree.Typed.{Typed}
+use Rattle.al_rules.specs.Refusals.{Noted, accepted}
 use Rattle.al_gen.specs.Generated.{source as made_source, input as made_input}
 use Rattle.al_report.specs.Faults.{input_text}
 use Rattle.al_rules.specs.declared.faults.Refusal.{Refusal}
-use Rattle.al_rules.specs.Refusals.{accepted}
 use Rattle.al_serve.specs.declared.answers.Answer.{Answer}
 use Rattle.al_serve.specs.Plans.{Plan, Reads, Answers, failed, ReadsInOrder, AllAnswers}
 use Rattle.al_serve.specs.Outcome.{IsOneOf}
@@ -26,14 +25,14 @@ use Rattle.al_cli.specs.Why.{asks, ReadsSource, to_run, to_check, to_show, AreNu
 
 -- ---- parts of plans
 
-source_all : (P : Answer → Type 0) (name : List ℕ) (next : Typed → Plan)
+source_all : (P : Answer → Type 0) (name : List ℕ) (next : Noted → Plan)
     → ((source : List ℕ) (cause : Refusal) → accepted source ≡ Err cause → P (failed 1 (refusal_line name cause)))
-    → ((source : List ℕ) (typed : Typed) → accepted source ≡ Ok typed → AllAnswers P (next typed))
+    → ((source : List ℕ) (program : Noted) → accepted source ≡ Ok program → AllAnswers P (next program))
     → AllAnswers P (source_plan name next)
 source_all P name next refused on = λ source. by_result source (accepted source) refl
   where
-    by_result : (source : List ℕ) (r : Result Typed Refusal) → accepted source ≡ r → AllAnswers P (if_accepted name next r)
-    by_result source (Ok typed) e = on source typed e
+    by_result : (source : List ℕ) (r : Result Noted Refusal) → accepted source ≡ r → AllAnswers P (if_accepted name next r)
+    by_result source (Ok program) e = on source program e
     by_result source (Err cause) e = refused source cause e
 
 input_all : (P : Answer → Type 0) (name : Option (List ℕ)) (next : List ℤ → Plan)
@@ -52,16 +51,16 @@ input_all P (Some n) next refused on = λ text. by_result text (numbers_of text)
 module _ (words : List (List ℕ)) where
   job_why : (t : Task) (job : Job) → command words ≡ Ok (asks t job) → AllAnswers (Why words) (job_plan t words job)
   job_why t job e =
-      source_all (Why words) (source_name words job) (after_source t words job) (λ source cause h. source_refused (source_name words job) source cause (to_run t job e refl) h) (λ source typed h.
-      input_all (Why words) (input_name words job) _ (λ n text fault is g. input_refused t job n text fault e is g) (λ input g. program_run t job source typed input e h g))
+      source_all (Why words) (source_name words job) (after_source t words job) (λ source cause h. source_refused (source_name words job) source cause (to_run t job e refl) h) (λ source program h.
+      input_all (Why words) (input_name words job) _ (λ n text fault is g. input_refused t job n text fault e is g) (λ input g. program_run t job source program input e h g))
 
   check_why : (job : Job) → command words ≡ Ok (Check job) → AllAnswers (Why words) (check_plan words job)
   check_why job e =
-      source_all (Why words) (source_name words job) _ (λ source cause h. source_refused (source_name words job) source cause (to_check job e refl) h) (λ source typed h. program_accepted job source typed e h)
+      source_all (Why words) (source_name words job) _ (λ source cause h. source_refused (source_name words job) source cause (to_check job e refl) h) (λ source program h. program_accepted job source program e h)
 
-  demo_why : (start size : ℕ) (knobs : Knobs) → command words ≡ Ok (Demo start size knobs) → (r : Result Typed Refusal) → accepted made_source ≡ r
-      → AllAnswers (Why words) (if_accepted (codes "demo") (λ typed. Answers (totals_of (codes "demo") (lockstep_report typed (made_input start size) knobs))) r)
-  demo_why start size knobs e (Ok typed) h = program_shown start size knobs typed e h
+  demo_why : (start size : ℕ) (knobs : Knobs) → command words ≡ Ok (Demo start size knobs) → (r : Result Noted Refusal) → accepted made_source ≡ r
+      → AllAnswers (Why words) (if_accepted (codes "demo") (λ program. Answers (totals_of (codes "demo") (lockstep_report program (made_input start size) knobs))) r)
+  demo_why start size knobs e (Ok program) h = program_shown start size knobs program e h
   demo_why start size knobs e (Err cause) h = source_refused (codes "demo") made_source cause (to_show start size knobs e refl) h
 
   command_why : (r : Result Command WordFault) → command words ≡ r → AllAnswers (Why words) (plan_of words r)
@@ -86,13 +85,13 @@ ended_status : (name : List ℕ) (e : Ending) (out : List ℕ) → IsOneOf (0 �
 ended_status name ending.Done out = inl refl
 ended_status name (ending.Trap t line) out = inr (inl refl)
 
-pub task_status : (t : Task) (knobs : Knobs) (name : List ℕ) (typed : Typed) (input : List ℤ) → IsOneOf (0 ∷ 3 ∷ []) (task_of t knobs name typed input).status
-task_status task.Run knobs name typed input = ended_status name _ _
-task_status task.Plain knobs name typed input = ended_status name _ _
-task_status task.Trace knobs name typed input = ended_status name _ _
+pub task_status : (t : Task) (knobs : Knobs) (name : List ℕ) (program : Noted) (input : List ℤ) → IsOneOf (0 ∷ 3 ∷ []) (task_of t knobs name program input).status
+task_status task.Run knobs name program input = ended_status name _ _
+task_status task.Plain knobs name program input = ended_status name _ _
+task_status task.Trace knobs name program input = ended_status name _ _
 
-pub totals_status : (name : List ℕ) (typed : Typed) (input : List ℤ) (knobs : Knobs) → IsOneOf (0 ∷ 3 ∷ []) (totals_of name (lockstep_report typed input knobs)).status
-totals_status name typed input knobs = ended_status name _ _
+pub totals_status : (name : List ℕ) (program : Noted) (input : List ℤ) (knobs : Knobs) → IsOneOf (0 ∷ 3 ∷ []) (totals_of name (lockstep_report program input knobs)).status
+totals_status name program input knobs = ended_status name _ _
 
 of_run : (n : ℕ) → IsOneOf (0 ∷ 3 ∷ []) n → IsOneOf (0 ∷ 1 ∷ 2 ∷ 3 ∷ 7 ∷ []) n
 of_run n (inl h) = inl h
@@ -103,20 +102,20 @@ why_status : (words : List (List ℕ)) (a : Answer) → Why words a → IsOneOf 
 why_status words _ (words_refused fault e) = inr (inr (inl refl))
 why_status words _ (source_refused name source cause reads e) = inr (inl refl)
 why_status words _ (input_refused t job name text fault e is h) = inr (inr (inr (inr (inl refl))))
-why_status words _ (program_run t job source typed input e h g) = of_run _ (task_status t job.knobs (source_name words job) typed input)
-why_status words _ (program_accepted job source typed e h) = inl refl
-why_status words _ (program_shown start size knobs typed e h) = of_run _ (totals_status (codes "demo") typed (made_input start size) knobs)
+why_status words _ (program_run t job source program input e h g) = of_run _ (task_status t job.knobs (source_name words job) program input)
+why_status words _ (program_accepted job source program e h) = inl refl
+why_status words _ (program_shown start size knobs program e h) = of_run _ (totals_status (codes "demo") program (made_input start size) knobs)
 
 pub own_statuses : (words : List (List ℕ)) → AllAnswers (λ a. IsOneOf (0 ∷ 1 ∷ 2 ∷ 3 ∷ 7 ∷ []) a.status) (plan words)
 own_statuses words = weaker (Why words) _ (why_status words) (plan words) (every_why words)
 
 -- ---- the order of reads
 
-source_order : (name : List ℕ) (names : List (List ℕ)) (next : Typed → Plan) → ((typed : Typed) → ReadsInOrder names (next typed)) → ReadsInOrder (name ∷ names) (source_plan name next)
+source_order : (name : List ℕ) (names : List (List ℕ)) (next : Noted → Plan) → ((program : Noted) → ReadsInOrder names (next program)) → ReadsInOrder (name ∷ names) (source_plan name next)
 source_order name names next on = (refl, λ source. by_result (accepted source))
   where
-    by_result : (r : Result Typed Refusal) → ReadsInOrder names (if_accepted name next r)
-    by_result (Ok typed) = on typed
+    by_result : (r : Result Noted Refusal) → ReadsInOrder names (if_accepted name next r)
+    by_result (Ok program) = on program
     by_result (Err cause) = none names
       where
         none : (ns : List (List ℕ)) → ReadsInOrder ns (Answers (failed 1 (refusal_line name cause)))
@@ -132,18 +131,18 @@ input_order (Some name) f = (refl, λ text. by_result (numbers_of text))
     by_result (Err fault) = tt
 
 job_order : (t : Task) (words : List (List ℕ)) (job : Job) → ReadsInOrder (job_names words job) (job_plan t words job)
-job_order t words job = source_order (source_name words job) _ (after_source t words job) (λ typed. input_order (input_name words job) (task_of t job.knobs (source_name words job) typed))
+job_order t words job = source_order (source_name words job) _ (after_source t words job) (λ program. input_order (input_name words job) (task_of t job.knobs (source_name words job) program))
 
-demo_order : (start size : ℕ) (knobs : Knobs) (r : Result Typed Refusal)
-    → ReadsInOrder [] (if_accepted (codes "demo") (λ typed. Answers (totals_of (codes "demo") (lockstep_report typed (made_input start size) knobs))) r)
-demo_order start size knobs (Ok typed) = tt
+demo_order : (start size : ℕ) (knobs : Knobs) (r : Result Noted Refusal)
+    → ReadsInOrder [] (if_accepted (codes "demo") (λ program. Answers (totals_of (codes "demo") (lockstep_report program (made_input start size) knobs))) r)
+demo_order start size knobs (Ok program) = tt
 demo_order start size knobs (Err cause) = tt
 
 command_order : (words : List (List ℕ)) (r : Result Command WordFault) → ReadsInOrder (names_by words r) (plan_of words r)
 command_order words (Ok (Run job)) = job_order task.Run words job
 command_order words (Ok (Plain job)) = job_order task.Plain words job
 command_order words (Ok (Trace job)) = job_order task.Trace words job
-command_order words (Ok (Check job)) = source_order (source_name words job) [] _ (λ typed. tt)
+command_order words (Ok (Check job)) = source_order (source_name words job) [] _ (λ program. tt)
 command_order words (Ok (Demo start size knobs)) = demo_order start size knobs (accepted made_source)
 command_order words (Err fault) = tt
 

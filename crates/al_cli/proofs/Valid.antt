@@ -1,11 +1,11 @@
 -- What valid words show.
 use Rattle.std.proofs.Common.{◌≡◌, ◌⊎◌, inl, inr, ℕ, ◌<◌, ◌≤◌, Bool, true, false, nat_lt, nat_le, List, [], ◌∷◌, length, take, codes, Option, None, Some, Result, Ok, Err, IfSome, ℤ, refl, sym, ap, subst, ◌∙◌, arith, rules}
 use Rattle.std.proofs.lemmas.List.{take_all, length-take}
-use Rattle.al_core.specs.declared.typed_tree.Typed.{Typed}
+use Rattle.al_source.specs.declared.limits.TheConstants.{SOURCE_BYTES, INPUT_BYTES}
+use Rattle.al_rules.specs.Refusals.{Noted, accepted}
 use Rattle.al_io.specs.Contents.{Contents, contents_of}
 use Rattle.al_rules.specs.declared.faults.Refusal.TheVariants.{Lexical}
 use Rattle.al_source.specs.declared.faults.LexFault.TheVariants as lex
-use Rattle.al_rules.specs.Refusals.{accepted}
 use Rattle.al_serve.specs.declared.answers.Answer.{Answer}
 use Rattle.al_serve.specs.Plans.{Plan, Answers, played}
 use Rattle.al_serve.specs.Outcome.{IsOneOf, Writes}
@@ -25,26 +25,26 @@ le_or_lt m n = grind arith
 
 -- ---- the bytes that are read of a file are as good as all of them
 
-long_source : (source : List ℕ) → 1048576 < length source → accepted source ≡ Err (Lexical lex.TooLong)
+long_source : (source : List ℕ) → SOURCE_BYTES < length source → accepted source ≡ Err (Lexical lex.TooLong)
 unfolding accepted
-long_source source h = let long : nat_lt 1048576 (length source) ≡ true = search (rules, h) in rw long refl
+long_source source h = let long : nat_lt SOURCE_BYTES (length source) ≡ true = search (rules, h) in rw long refl
 
 source_by_length : (source : List ℕ) → (length source ≤ most_of_source) ⊎ (most_of_source < length source) → accepted (take most_of_source source) ≡ accepted source
 source_by_length source (inl few) = rw (take_all most_of_source source few) refl
 source_by_length source (inr many) =
-    let cut : 1048576 < length (take most_of_source source) = rw (length-take most_of_source source) (omega arith) in
+    let cut : SOURCE_BYTES < length (take most_of_source source) = rw (length-take most_of_source source) (omega arith) in
     long_source (take most_of_source source) cut ∙ sym (long_source source (omega arith))
 
 same_source : (source : List ℕ) → accepted (take most_of_source source) ≡ accepted source
 same_source source = source_by_length source (le_or_lt (length source) most_of_source)
 
-long_input : (text : List ℕ) → 33554432 < length text → numbers_of text ≡ Err TooLong
-long_input text h = let long : nat_le (length text) 33554432 ≡ false = search (rules, h) in rw long refl
+long_input : (text : List ℕ) → INPUT_BYTES < length text → numbers_of text ≡ Err TooLong
+long_input text h = let long : nat_le (length text) INPUT_BYTES ≡ false = search (rules, h) in rw long refl
 
 input_by_length : (text : List ℕ) → (length text ≤ most_of_input) ⊎ (most_of_input < length text) → numbers_of (take most_of_input text) ≡ numbers_of text
 input_by_length text (inl few) = rw (take_all most_of_input text few) refl
 input_by_length text (inr many) =
-    let cut : 33554432 < length (take most_of_input text) = rw (length-take most_of_input text) (omega arith) in
+    let cut : INPUT_BYTES < length (take most_of_input text) = rw (length-take most_of_input text) (omega arith) in
     long_input (take most_of_input text) cut ∙ sym (long_input text (omega arith))
 
 same_input : (text : List ℕ) → numbers_of (take most_of_input text) ≡ numbers_of text
@@ -52,8 +52,8 @@ same_input text = input_by_length text (le_or_lt (length text) most_of_input)
 
 -- ---- plans over these files
 
-source_played : (files : Contents) (name source : List ℕ) (typed : Typed) (next : Typed → Plan) → contents_of files name ≡ Some source → accepted source ≡ Ok typed → played files (source_plan name next) ≡ played files (next typed)
-source_played files name source typed next there is = rw (there, same_source source, is) refl
+source_played : (files : Contents) (name source : List ℕ) (program : Noted) (next : Noted → Plan) → contents_of files name ≡ Some source → accepted source ≡ Ok program → played files (source_plan name next) ≡ played files (next program)
+source_played files name source program next there is = rw (there, same_source source, is) refl
 
 input_played : (files : Contents) (r : Option (List ℕ)) (input : List ℤ) (f : List ℤ → Answer) → HasInput files r input → played files (input_plan r (λ ns. Answers (f ns))) ≡ f input
 input_played files None input f h = ap f (sym h)
@@ -68,20 +68,20 @@ shown_by : (words : List (List ℕ)) (files : Contents) → shown words files �
 unfolding plan
 shown_by words files = refl
 
-pub holds_shows : (words : List (List ℕ)) (files : Contents) (t : Task) (job : Job) (typed : Typed) (input : List ℤ) → command words ≡ Ok (asks t job) → Holds words files job typed input
-    → shown words files ≡ task_of t job.knobs (source_name words job) typed input
-holds_shows words files t job typed input e h =
+pub holds_shows : (words : List (List ℕ)) (files : Contents) (t : Task) (job : Job) (program : Noted) (input : List ℤ) → command words ≡ Ok (asks t job) → Holds words files job program input
+    → shown words files ≡ task_of t job.knobs (source_name words job) program input
+holds_shows words files t job program input e h =
     shown_by words files
     ∙ ap (λ r. played files (plan_of words r)) e
     ∙ ap (played files) (plan_asks words t job)
-    ∙ source_played files (source_name words job) h.source typed (after_source t words job) h.there h.is_accepted
-    ∙ input_played files (input_name words job) input (task_of t job.knobs (source_name words job) typed) h.has_input
+    ∙ source_played files (source_name words job) h.source program (after_source t words job) h.there h.is_accepted
+    ∙ input_played files (input_name words job) input (task_of t job.knobs (source_name words job) program) h.has_input
 
 pub valid_status : (words : List (List ℕ)) (files : Contents) → IsValid words files → IsOneOf (0 ∷ 3 ∷ []) (shown words files).status
-valid_status words files (to_run t job typed input e h) = subst (λ (a : Answer). IsOneOf (0 ∷ 3 ∷ []) a.status) (sym (holds_shows words files t job typed input e h)) (task_status t job.knobs (source_name words job) typed input)
-valid_status words files (to_check job source typed e there is) =
-    let same = shown_by words files ∙ ap (λ r. played files (plan_of words r)) e ∙ source_played files (source_name words job) source typed _ there is in
+valid_status words files (to_run t job program input e h) = subst (λ (a : Answer). IsOneOf (0 ∷ 3 ∷ []) a.status) (sym (holds_shows words files t job program input e h)) (task_status t job.knobs (source_name words job) program input)
+valid_status words files (to_check job source program e there is) =
+    let same = shown_by words files ∙ ap (λ r. played files (plan_of words r)) e ∙ source_played files (source_name words job) source program _ there is in
     inl (ap (λ (a : Answer). a.status) same)
-valid_status words files (to_show start size knobs typed e is) =
+valid_status words files (to_show start size knobs program e is) =
     let same = shown_by words files ∙ ap (λ r. played files (plan_of words r)) e in
-    subst (λ (a : Answer). IsOneOf (0 ∷ 3 ∷ []) a.status) (sym same) (rw is (totals_status (codes "demo") typed _ knobs))
+    subst (λ (a : Answer). IsOneOf (0 ∷ 3 ∷ []) a.status) (sym same) (rw is (totals_status (codes "demo") program _ knobs))

@@ -1,12 +1,14 @@
 -- What words show, over files of known contents: a status, and what is written to standard output and standard error.
-use Rattle.std.specs.Prelude.{ℕ, ◌==◌, if◌then◌else◌, List, [], ◌∷◌, ◌++◌, map, codes, Option, Some, None, Result, Ok, Err, ℤ}
+use Rattle.std.specs.Prelude.{ℕ, ◌+◌, ◌==◌, if◌then◌else◌, List, [], ◌∷◌, ◌++◌, map, codes, Option, Some, None, Result, Ok, Err, ℤ}
+use Rattle.al_source.specs.declared.limits.TheConstants.{SOURCE_BYTES, INPUT_BYTES}
 use Rattle.al_core.specs.declared.choices.Choice.{Choice}
 use Rattle.al_core.specs.declared.choices.Knobs.{Knobs}
+use Rattle.al_core.specs.declared.choices.LoopInfo.{LoopInfo}
 use Rattle.al_core.specs.declared.reports.Ending.{Ending}
 use Rattle.al_core.specs.declared.reports.Ending.TheVariants as ending
 use Rattle.al_core.specs.declared.reports.Report.{Report}
-use Rattle.al_core.specs.declared.typed_tree.TNote.{TNote}
-use Rattle.al_core.specs.declared.typed_tree.Typed.{Typed}
+use Rattle.al_rules.specs.Refusals.{Noted, accepted}
+use Rattle.al_core.specs.Lines.{with_line}
 use Rattle.al_core.specs.Run.{sizes_of}
 use Rattle.al_core.specs.Report.{report}
 use Rattle.al_gen.specs.Generated.{source as made_source, input as made_input}
@@ -14,7 +16,6 @@ use Rattle.al_io.specs.Contents.{Contents}
 use Rattle.al_report.specs.Traces.{trace_text, totals_text, trap_text}
 use Rattle.al_report.specs.Faults.{input_text}
 use Rattle.al_rules.specs.declared.faults.Refusal.{Refusal}
-use Rattle.al_rules.specs.Refusals.{accepted}
 use Rattle.al_serve.specs.declared.answers.Answer.{Answer}
 use Rattle.al_serve.specs.Plans.{Plan, Reads, Answers, failed, played}
 use Rattle.al_text.specs.declared.faults.InputFault.{InputFault}
@@ -30,20 +31,20 @@ use Rattle.al_cli.specs.Lines.{word_line, refusal_line}
 
 -- ---- runs
 
--- every annotated loop in rounds, by its own annotation
-abbrev pub own_choices : Typed → List (Option Choice)
-own_choices typed = map (λ (note : TNote). Some note.own) typed.loops
+-- every annotated loop in rounds, by its own annotation with lines of so many words
+abbrev pub own_choices : ℕ → Noted → List (Option Choice)
+own_choices line program = map (λ (info : LoopInfo). Some (with_line line info.own)) program.1
 
 -- every loop plain
-abbrev pub no_choices : Typed → List (Option Choice)
-no_choices typed = map (λ (note : TNote). None) typed.loops
+abbrev pub no_choices : Noted → List (Option Choice)
+no_choices program = map (λ (info : LoopInfo). None) program.1
 
 -- the report of a program's run in lockstep, on one thread
-abbrev pub lockstep_report : Typed → List ℤ → Knobs → Report
-lockstep_report typed input knobs = report typed input (sizes_of knobs) (own_choices typed)
+abbrev pub lockstep_report : Noted → List ℤ → Knobs → Report
+lockstep_report program input knobs = report program.0 input (sizes_of knobs) (own_choices knobs.line program)
 
-abbrev pub plain_report : Typed → List ℤ → Knobs → Report
-plain_report typed input knobs = report typed input (sizes_of knobs) (no_choices typed)
+abbrev pub plain_report : Noted → List ℤ → Knobs → Report
+plain_report program input knobs = report program.0 input (sizes_of knobs) (no_choices program)
 
 -- ---- answers
 
@@ -67,26 +68,26 @@ trace_of name r = ended name r.ending (trace_text r)
 abbrev pub totals_of : List ℕ → Report → Answer
 totals_of name r = ended name r.ending (r.output ++ totals_text r)
 
-abbrev pub task_of : Task → Knobs → List ℕ → Typed → List ℤ → Answer
-task_of task.Run knobs name typed input = bytes_of name (lockstep_report typed input knobs)
-task_of task.Plain knobs name typed input = bytes_of name (plain_report typed input knobs)
-task_of task.Trace knobs name typed input = trace_of name (lockstep_report typed input knobs)
+abbrev pub task_of : Task → Knobs → List ℕ → Noted → List ℤ → Answer
+task_of task.Run knobs name program input = bytes_of name (lockstep_report program input knobs)
+task_of task.Plain knobs name program input = bytes_of name (plain_report program input knobs)
+task_of task.Trace knobs name program input = trace_of name (lockstep_report program input knobs)
 
 -- ---- what is read
 
 -- one byte more than a source may have, and one more than an input may have
 abbrev pub most_of_source : ℕ
-most_of_source = 1048577
+most_of_source = SOURCE_BYTES + 1
 
 abbrev pub most_of_input : ℕ
-most_of_input = 33554433
+most_of_input = INPUT_BYTES + 1
 
-abbrev pub if_accepted : List ℕ → (Typed → Plan) → Result Typed Refusal → Plan
-if_accepted name next (Ok typed) = next typed
+abbrev pub if_accepted : List ℕ → (Noted → Plan) → Result Noted Refusal → Plan
+if_accepted name next (Ok program) = next program
 if_accepted name next (Err cause) = Answers (failed 1 (refusal_line name cause))
 
 -- A source is read, and refused or gone on with.
-abbrev pub source_plan : List ℕ → (Typed → Plan) → Plan
+abbrev pub source_plan : List ℕ → (Noted → Plan) → Plan
 source_plan name next = Reads name most_of_source (λ source. if_accepted name next (accepted source))
 
 abbrev pub if_numbers : List ℕ → (List ℤ → Plan) → Result (List ℤ) InputFault → Plan
@@ -105,19 +106,20 @@ abbrev pub input_name : List (List ℕ) → Job → Option (List ℕ)
 input_name words job = if job.count == 2 then Some (word_at words (place job.names 1)) else None
 
 -- the input, and then the run
-abbrev pub after_source : Task → List (List ℕ) → Job → Typed → Plan
-after_source t words job typed = input_plan (input_name words job) (λ input. Answers (task_of t job.knobs (source_name words job) typed input))
+abbrev pub after_source : Task → List (List ℕ) → Job → Noted → Plan
+after_source t words job program =
+    input_plan (input_name words job) (λ input. Answers (task_of t job.knobs (source_name words job) program input))
 
 abbrev pub job_plan : Task → List (List ℕ) → Job → Plan
 job_plan t words job = source_plan (source_name words job) (after_source t words job)
 
 abbrev pub check_plan : List (List ℕ) → Job → Plan
-check_plan words job = source_plan (source_name words job) (λ typed. Answers (done (codes "ok\n")))
+check_plan words job = source_plan (source_name words job) (λ program. Answers (done (codes "ok\n")))
 
 -- the generated program, by the name `demo`
 abbrev pub demo_plan : ℕ → ℕ → Knobs → Plan
 demo_plan start size knobs =
-    if_accepted (codes "demo") (λ typed. Answers (totals_of (codes "demo") (lockstep_report typed (made_input start size) knobs))) (accepted made_source)
+    if_accepted (codes "demo") (λ program. Answers (totals_of (codes "demo") (lockstep_report program (made_input start size) knobs))) (accepted made_source)
 
 abbrev pub plan_of : List (List ℕ) → Result Command WordFault → Plan
 plan_of words (Ok (Run job)) = job_plan task.Run words job

@@ -1,6 +1,6 @@
 -- A part of a plan: what it gives, and that whatever comes next comes of the whole.
 use Rattle.std.specs.Prelude.{ℕ, List, Option, ℤ}
-use Rattle.al_core.specs.declared.typed_tree.Typed.{Typed}
+use Rattle.al_rules.specs.Refusals.{Noted}
 use Rattle.al_serve.specs.declared.answers.Answer.{Answer}
 use Rattle.al_serve.specs.Plans.{Plan}
 use Rattle.al_serve.specs.Seen.{FilesSeen}
@@ -16,11 +16,11 @@ pub record GoesOn {A : Type 0} (whole : (A → Plan) → Plan) (old new : FilesS
   pub starved : (next : A → Plan) (last : FilesSeen) → Starved (next a) new last → Starved (whole next) old last
 
 abbrev pub SourceComes : List ℕ → FilesSeen → FilesSeen → SourceStep → Type 0
-SourceComes name old new (source.Accepted typed) = GoesOn (source_plan name) old new typed
-SourceComes name old new (source.Answered a) = (next : Typed → Plan) → Came (source_plan name next) old new a
+SourceComes name old new (source.Accepted program) = GoesOn (source_plan name) old new program
+SourceComes name old new (source.Answered a) = (next : Noted → Plan) → Came (source_plan name next) old new a
 
 abbrev pub SourceStarved : List ℕ → FilesSeen → FilesSeen → Type 0
-SourceStarved name old new = (next : Typed → Plan) → Starved (source_plan name next) old new
+SourceStarved name old new = (next : Noted → Plan) → Starved (source_plan name next) old new
 
 abbrev pub InputComes : Option (List ℕ) → FilesSeen → FilesSeen → InputStep → Type 0
 InputComes name old new (input.Numbers ns) = GoesOn (input_plan name) old new ns

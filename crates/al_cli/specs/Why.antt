@@ -1,11 +1,10 @@
 -- Why an answer is given, whether or not the files tell their contents.
 use Rattle.std.specs.Prelude.{◌≡◌, ℕ, List, [], codes, Option, Some, None, Ok, Err, ℤ}
 use Rattle.al_core.specs.declared.choices.Knobs.{Knobs}
-use Rattle.al_core.specs.declared.typed_tree.Typed.{Typed}
+use Rattle.al_rules.specs.Refusals.{Noted, accepted}
 use Rattle.al_gen.specs.Generated.{source as made_source, input as made_input}
 use Rattle.al_report.specs.Faults.{input_text}
 use Rattle.al_rules.specs.declared.faults.Refusal.{Refusal}
-use Rattle.al_rules.specs.Refusals.{accepted}
 use Rattle.al_serve.specs.declared.answers.Answer.{Answer}
 use Rattle.al_serve.specs.Plans.{failed}
 use Rattle.al_text.specs.declared.faults.InputFault.{InputFault}
@@ -46,10 +45,10 @@ pub data Why (words : List (List ℕ)) : Answer → Type 0 where
   input_refused : (t : Task) (job : Job) (name text : List ℕ) (fault : InputFault) → command words ≡ Ok (asks t job) → input_name words job ≡ Some name → numbers_of text ≡ Err fault
       → Why words (failed 7 (input_text name fault))
   -- status 0 or 3: the program was run
-  program_run : (t : Task) (job : Job) (source : List ℕ) (typed : Typed) (input : List ℤ) → command words ≡ Ok (asks t job) → accepted source ≡ Ok typed → AreNumbers (input_name words job) input
-      → Why words (task_of t job.knobs (source_name words job) typed input)
+  program_run : (t : Task) (job : Job) (source : List ℕ) (program : Noted) (input : List ℤ) → command words ≡ Ok (asks t job) → accepted source ≡ Ok program → AreNumbers (input_name words job) input
+      → Why words (task_of t job.knobs (source_name words job) program input)
   -- status 0: the program is accepted
-  program_accepted : (job : Job) (source : List ℕ) (typed : Typed) → command words ≡ Ok (Check job) → accepted source ≡ Ok typed → Why words (done (codes "ok\n"))
+  program_accepted : (job : Job) (source : List ℕ) (program : Noted) → command words ≡ Ok (Check job) → accepted source ≡ Ok program → Why words (done (codes "ok\n"))
   -- status 0 or 3: the generated program was run
-  program_shown : (start size : ℕ) (knobs : Knobs) (typed : Typed) → command words ≡ Ok (Demo start size knobs) → accepted made_source ≡ Ok typed
-      → Why words (totals_of (codes "demo") (lockstep_report typed (made_input start size) knobs))
+  program_shown : (start size : ℕ) (knobs : Knobs) (program : Noted) → command words ≡ Ok (Demo start size knobs) → accepted made_source ≡ Ok program
+      → Why words (totals_of (codes "demo") (lockstep_report program (made_input start size) knobs))

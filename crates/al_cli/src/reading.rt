@@ -5,10 +5,10 @@ ghost use Rattle.al_cli.specs.Shown as spec;
 ghost use Rattle.al_cli.specs.Steps.{SourceComes, SourceStarved, InputComes, InputStarved};
 
 use crate::lines::{refusal_line, word_at};
-use al_core::Typed;
-use al_front::{FrontFault, resolve};
+use al_front::{FrontFault, Noted, resolve};
 use al_io::Files;
 use al_report::input_text;
+use al_source::limits::{INPUT_BYTES, SOURCE_BYTES};
 use al_serve::{Answer, FileRead, failed, read_file};
 use al_text::{InputFault, read_numbers};
 use al_words::Job;
@@ -16,10 +16,10 @@ use sqlite_items::Items;
 use std::alloc::{AllocError, Global};
 
 /// One byte more than a source may have.
-const MOST_OF_SOURCE: usize = 1048577;
+const MOST_OF_SOURCE: usize = SOURCE_BYTES + 1;
 
 /// One byte more than an input may have.
-const MOST_OF_INPUT: usize = 33554433;
+const MOST_OF_INPUT: usize = INPUT_BYTES + 1;
 
 const REFUSED: u8 = 1;
 
@@ -28,7 +28,7 @@ const INPUT_REFUSED: u8 = 7;
 /// What a source comes to.
 #[derive(Drop)]
 pub enum SourceStep {
-    Accepted(Typed),
+    Accepted(Noted),
     Answered(Answer),
 }
 
@@ -63,7 +63,7 @@ pub fn source_step<F: Files>(
         FileRead::Unread(answer) => return Ok(SourceStep::Answered(answer)),
     };
     match resolve(alloc, source.as_slice()) {
-        Ok(typed) => Ok(SourceStep::Accepted(typed)),
+        Ok(program) => Ok(SourceStep::Accepted(program)),
         Err(FrontFault::Refused(cause)) => {
             let line = refusal_line(alloc, name, cause)?;
             Ok(SourceStep::Answered(failed(alloc, REFUSED, line)))

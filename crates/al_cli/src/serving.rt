@@ -13,7 +13,8 @@ use crate::lines::word_line;
 use crate::reading::{InputStep, SourceStep, input_step, source_name, source_step};
 use crate::runs::{demo_of, task_of};
 use crate::tasks::Task;
-use al_core::{Knobs, Typed};
+use al_core::Knobs;
+use al_front::Noted;
 use al_io::{Files, Sink};
 use al_serve::{Answer, deliver, failed};
 use al_words::{Command, Job, WordFault, read_words};
@@ -83,7 +84,7 @@ fn job_answer<F: Files>(
 {
     let name = source_name(words, job);
     match source_step(alloc, name, files)? {
-        SourceStep::Accepted(typed) => input_answer(alloc, words, job, task, &typed, files),
+        SourceStep::Accepted(program) => input_answer(alloc, words, job, task, &program, files),
         SourceStep::Answered(answer) => Ok(answer),
     }
 }
@@ -94,19 +95,19 @@ fn input_answer<F: Files>(
     words: &[String],
     job: &Job,
     task: Task,
-    typed: &Typed,
+    program: &Noted,
     files: &mut F,
 ) -> Result<Answer, AllocError>
     requires { AreInRange job.now.knobs }
-    ensures ok { IfOk result (Came (spec.after_source task (map string_bytes words.now) job.now typed.now)
+    ensures ok { IfOk result (Came (spec.after_source task (map string_bytes words.now) job.now program.now)
         (files_seen F.contents F.calls F.faults files.old) (files_seen F.contents F.calls F.faults files.new)) }
-    ensures err { OnErr result (Starved (spec.after_source task (map string_bytes words.now) job.now typed.now)
+    ensures err { OnErr result (Starved (spec.after_source task (map string_bytes words.now) job.now program.now)
         (files_seen F.contents F.calls F.faults files.old) (files_seen F.contents F.calls F.faults files.new)) }
 {
     match input_step(alloc, words, job, files)? {
         InputStep::Numbers(input) => {
             let name = source_name(words, job);
-            task_of(alloc, task, &job.knobs, name, typed, input.as_slice())
+            task_of(alloc, task, &job.knobs, name, program, input.as_slice())
         }
         InputStep::Answered(answer) => Ok(answer),
     }

@@ -1,5 +1,5 @@
 ghost use Rattle.std.specs.Prelude.{◌≡◌, ◌≢◌, ◌⊎◌, [], ◌∷◌, List, ℤ, length, map, string_bytes, Ok, IfSome, IsErr, IsSomeAnd};
-ghost use Rattle.al_core.specs.declared.typed_tree.Typed.{Typed};
+ghost use Rattle.al_rules.specs.Refusals.{Noted};
 ghost use Rattle.al_plain.specs.Bounded.{RoundsFit};
 ghost use Rattle.al_io.specs.Counts.{DidNotRise, MayHaveRisen, HasRisen};
 ghost use Rattle.al_serve.specs.Plans.{reads_on};
@@ -29,19 +29,19 @@ pub fn alter<F: Files, O: Sink, E: Sink>(
 ) -> u8
     // Where no file or sink fails and memory is found, `alter run` of an accepted program writes the bytes and ends with
     // the status of the one-thread lockstep machine, traps and spent budgets included.
-    ensures headline { (job : Job) → (typed : Typed) → (input : List ℤ)
+    ensures headline { (job : Job) → (program : Noted) → (input : List ℤ)
         → words_spec.command (map string_bytes words.now) ≡ Ok (command.Run job)
         → DidNotRise (F.faults files.old) (F.faults files.new)
         → DidNotRise (O.faults out.old) (O.faults out.new) → DidNotRise (E.faults err.old) (E.faults err.new)
         → result ≢ 6 → IfSome (F.contents files.old) (λ contents.
-        Holds (map string_bytes words.now) contents job typed input
-        → Writes (spec.bytes_of (spec.source_name (map string_bytes words.now) job) (spec.lockstep_report typed input job.knobs)) result
+        Holds (map string_bytes words.now) contents job program input
+        → Writes (spec.bytes_of (spec.source_name (map string_bytes words.now) job) (spec.lockstep_report program input job.knobs)) result
         (O.written out.old) (O.written out.new) (E.written err.old) (E.written err.new)) }
 
     // In that run no execution of a loop has more rounds than chunks.
-    ensures rounds { (job : Job) → (typed : Typed) → (input : List ℤ)
+    ensures rounds { (job : Job) → (program : Noted) → (input : List ℤ)
         → words_spec.command (map string_bytes words.now) ≡ Ok (command.Run job)
-        → RoundsFit (spec.lockstep_report typed input job.knobs).events }
+        → RoundsFit (spec.lockstep_report program input job.knobs).events }
 
     // Where nothing fails and memory is found, status and bytes are those that the words show over these files.
     ensures shown { DidNotRise (F.faults files.old) (F.faults files.new)

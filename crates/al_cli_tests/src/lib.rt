@@ -6,6 +6,8 @@ mod calls;
 #[cfg(test)]
 mod failures;
 #[cfg(test)]
+mod freeing;
+#[cfg(test)]
 mod limits;
 #[cfg(test)]
 mod rows;

@@ -10,7 +10,7 @@ const NUMBERS: File<'static> = File {
 };
 
 /// Words with the status and both texts that they give.
-type Row = (&'static str, u8, &'static str, &'static str);
+pub type Row = (&'static str, u8, &'static str, &'static str);
 
 /// Whether words over the program of this name give what the row says.
 fn holds(alloc: Global, name: &str, text: &str, row: &Row) -> Result<bool, AllocError> {
@@ -20,7 +20,7 @@ fn holds(alloc: Global, name: &str, text: &str, row: &Row) -> Result<bool, Alloc
 }
 
 /// The first row that does not hold.
-fn broken(
+pub fn broken(
     alloc: Global,
     name: &str,
     text: &str,
@@ -35,13 +35,13 @@ fn broken(
 }
 
 /// A text in which the first such piece is another.
-fn changed(alloc: Global, text: &str, old: &str, new: &str) -> Result<String, AllocError> {
+pub fn changed(alloc: Global, text: &str, old: &str, new: &str) -> Result<String, AllocError> {
     let (before, after) = text.split_once(old).unwrap_or((text, ""));
     format!(in alloc; "{before}{new}{after}")
 }
 
 /// Whether the trace that words ask for ends in this text.
-fn ends_in<'a>(
+pub fn ends_in<'a>(
     alloc: Global,
     words: &'a str,
     text: &'a str,

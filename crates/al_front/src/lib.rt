@@ -5,4 +5,4 @@ mod fault;
 mod resolving;
 
 pub use fault::FrontFault;
-pub use resolving::resolve;
+pub use resolving::{Noted, resolve};

@@ -15,9 +15,12 @@ use al_types::check;
 use sqlite_items::Items;
 use std::alloc::Global;
 
+/// A typed tree, and the entries of its annotated loops, by their numbers.
+pub type Noted = (Typed, Items<LoopInfo>);
+
 /// The typed tree of a source and the entries of its annotated loops, by their numbers, or the first cause for which the
 /// source is refused.
-pub fn resolve(alloc: Global, source: &[u8]) -> Result<(Typed, Items<LoopInfo>), FrontFault>
+pub fn resolve(alloc: Global, source: &[u8]) -> Result<Noted, FrontFault>
     ensures { Meets result (spec.accepted source.now) }
 {
     let tokens = tokens_of(alloc, source)?;
@@ -65,7 +68,7 @@ fn tree_of(alloc: Global, program: &Program) -> Result<Typed, FrontFault>
 fn annotated_well(
     alloc: Global,
     typed: Typed,
-) -> Result<(Typed, Items<LoopInfo>), FrontFault>
+) -> Result<Noted, FrontFault>
     ensures { Meets result (spec.annotated_well typed) }
 {
     match notes(alloc, &typed) {

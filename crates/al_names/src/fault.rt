@@ -3,8 +3,7 @@ ghost use Rattle.al_rules.specs.Checks as spec;
 ghost use Rattle.al_rules.specs.Checks.{Checked};
 ghost use Rattle.al_rules.specs.Walks.{at_line};
 ghost use Rattle.al_source.specs.Answers.{Gives};
-ghost use Rattle.al_rules.specs.Faults.{typed as type_of};
-ghost use Rattle.al_names.specs.Steps.{kind_of};
+ghost use Rattle.al_names.specs.Steps.{Tells, kind_of};
 
 use al_rules::{TypeFault, TypeKind};
 use std::alloc::AllocError;
@@ -48,7 +47,7 @@ pub fn some_or<T: Drop>(found: Option<T>, kind: TypeKind) -> Result<T, Fault>
 
 /// The same with the line of the statement or item.
 pub fn at_line<T>(line: u32, r: Result<T, Fault>) -> Result<T, TypeFault>
-    ensures { (told : Checked T) → Gives kind_of told r → Gives type_of (at_line line told) result }
+    ensures { (told : Checked T) → Gives kind_of told r → Tells (at_line line told) result }
 {
     match r {
         Ok(a) => Ok(a),

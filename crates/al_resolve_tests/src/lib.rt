@@ -8,6 +8,8 @@ mod annotations;
 #[cfg(test)]
 mod causes;
 #[cfg(test)]
+mod freeing;
+#[cfg(test)]
 mod items;
 #[cfg(test)]
 mod names;

@@ -1,5 +1,5 @@
 -- Items behind those before them, and behind what those define.
-use Rattle.std.proofs.Common.{◌≡◌, ℕ, true≢false, Bool, true, false, not, ◌||◌, List, [], ◌∷◌, ◌++◌, map, Result, Ok, Err, refl, sym, ap, ap₂, ◌∙◌, append_assoc, append-nil, if◌then◌else◌}
+use Rattle.std.proofs.Common.{◌≡◌, ℕ, ◌≤◌, true≢false, Bool, true, false, not, ◌||◌, List, [], ◌∷◌, ◌++◌, map, length, get_or, Option, Some, None, Result, Ok, Err, refl, sym, ap, ap₂, ◌∙◌, append_assoc, append-nil, arith, if◌then◌else◌}
 use Rattle.std.specs.Str.{bytes_eq}
 use Rattle.std.proofs.lemmas.List.{map_push}
 use Rattle.std.proofs.lemmas.List.Folds.{list_any-append}
@@ -11,6 +11,7 @@ use Rattle.al_source.specs.declared.source_tree.Func.{Func}
 use Rattle.al_source.specs.declared.source_tree.Item.{Item}
 use Rattle.al_source.specs.declared.source_tree.Item.TheVariants as item
 use Rattle.al_rules.specs.declared.faults.TypeKind.TheVariants.{Twice, Shape}
+use Rattle.al_rules.specs.declared.faults.TypeKind.{TypeKind}
 use Rattle.al_rules.specs.declared.faults.TypeFault.{TypeFault}
 use Rattle.al_rules.specs.declared.layout.Layout.{Layout}
 use Rattle.al_rules.specs.Names.{Name, any_named}
@@ -21,10 +22,21 @@ use Rattle.al_rules.specs.Scopes.{Known, is_struct, structs_in, globals_in, func
 use Rattle.al_rules.specs.Walks.{at_line}
 use Rattle.al_rules.specs.Programs.{fields_checked, item_checked, items_checked, is_empty, is_taken}
 use Rattle.al_names.specs.NameLists.{named_in, with_name}
-use Rattle.al_names.specs.Definitions.{fields_by, item_by, items_by, with_definition}
+use Rattle.al_source.specs.Answers.{Fails}
+use Rattle.al_names.specs.Definitions.{field_by, fields_by, item_by, items_by, with_definition}
 use Rattle.al_names.proofs.NameLookups.{any_of_names}
 
 -- ---- fields
+
+-- the first fault of fields is that of their first one
+pub fields_stop : (known anywhere : Name → Bool) (allowed : Form → Bool) (names : List Name) (fs : List Field) (f : Field) → 1 ≤ length fs
+    → f ≡ get_or fs 0 f → (fault : Option TypeKind) → Fails (field_by known anywhere allowed names f) fault
+    → Fails (fields_by known anywhere allowed names fs) fault
+fields_stop known anywhere allowed names [] f some is fault h = absurd (omega arith)
+fields_stop known anywhere allowed names (g ∷ fs) f some is (Some kind) h =
+    ap (λ (r : Checked (Unit {0})). and_then r (λ _. fields_by known anywhere allowed (names ++ g.name ∷ []) fs))
+    (ap (field_by known anywhere allowed names) (sym is) ∙ h)
+fields_stop known anywhere allowed names (g ∷ fs) f some is None h = tt
 
 fields_as : (items before : List Item) (allowed : Form → Bool) (earlier fs : List Field)
     → fields_by (is_struct (structs_in before)) (is_struct (structs_in items)) allowed (map (λ f. f.name) earlier) fs ≡ fields_checked items before allowed earlier fs

@@ -4,8 +4,7 @@ ghost use Rattle.al_core.specs.declared.typed_tree.TKind.TheVariants as k;
 ghost use Rattle.al_rules.specs.Statements as spec;
 ghost use Rattle.al_types.specs.Parts as parts;
 ghost use Rattle.al_types.specs.Sorts.{allowed_at};
-ghost use Rattle.al_source.specs.Answers.{Walks};
-ghost use Rattle.al_rules.specs.Faults.{typed as type_of};
+ghost use Rattle.al_types.specs.Steps.{Walks};
 
 use crate::checker::{Checker, break_loop, continue_loop};
 use crate::progress::Progress;
@@ -43,7 +42,7 @@ impl<'k, 'a> Checker<'k, 'a> {
         s: &'a Stmt,
         looped: bool,
     ) -> Result<Boxed<TStmt>, TypeFault>
-        ensures walks { Walks type_of (spec.part_if (allowed_at spot) (spec.part self.now.known.now self.now.func self.now.gives.now s.entry.now) looped p.old) result p.new }
+        ensures walks { Walks (spec.part_if (allowed_at spot) (spec.part self.now.known.now self.now.func self.now.gives.now s.entry.now) looped p.old) result p.new }
         ensures outer { OnOk result (p.new.scope.outer ≡ p.old.scope.outer) }
     {
         if !spot.allows(sort_of(&s.kind)) {
@@ -61,7 +60,7 @@ impl<'k, 'a> Checker<'k, 'a> {
         s: &'a Option<Boxed<Stmt>>,
         looped: bool,
     ) -> Result<Option<Boxed<TStmt>>, TypeFault>
-        ensures walks { Walks type_of (spec.any_part (allowed_at spot) (parts.any_of self.now.known.now self.now.func self.now.gives.now s.entry.now) looped p.old) result p.new }
+        ensures walks { Walks (spec.any_part (allowed_at spot) (parts.any_of self.now.known.now self.now.func self.now.gives.now s.entry.now) looped p.old) result p.new }
         ensures outer { OnOk result (p.new.scope.outer ≡ p.old.scope.outer) }
     {
         match s {
@@ -73,7 +72,7 @@ impl<'k, 'a> Checker<'k, 'a> {
     #[cycle(statements)]
     #[tactic(auto, using(crate::proofs::StatementRules::of_statements), unfolding(al_rules::specs::Walks::bind, al_rules::specs::Walks::pure))]
     fn statement(&self, p: &mut Progress<'a>, s: &'a Stmt, looped: bool) -> Result<TStmt, TypeFault>
-        ensures walks { Walks type_of ((spec.part self.now.known.now self.now.func self.now.gives.now s.entry.now).walk looped p.old) result p.new }
+        ensures walks { Walks ((spec.part self.now.known.now self.now.func self.now.gives.now s.entry.now).walk looped p.old) result p.new }
         ensures outer { OnOk result (p.new.scope.outer ≡ p.old.scope.outer) }
     {
         let kind = self.kind(p, &s.kind, s.line, looped)?;
@@ -89,7 +88,7 @@ impl<'k, 'a> Checker<'k, 'a> {
         ss: &'a [Stmt],
         looped: bool,
     ) -> Result<Items<TStmt>, TypeFault>
-        ensures walks { Walks type_of (spec.statements self.now.known.now self.now.func self.now.gives.now looped ss.entry.now p.old) result p.new }
+        ensures walks { Walks (spec.statements self.now.known.now self.now.func self.now.gives.now looped ss.entry.now p.old) result p.new }
         ensures outer { OnOk result (p.new.scope.outer ≡ p.old.scope.outer) }
     {
         let mut done = Items::new(self.alloc);
@@ -109,7 +108,7 @@ impl<'k, 'a> Checker<'k, 'a> {
         line: u32,
         looped: bool,
     ) -> Result<(Boxed<TExpr>, Boxed<TStmt>), TypeFault>
-        ensures walks { Walks type_of (parts.tested self.now.known.now self.now.func self.now.gives.now line looped test.now (spec.part self.now.known.now self.now.func self.now.gives.now s.entry.now) p.old) result p.new }
+        ensures walks { Walks (parts.tested self.now.known.now self.now.func self.now.gives.now line looped test.now (spec.part self.now.known.now self.now.func self.now.gives.now s.entry.now) p.old) result p.new }
         ensures outer { OnOk result (p.new.scope.outer ≡ p.old.scope.outer) }
     {
         let c = self.condition(p, test, line)?;
@@ -126,7 +125,7 @@ impl<'k, 'a> Checker<'k, 'a> {
         own: Option<Choice>,
         line: u32,
     ) -> Result<(Boxed<TStmt>, Option<u32>), TypeFault>
-        ensures walks { Walks type_of (spec.looped_body self.now.known.now self.now.func self.now.gives.now line own (spec.part self.now.known.now self.now.func self.now.gives.now body.entry.now) p.old) result p.new }
+        ensures walks { Walks (spec.looped_body self.now.known.now self.now.func self.now.gives.now line own (spec.part self.now.known.now self.now.func self.now.gives.now body.entry.now) p.old) result p.new }
         ensures outer { OnOk result (p.new.scope.outer ≡ p.old.scope.outer) }
     {
         match own {
@@ -148,7 +147,7 @@ impl<'k, 'a> Checker<'k, 'a> {
         line: u32,
         looped: bool,
     ) -> Result<TKind, TypeFault>
-        ensures walks { Walks type_of ((spec.kind_part self.now.known.now self.now.func self.now.gives.now (stmt.Block ss.entry.now)).walk line looped p.old) result p.new }
+        ensures walks { Walks ((spec.kind_part self.now.known.now self.now.func self.now.gives.now (stmt.Block ss.entry.now)).walk line looped p.old) result p.new }
         ensures outer { OnOk result (p.new.scope.outer ≡ p.old.scope.outer) }
     {
         let mark = p.enter();
@@ -165,7 +164,7 @@ impl<'k, 'a> Checker<'k, 'a> {
         line: u32,
         looped: bool,
     ) -> Result<TKind, TypeFault>
-        ensures walks { Walks type_of ((spec.kind_part self.now.known.now self.now.func self.now.gives.now kind.entry.now).walk line looped p.old) result p.new }
+        ensures walks { Walks ((spec.kind_part self.now.known.now self.now.func self.now.gives.now kind.entry.now).walk line looped p.old) result p.new }
         ensures outer { OnOk result (p.new.scope.outer ≡ p.old.scope.outer) }
     {
         match kind {

@@ -12,9 +12,9 @@ ghost use Rattle.al_rules.specs.Scopes.{in_scope, variable_named};
 ghost use Rattle.al_rules.specs.Statements as spec;
 ghost use Rattle.al_rules.specs.Walks as walks;
 ghost use Rattle.al_names.specs.Meanings.{variable_of};
-ghost use Rattle.al_rules.specs.Faults.{typed as type_of};
-ghost use Rattle.al_names.specs.Steps.{kind_of};
-ghost use Rattle.al_source.specs.Answers.{Gives, Walks};
+ghost use Rattle.al_source.specs.Answers.{Gives};
+ghost use Rattle.al_names.specs.Steps.{Tells, kind_of};
+ghost use Rattle.al_types.specs.Steps.{Walks};
 
 use crate::progress::Progress;
 use crate::sorts::may_update;
@@ -164,14 +164,14 @@ fn integers(alloc: Global, mut xs: Queue<Boxed<Operand>>) -> Result<Items<TExpr>
 
 /// A `break` or `continue` stands in a loop.
 fn in_loop(line: u32, looped: bool) -> Result<(), TypeFault>
-    ensures { Gives type_of (walks.at_line line (check.ensure looped Outside)) result }
+    ensures { Tells (walks.at_line line (check.ensure looped Outside)) result }
 {
     at_line(line, ensure(looped, TypeKind::Outside))
 }
 
 #[tactic(auto, unfolding(al_rules::specs::Walks::bind, al_rules::specs::Walks::pure, al_rules::specs::Walks::checks))]
 pub fn break_loop(line: u32, looped: bool) -> Result<TKind, TypeFault>
-    ensures { (known : scopes.Known) (func : ℕ) (gives : ctype.CType) (s : walks.Progress) → Walks type_of (spec.leave known func gives line looped k.Break s) result s }
+    ensures { (known : scopes.Known) (func : ℕ) (gives : ctype.CType) (s : walks.Progress) → Walks (spec.leave known func gives line looped k.Break s) result s }
 {
     in_loop(line, looped)?;
     Ok(TKind::Break)
@@ -179,7 +179,7 @@ pub fn break_loop(line: u32, looped: bool) -> Result<TKind, TypeFault>
 
 #[tactic(auto, unfolding(al_rules::specs::Walks::bind, al_rules::specs::Walks::pure, al_rules::specs::Walks::checks))]
 pub fn continue_loop(line: u32, looped: bool) -> Result<TKind, TypeFault>
-    ensures { (known : scopes.Known) (func : ℕ) (gives : ctype.CType) (s : walks.Progress) → Walks type_of (spec.leave known func gives line looped k.Continue s) result s }
+    ensures { (known : scopes.Known) (func : ℕ) (gives : ctype.CType) (s : walks.Progress) → Walks (spec.leave known func gives line looped k.Continue s) result s }
 {
     in_loop(line, looped)?;
     Ok(TKind::Continue)
@@ -194,7 +194,7 @@ impl<'k, 'a> Checker<'k, 'a> {
         x: &Expr,
         line: u32,
     ) -> Result<Boxed<Operand>, TypeFault>
-        ensures { Walks type_of (spec.operand_of self.now.known.now self.now.func self.now.gives.now line x.now p.now) result p.now }
+        ensures { Walks (spec.operand_of self.now.known.now self.now.func self.now.gives.now line x.now p.now) result p.now }
     {
         at_line(line, operand(self.alloc, self.known, p.scope(), x))
     }
@@ -205,7 +205,7 @@ impl<'k, 'a> Checker<'k, 'a> {
         xs: &[Expr],
         line: u32,
     ) -> Result<Queue<Boxed<Operand>>, TypeFault>
-        ensures { Walks type_of (spec.operands_of self.now.known.now self.now.func self.now.gives.now line xs.now p.now) result p.now }
+        ensures { Walks (spec.operands_of self.now.known.now self.now.func self.now.gives.now line xs.now p.now) result p.now }
     {
         at_line(line, operands(self.alloc, self.known, p.scope(), xs))
     }
@@ -217,7 +217,7 @@ impl<'k, 'a> Checker<'k, 'a> {
         x: &Expr,
         line: u32,
     ) -> Result<Boxed<TExpr>, TypeFault>
-        ensures { Walks type_of (spec.condition self.now.known.now self.now.func self.now.gives.now line x.now p.now) result p.now }
+        ensures { Walks (spec.condition self.now.known.now self.now.func self.now.gives.now line x.now p.now) result p.now }
     {
         let c = self.operand(p, x, line)?;
         at_line(line, scalar(self.alloc, c))
@@ -229,7 +229,7 @@ impl<'k, 'a> Checker<'k, 'a> {
         x: &Option<Expr>,
         line: u32,
     ) -> Result<Option<Boxed<TExpr>>, TypeFault>
-        ensures { Walks type_of (spec.any_condition self.now.known.now self.now.func self.now.gives.now line x.now p.now) result p.now }
+        ensures { Walks (spec.any_condition self.now.known.now self.now.func self.now.gives.now line x.now p.now) result p.now }
     {
         match x {
             Some(x) => Ok(Some(self.condition(p, x, line)?)),
@@ -245,7 +245,7 @@ impl<'k, 'a> Checker<'k, 'a> {
         value: &Option<Expr>,
         line: u32,
     ) -> Result<Boxed<TExpr>, TypeFault>
-        ensures { Walks type_of (spec.initial self.now.known.now self.now.func self.now.gives.now line ty.now value.now p.now) result p.now }
+        ensures { Walks (spec.initial self.now.known.now self.now.func self.now.gives.now line ty.now value.now p.now) result p.now }
     {
         match value {
             Some(v) => {
@@ -265,7 +265,7 @@ impl<'k, 'a> Checker<'k, 'a> {
         value: &Option<Expr>,
         line: u32,
     ) -> Result<TKind, TypeFault>
-        ensures walks { Walks type_of (spec.declare self.now.known.now self.now.func self.now.gives.now line ty.entry.now name.entry.now value.now p.old) result p.new }
+        ensures walks { Walks (spec.declare self.now.known.now self.now.func self.now.gives.now line ty.entry.now name.entry.now value.now p.old) result p.new }
         ensures outer { OnOk result (p.new.scope.outer ≡ p.old.scope.outer) }
     {
         let is_new = !p.scope().declares(name.as_slice());
@@ -284,7 +284,7 @@ impl<'k, 'a> Checker<'k, 'a> {
         b: &Expr,
         line: u32,
     ) -> Result<TKind, TypeFault>
-        ensures { (looped : Bool) → Walks type_of ((spec.kind_part self.now.known.now self.now.func self.now.gives.now (stmt.Assign a.now b.now)).walk line looped p.now) result p.now }
+        ensures { (looped : Bool) → Walks ((spec.kind_part self.now.known.now self.now.func self.now.gives.now (stmt.Assign a.now b.now)).walk line looped p.now) result p.now }
     {
         let to = self.operand(p, a, line)?;
         at_line(line, ensure(is_place(to.get()), TypeKind::NotPlace))?;
@@ -301,7 +301,7 @@ impl<'k, 'a> Checker<'k, 'a> {
         b: &Expr,
         line: u32,
     ) -> Result<TKind, TypeFault>
-        ensures { (looped : Bool) → Walks type_of ((spec.kind_part self.now.known.now self.now.func self.now.gives.now (stmt.Update op a.now b.now)).walk line looped p.now) result p.now }
+        ensures { (looped : Bool) → Walks ((spec.kind_part self.now.known.now self.now.func self.now.gives.now (stmt.Update op a.now b.now)).walk line looped p.now) result p.now }
     {
         at_line(line, ensure(may_update(op), TypeKind::Shape))?;
         let of = self.operand(p, a, line)?;
@@ -318,7 +318,7 @@ impl<'k, 'a> Checker<'k, 'a> {
         args: &[Expr],
         line: u32,
     ) -> Result<TKind, TypeFault>
-        ensures { (looped : Bool) → Walks type_of ((spec.kind_part self.now.known.now self.now.func self.now.gives.now (stmt.Call name.now args.now)).walk line looped p.now) result p.now }
+        ensures { (looped : Bool) → Walks ((spec.kind_part self.now.known.now self.now.func self.now.gives.now (stmt.Call name.now args.now)).walk line looped p.now) result p.now }
     {
         let x = at_line(
             line,
@@ -335,7 +335,7 @@ impl<'k, 'a> Checker<'k, 'a> {
         args: &[Expr],
         line: u32,
     ) -> Result<TKind, TypeFault>
-        ensures { (looped : Bool) → Walks type_of ((spec.kind_part self.now.known.now self.now.func self.now.gives.now (stmt.Print format.now args.now)).walk line looped p.now) result p.now }
+        ensures { (looped : Bool) → Walks ((spec.kind_part self.now.known.now self.now.func self.now.gives.now (stmt.Print format.now args.now)).walk line looped p.now) result p.now }
     {
         let xs = self.operands(p, args, line)?;
         at_line(
@@ -353,7 +353,7 @@ impl<'k, 'a> Checker<'k, 'a> {
         value: &Option<Expr>,
         line: u32,
     ) -> Result<TKind, TypeFault>
-        ensures { Walks type_of (spec.returned self.now.known.now self.now.func self.now.gives.now line value.now p.now) result p.now }
+        ensures { Walks (spec.returned self.now.known.now self.now.func self.now.gives.now line value.now p.now) result p.now }
     {
         match value {
             None => {
@@ -371,13 +371,13 @@ impl<'k, 'a> Checker<'k, 'a> {
 
     /// Where a reduction variable is.
     fn reduced(&self, p: &Progress<'a>, name: &[u8], line: u32) -> Result<Addr, TypeFault>
-        ensures { Walks type_of (walks.checks line (λ scope. and_then (some_or (variable_named self.now.known.now (in_scope scope) name.now) Unknown) spec.variable_at) p.now) result p.now }
+        ensures { Walks (walks.checks line (λ scope. and_then (some_or (variable_named self.now.known.now (in_scope scope) name.now) Unknown) spec.variable_at) p.now) result p.now }
     {
         at_line(line, reduced(self.known, p.scope(), name))
     }
 
     fn reduction(&self, p: &Progress<'a>, r: &NamedRed, line: u32) -> Result<Red, TypeFault>
-        ensures { Walks type_of (spec.reduction self.now.known.now self.now.func self.now.gives.now line r.now p.now) result p.now }
+        ensures { Walks (spec.reduction self.now.known.now self.now.func self.now.gives.now line r.now p.now) result p.now }
     {
         let at = self.reduced(p, r.name.as_slice(), line)?;
         Ok(Red { op: r.op, at })
@@ -390,7 +390,7 @@ impl<'k, 'a> Checker<'k, 'a> {
         mut rs: &[NamedRed],
         line: u32,
     ) -> Result<Items<Red>, TypeFault>
-        ensures { Walks type_of (spec.reductions self.now.known.now self.now.func self.now.gives.now line rs.entry.now p.now) result p.now }
+        ensures { Walks (spec.reductions self.now.known.now self.now.func self.now.gives.now line rs.entry.now p.now) result p.now }
     {
         let mut done = Items::new(self.alloc);
         while let [r, rest @ ..] = rs {
@@ -407,7 +407,7 @@ impl<'k, 'a> Checker<'k, 'a> {
         note: &Option<LoopNote>,
         line: u32,
     ) -> Result<Option<Choice>, TypeFault>
-        ensures { Walks type_of (spec.choice_of self.now.known.now self.now.func self.now.gives.now line note.now p.now) result p.now }
+        ensures { Walks (spec.choice_of self.now.known.now self.now.func self.now.gives.now line note.now p.now) result p.now }
     {
         match note {
             Some(note) => {

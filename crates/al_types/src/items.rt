@@ -10,8 +10,7 @@ ghost use Rattle.al_names.specs.Definitions as by;
 ghost use Rattle.al_names.specs.NameLists.{named_in};
 ghost use Rattle.al_names.specs.Roles.{allowed_for};
 ghost use Rattle.al_source.specs.Answers.{Gives};
-ghost use Rattle.al_rules.specs.Faults.{typed as type_of};
-ghost use Rattle.al_names.specs.Steps.{kind_of};
+ghost use Rattle.al_names.specs.Steps.{Tells, kind_of};
 
 use al_layout::Layout;
 use al_names::fault::{Fault, at_line, ensure};
@@ -110,7 +109,7 @@ fn with_item<'a>(
     anywhere: &Names<'_>,
     item: &'a Item,
 ) -> Result<Known<'a>, TypeFault>
-    ensures { Gives type_of (and_then (by.item_by known.entry (named_in anywhere.now) item.entry.now) (λ _. Ok (by.with_definition known.entry item.entry.now))) result }
+    ensures { Tells (and_then (by.item_by known.entry (named_in anywhere.now) item.entry.now) (λ _. Ok (by.with_definition known.entry item.entry.now))) result }
 {
     match item {
         Item::Struct(s) => {
@@ -160,7 +159,7 @@ fn with_items<'a>(
     anywhere: &Names<'_>,
     mut items: &'a [Item],
 ) -> Result<Known<'a>, TypeFault>
-    ensures { Gives type_of (by.items_by known.entry (named_in anywhere.now) items.entry.now) result }
+    ensures { Tells (by.items_by known.entry (named_in anywhere.now) items.entry.now) result }
 {
     while let [item, rest @ ..] = items {
         known = with_item(alloc, known, anywhere, item)?;
@@ -175,7 +174,7 @@ pub fn definitions<'a>(
     program: &'a Program,
     layout: &'a Layout,
 ) -> Result<Known<'a>, TypeFault>
-    ensures { Gives type_of (and_then (spec.items_checked program.entry.now.items [] program.entry.now.items) (λ _. Ok (known_of layout.entry.now program.entry.now.items))) result }
+    ensures { Tells (and_then (spec.items_checked program.entry.now.items [] program.entry.now.items) (λ _. Ok (known_of layout.entry.now program.entry.now.items))) result }
 {
     let items = program.items.as_slice();
     let anywhere = struct_names(alloc, items)?;

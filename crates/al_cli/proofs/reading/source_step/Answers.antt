@@ -10,8 +10,8 @@ returns-in_err-source-clause-err g c = on_any_err c.from_residual.result _ (sour
 
 pub returns-in-Ok-clause-ok : goal.returns-in-Ok-clause-ok
 returns-in-Ok-clause-ok g c =
-    source_goes c.args.name.now c.in-Bytes.source _ _ c.in_ok-source.field-0 c.in-Bytes.is c.in_ok-source.ensures.ok c.in-Ok.typed
-    (subst (λ b. accepted b ≡ Ok c.in-Ok.typed) c.as_slice.ensures c.in-Ok.ensures)
+    source_goes c.args.name.now c.in-Bytes.source _ _ c.in_ok-source.field-0 c.in-Bytes.is c.in_ok-source.ensures.ok c.in-Ok.program
+    (subst (λ b. accepted b ≡ Ok c.in-Ok.program) c.as_slice.ensures c.in-Ok.ensures)
 
 pub returns-in_err-line-in-Err-Refused-clause-err : goal.returns-in_err-line-in-Err-Refused-clause-err
 returns-in_err-line-in-Err-Refused-clause-err g c =

@@ -1,7 +1,7 @@
 use Rattle.std.proofs.Common.{◌≡◌, ◌++◌, drop, map, Option, None}
 use Rattle.al_core.specs.declared.choices.Choice.{Choice}
-use Rattle.al_core.specs.declared.typed_tree.TNote.{TNote}
+use Rattle.al_core.specs.declared.choices.LoopInfo.{LoopInfo}
 use Rattle.al_cli.proofs.runs.no_choices.Given as goal
 
 abbrev pub invariant-loop : goal.invariant-loop
-invariant-loop l = let none : TNote → Option Choice = λ note. None in l.choices ++ map none (drop l.index l.items) ≡ map none l.items
+invariant-loop l = let none : LoopInfo → Option Choice = λ info. None in l.choices ++ map none (drop l.index l.items) ≡ map none l.items

@@ -1,7 +1,10 @@
 use Rattle.std.proofs.Common.{◌≡◌, ◌++◌, drop, map, Option, Some}
 use Rattle.al_core.specs.declared.choices.Choice.{Choice}
-use Rattle.al_core.specs.declared.typed_tree.TNote.{TNote}
+use Rattle.al_core.specs.declared.choices.LoopInfo.{LoopInfo}
+use Rattle.al_core.specs.Lines.{with_line}
 use Rattle.al_cli.proofs.runs.own_choices.Given as goal
 
-abbrev pub invariant-loop-note : goal.invariant-loop-note
-invariant-loop-note l = let own : TNote → Option Choice = λ note. Some note.own in l.choices ++ map own (drop l.note-index l.note-items) ≡ map own l.note-items
+abbrev pub invariant-loop-info : goal.invariant-loop-info
+invariant-loop-info l =
+    let own : LoopInfo → Option Choice = λ info. Some (with_line l.line info.own) in
+    l.choices ++ map own (drop l.info-index l.info-items) ≡ map own l.info-items

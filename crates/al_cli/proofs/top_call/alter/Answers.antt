@@ -10,7 +10,7 @@ pub returns-clause-headline : goal.returns-clause-headline
 returns-clause-headline g c = headline (map string_bytes c.args.words.now) _ _ _ _ _ _ c.serve.result c.serve.ensures
 
 pub returns-clause-rounds : goal.returns-clause-rounds
-returns-clause-rounds g c = λ job typed input is. lockstep_fits typed input job.knobs
+returns-clause-rounds g c = λ job program input is. lockstep_fits program input job.knobs
 
 pub returns-clause-shown : goal.returns-clause-shown
 returns-clause-shown g c = is_as_played _ _ _ _ _ _ _ c.serve.result c.serve.ensures
