@@ -48,7 +48,12 @@ fn objects_are_freed_once(rt: HostRuntime) -> Result<(), Fail> {
     let alloc = rt.alloc();
     let rows: [Row; 2] = [
         ("run f1.c", 3, "4\n", "alter: f1.c:8: trap: freed already\n"),
-        ("plain f1.c", 3, "4\n", "alter: f1.c:8: trap: freed already\n"),
+        (
+            "plain f1.c",
+            3,
+            "4\n",
+            "alter: f1.c:8: trap: freed already\n",
+        ),
     ];
     assert_eq!(rt; broken(alloc, "f1.c", F1, &rows)?, None);
     let rows: [Row; 1] = [(
@@ -69,11 +74,25 @@ fn a_chunk_frees_what_another_uses(rt: HostRuntime) -> Result<(), Fail> {
     let alloc = rt.alloc();
     let rows: [Row; 1] = [("run f2.c --lanes 2 --chunk 1", 0, "1\n", "")];
     assert_eq!(rt; broken(alloc, "f2.c", F2, &rows)?, None);
-    assert!(rt; ends_in(alloc, TWO_LANES, F2, "loops 1 rounds 2 attempts 3 aborted 1 span 14\n")?);
+    assert!(rt;
+        ends_in(
+            alloc,
+            TWO_LANES,
+            F2,
+            "loops 1 rounds 2 attempts 3 aborted 1 span 14\n"
+        )?
+    );
     for policy in ["WAW", "NONE"] {
         let text = changed(alloc, F2, "RAW", policy)?;
         assert_eq!(rt; broken(alloc, "f2.c", text.as_str(), &rows)?, None);
-        assert!(rt; ends_in(alloc, TWO_LANES, text.as_str(), "loops 1 rounds 1 attempts 2 aborted 0 span 10\n")?);
+        assert!(rt;
+            ends_in(
+                alloc,
+                TWO_LANES,
+                text.as_str(),
+                "loops 1 rounds 1 attempts 2 aborted 0 span 10\n"
+            )?
+        );
     }
     Ok(())
 }
@@ -91,11 +110,22 @@ fn conflicts_are_found_by_lines(rt: HostRuntime) -> Result<(), Fail> {
         ("run l.c --lanes 4 --chunk 1", 0, "1 1\n", ""),
         ("run l.c --lanes 4 --chunk 1 --line 2", 0, "1 1\n", ""),
         ("run l.c --lanes 4 --chunk 1 --line 4", 0, "1 1\n", ""),
-        ("run l.c --line 3", 2, "", "alter: bad value for --line: 3\n"),
+        (
+            "run l.c --line 3",
+            2,
+            "",
+            "alter: bad value for --line: 3\n",
+        ),
     ];
     assert_eq!(rt; broken(alloc, "l.c", L, &rows)?, None);
     assert!(rt; by_lines(alloc, "1", "loops 1 rounds 1 attempts 4 aborted 0 span 5\n")?);
     assert!(rt; by_lines(alloc, "2", "loops 1 rounds 3 attempts 8 aborted 4 span 9\n")?);
-    assert!(rt; by_lines(alloc, "4", "loops 1 rounds 4 attempts 10 aborted 6 span 11\n")?);
+    assert!(rt;
+        by_lines(
+            alloc,
+            "4",
+            "loops 1 rounds 4 attempts 10 aborted 6 span 11\n"
+        )?
+    );
     Ok(())
 }

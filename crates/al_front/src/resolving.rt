@@ -65,10 +65,7 @@ fn tree_of(alloc: Global, program: &Program) -> Result<Typed, FrontFault>
 }
 
 /// The tree and the entries of its loops, where these are annotated well and it is not too large.
-fn annotated_well(
-    alloc: Global,
-    typed: Typed,
-) -> Result<Noted, FrontFault>
+fn annotated_well(alloc: Global, typed: Typed) -> Result<Noted, FrontFault>
     ensures { Meets result (spec.annotated_well typed) }
 {
     match notes(alloc, &typed) {

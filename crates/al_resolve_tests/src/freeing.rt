@@ -46,7 +46,10 @@ fn pointers_are_freed(rt: HostRuntime) -> Result<(), Fail> {
 #[test]
 fn what_is_no_pointer_is_not_freed(rt: HostRuntime) -> Result<(), Fail> {
     for (source, line) in MISTYPED {
-        assert_eq!(rt; refusal(rt.alloc(), source)?, Some(at(TypeKind::Mismatch, line)));
+        assert_eq!(rt;
+            refusal(rt.alloc(), source)?,
+            Some(at(TypeKind::Mismatch, line))
+        );
     }
     Ok(())
 }

@@ -16,6 +16,6 @@ returns-in_err-check_field c =
     let anywhere = named_in c.args.anywhere.now in
     let fault = kind_of c.in_err-check_field.field-0.0 in
     let stops =
-        fields_stop known anywhere (allowed_for c.args.role) c.loop-fields.names c.loop-fields.fields.now c.field-item.result
-        c.in-len1-up.len_at_least c.field-item.is fault c.in_err-check_field.ensures.checked in
+    fields_stop known anywhere (allowed_for c.args.role) c.loop-fields.names c.loop-fields.fields.now c.field-item.result
+    c.in-len1-up.len_at_least c.field-item.is fault c.in_err-check_field.ensures.checked in
     rw (p.1, p.2) (subst (λ (r : Checked (Unit {0})). Fails r fault) (sym c.loop-fields.invariant) stops)
