@@ -38,7 +38,11 @@ fn knobs(lanes: u32, chunk: u32, iter_steps: u64) -> Knobs
 fn defaults() -> Knobs
     ensures { AreInRange result }
 {
-    knobs(DEFAULT_LANES, DEFAULT_CHUNK, u64::from(DEFAULT_ITERATION_STEPS))
+    knobs(
+        DEFAULT_LANES,
+        DEFAULT_CHUNK,
+        u64::from(DEFAULT_ITERATION_STEPS),
+    )
 }
 
 /// Rounds of so many chunks, each of one iteration.
