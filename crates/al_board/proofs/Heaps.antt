@@ -8,7 +8,8 @@ use Rattle.al_board.specs.Piles.{on_pile, room_of, IsPileFor}
 use Rattle.al_count.proofs.Totals.{at_end}
 
 module _ {T : Type 0} (fits : ℕ → T → Type 0) (lanes : ℕ) where
-  pub pile_grows : (p q : Pile T) (piece : T) → IsPileFor fits lanes p → fits (length (on_pile p)) piece → on_pile q ≡ on_pile p ++ piece ∷ [] → room_of q ≡ room_of p → IsPileFor fits lanes q
+  pub pile_grows : (p q : Pile T) (piece : T) → IsPileFor fits lanes p → fits (length (on_pile p)) piece → on_pile q ≡ on_pile p ++ piece ∷ []
+      → room_of q ≡ room_of p → IsPileFor fits lanes q
   pile_grows p q piece h fit laid room = record {
     room = let r = h.room in omega arith;
     fit = subst (AreFit fits) (sym laid) (λ lane x e.
@@ -20,4 +21,8 @@ module _ {T : Type 0} (fits : ℕ → T → Type 0) (lanes : ℕ) where
 
   -- an empty pile with room is one
   pub pile_starts : (p : Pile T) → on_pile p ≡ [] → lanes ≤ room_of p → IsPileFor fits lanes p
-  pile_starts p none room = record { room = room; fit = λ lane x e. absurd (mathlib.Core.Option.some-ne-none x (sym e ∙ ap (λ (z : List T). get_elem? z lane) none)) }
+  pile_starts p none room = record {
+    room = room;
+    fit = λ lane x e.
+        absurd (mathlib.Core.Option.some-ne-none x (sym e ∙ ap (λ (z : List T). get_elem? z lane) none));
+  }

@@ -1,149 +1,179 @@
 -- The two steps of a put keep the rule.
-use Rattle.std.proofs.Common.{◌≡◌, ◌≢◌, ℕ, ◌+◌, ◌*◌, ◌<◌, ◌≤◌, List, [], ◌∷◌, get_or, set, Some, None, refl, sym, ap, ◌∙◌, subst, arith, length-append, length-set, get_or-set_same, get_or-set_other}
+use Rattle.std.proofs.Common.{◌≡◌, ◌≢◌, ℕ, ◌+◌, ◌*◌, ◌<◌, ◌≤◌, Option, List, [], ◌∷◌, ◌++◌, get_or, set, Some, None, refl, sym, ap, ◌∙◌, subst, arith, length-append, length-set, get_or-set_same, get_or-set_other}
 use mathlib.Core.Option.{some}
 use mathlib.Core.Option as maybe
-use native.Mathlib.Decide.{dec_le, ℕ_discrete}
+use native.Mathlib.Decide.{ℕ_discrete}
 use lib.ListN.{get_elem?}
 use Rattle.atomic_table.specs.Table.{State, takes, gives, step, Allows, rest}
 use Rattle.atomic_table.proofs.Lists.{set_here, set_else}
-use Rattle.al_board.specs.declared.view.Setting.{Setting}
+use Rattle.al_board.specs.declared.view.Entry.{Entry}
+use Rattle.al_board.specs.declared.view.Entry.TheVariants.{Put}
 use Rattle.al_board.specs.declared.view.View.{View}
 use Rattle.al_board.specs.declared.view.Slot.{Slot}
 use Rattle.al_board.specs.declared.view.Slot.TheVariants.{Empty, Piece}
-use Rattle.al_count.specs.Counts.{one, below, times, holding, total, present}
+use Rattle.al_count.specs.Counts.{one, below, times, holding, total}
 use Rattle.al_count.proofs.Totals.{one_same, one_other, one_le, below_no, times_snoc, total_set, total_same, member_le, set_at}
-use Rattle.al_board.specs.Core.{Event, puts, piece_of}
-use Rattle.al_board.specs.Views.{taking, gave}
-use Rattle.al_board.specs.Rule.{IsSlot, IsBaton, IsKept}
-use Rattle.al_board.specs.Steps.{took, filled}
-use Rattle.al_board.proofs.Histories.{IsTold, piece_here, piece_else, told_same, told_put}
-use Rattle.al_board.proofs.Parts.{AllSound, grown, grown_baton, sound_set, sound_one, made, same_baton, same_slot, bounded, at_most_one, none_has, told_of}
+use Rattle.al_board.specs.Counted.{drawn_times, put_times, held_count, share_of, allowance_of, turn_count}
+use Rattle.al_board.specs.Core.{piece_of}
+use Rattle.al_board.specs.Views.{taking, gave, unlogged}
+use Rattle.al_board.specs.Rule.{Terms, Stage, AllSound, IsSlot, IsBaton, IsKept, AreLogs, baton_of}
+use Rattle.al_board.specs.Steps.{IsTake, IsFill}
+use Rattle.al_board.proofs.Entries.{IsTold, told_same, told_put}
+use Rattle.al_board.proofs.Logs.{logs_entry, logs_same}
+use Rattle.al_board.proofs.Pieces.{piece_here, piece_else}
+use Rattle.al_board.proofs.Parts.{grown, grown_baton, sound_set, sound_one, named_same, still_baton, same_slot, bounded, at_most_one, none_has, ahead, told_of}
 
-module _ {T H K : Type 0} (key : Setting K) (fits : ℕ → T → Type 0) (laid : H → List T) (stands : H → Type 0) where
-  abbrev V : Type 0
-  V = View T K
-
-  abbrev St : Type 0
-  St = State (Slot T H) (View T K)
+module _ {T H K : Type 0} (b : Terms T H K) where
+  abbrev Kept : State (Slot T H) (View T K) → Type 0
+  Kept s = IsKept b s
 
   abbrev Held : Type 0
   Held = List (ℕ × Slot T H)
 
-  abbrev Kept : St → Type 0
-  Kept s = IsKept key fits laid stands s
+  -- what becomes of a view, of the pieces and of the journal at a step on the word of a lane
+  record Lane : Type 0 where
+    pub holds : Option ℕ
+    pub put : List ℕ
+    pub log : List (Entry T)
+    pub pieces : List (ℕ × T)
+    pub journal : List (Entry T)
+    pub word : ℕ
+    pub home : maybe.Option (Slot T H)
 
-  abbrev dr : ℕ → V → ℕ
-  dr x v = times x v.drawn
+  -- the view then
+  abbrev put_view_of : Lane → View T K → View T K
+  put_view_of x v = record v { holds = x.holds; put = x.put; log = x.log }
 
-  abbrev pu : ℕ → V → ℕ
-  pu x v = times x v.put
-
-  abbrev he : ℕ → V → ℕ
-  he x v = holding x v.holds
-
-  abbrev sh : V → ℕ
-  sh v = v.share
-
-  abbrev al : V → ℕ
-  al v = v.allowance
-
-  abbrev tu : V → ℕ
-  tu v = present v.turn
+  -- the views then
+  abbrev put_views : (s : State (Slot T H) (View T K)) → Lane → ℕ → View T K → List (View T K)
+  put_views s x id v = set s.views id (put_view_of x v)
 
   -- a step on a lane's word, by which its slot changes, the lane and the puts of a view, and maybe the pieces
-  lane_step : (s : St) (k : Kept s) (id : ℕ) (v w : V) → get_elem? s.views id ≡ some v → (lane b : ℕ) (home : maybe.Option (Slot T H)) (ps : List (ℕ × T)) (h : List (Event T)) → lane < key.lanes
-      → w.drawn ≡ v.drawn → w.turn ≡ v.turn → w.share ≡ v.share → w.allowance ≡ v.allowance
-      → AllSound key fits laid stands (get_or s.words 0 0) k.taken k.judged ps (set s.views id w)
-      → ((x : ℕ) → total (pu x) s.views ≤ total (pu x) (set s.views id w))
-      → b ≡ total (he lane) (set s.views id w) + 2 * total (pu lane) (set s.views id w) + below lane k.taken
-      → ((x : ℕ) → x ≢ lane → (holding x w.holds ≡ holding x v.holds) × (times x w.put ≡ times x v.put))
-      → IsSlot fits ps lane b (some home)
-      → ((x : ℕ) → x ≢ lane → piece_of x ps ≡ piece_of x k.pieces)
-      → IsBaton laid stands key.lanes key.shelved (get_or s.words (key.lanes + 1) 0) k.taken k.judged ps (total tu s.views) (get_elem? s.homes key.lanes)
-      → IsTold fits key.lanes (get_or s.words 0 0) (set s.views id w) ps k.judged h
-      → Kept record { words = set s.words (lane + 1) b; homes = set s.homes lane home; views = set s.views id w }
-  lane_step s k id v w at lane b home ps h lt drawn turn share allowance sound more here others slot pieces baton told =
-      let n : ℕ = key.lanes in
-      let d : ℕ = get_or s.words 0 0 in
-      let vs : List V = set s.views id w in
-      let ws : List ℕ = set s.words (lane + 1) b in
+  lane_step : (s : State (Slot T H) (View T K)) (k : IsKept b s) (id : ℕ) (v : View T K) → get_elem? s.views id ≡ some v → (lane : ℕ) (x : Lane)
+      → lane < b.key.lanes
+      → AllSound b.key record k.stage { pieces = x.pieces } (put_views s x id v)
+      → ((y : ℕ) → total (put_times y) s.views ≤ total (put_times y) (put_views s x id v))
+      → x.word ≡ total (held_count lane) (put_views s x id v) + 2 * total (put_times lane) (put_views s x id v) + below lane k.stage.taken
+      → ((y : ℕ) → y ≢ lane → (holding y x.holds ≡ held_count y v) × (times y x.put ≡ put_times y v))
+      → IsSlot b.fits x.pieces lane x.word (some x.home)
+      → ((y : ℕ) → y ≢ lane → piece_of y x.pieces ≡ piece_of y k.stage.pieces)
+      → (total (put_times lane) (put_views s x id v) ≡ 0 → piece_of lane x.pieces ≡ None)
+      → IsBaton b record k.stage { pieces = x.pieces } b.key.shelved (baton_of b s k.holder)
+      → IsTold b.fits b.key.lanes record k.stage { pieces = x.pieces } k.holder (put_views s x id v) x.journal
+      → AreLogs (put_views s x id v) x.journal
+      → Kept record { words = set s.words (lane + 1) x.word; homes = set s.homes lane x.home; views = put_views s x id v }
+  lane_step s k id v at lane x lt sound more here others slot pieces unput baton told logs =
+      let n : ℕ = b.key.lanes in
+      let w : View T K = put_view_of x v in
+      let vs : List (View T K) = set s.views id w in
+      let ws : List ℕ = set s.words (lane + 1) x.word in
       let wide = k.wide in
       let count = k.count in
-      let there : get_or ws (lane + 1) 0 ≡ b = get_or-set_same {A = ℕ} s.words (lane + 1) b 0 (omega arith) in
-      let else : (x : ℕ) → x ≢ lane → get_or ws (x + 1) 0 ≡ get_or s.words (x + 1) 0 = λ x ne. get_or-set_other {A = ℕ} s.words (lane + 1) (x + 1) b 0 (λ e. ne (omega arith)) in
-      made key fits laid stands ws (set s.homes lane home) vs d k.taken k.judged ps h (length-set s.homes lane home ∙ count)
-      (get_or-set_other {A = ℕ} s.words (lane + 1) 0 b 0 (λ e. omega arith))
-      k.few
-      (length-set {A = ℕ} s.words (lane + 1) b ∙ wide)
-      sound
-      (λ x. total_same (dr x) s.views id v w at (ap (times x) drawn) ∙ k.drawn x)
-      (total_same sh s.views id v w at share ∙ k.shares)
-      (let e = total_same al s.views id v w at allowance in let r = k.room in omega arith)
-      k.reached
-      (λ x low. let m = more x in let q = k.behind x low in omega arith)
-      (λ x near. word x (k.word x near) there (else x) (ℕ_discrete x lane))
-      (λ x near. slots x (k.slot x near) there (else x) (ℕ_discrete x lane))
-      (same_baton key fits laid stands key.shelved _ _ _ _ _ _ _ _ _ (else n (λ e. omega arith)) (total_same tu s.views id v w at (ap present turn)) (set_else s.homes lane n home (λ e. omega arith)) baton)
-      told
+      let there : get_or ws (lane + 1) 0 ≡ x.word = get_or-set_same {A = ℕ} s.words (lane + 1) x.word 0 (omega arith) in
+      let else : (y : ℕ) → y ≢ lane → get_or ws (y + 1) 0 ≡ get_or s.words (y + 1) 0 =
+      λ y ne. get_or-set_other {A = ℕ} s.words (lane + 1) (y + 1) x.word 0 (λ e. ne (omega arith)) in
+      record {
+        stage = record k.stage { pieces = x.pieces };
+        holder = k.holder;
+        journal = x.journal;
+        count = length-set s.homes lane x.home ∙ count;
+        few = k.few;
+        wide = length-set {A = ℕ} s.words (lane + 1) x.word ∙ wide;
+        first = get_or-set_other {A = ℕ} s.words (lane + 1) 0 x.word 0 (λ e. omega arith) ∙ k.first;
+        sound = sound;
+        drawn = λ y. total_same (drawn_times y) s.views id v w at refl ∙ k.drawn y;
+        shares = total_same share_of s.views id v w at refl ∙ k.shares;
+        room = let e = total_same allowance_of s.views id v w at refl in let r = k.room in omega arith;
+        reached = k.reached;
+        behind = λ y low. let m = more y in let q = k.behind y low in omega arith;
+        unput = λ y e. unput_at y e (ℕ_discrete y lane);
+        word = λ y near. word y (k.word y near) there (else y) (ℕ_discrete y lane);
+        slot = λ y near. slots y (k.slot y near) there (else y) (ℕ_discrete y lane);
+        baton = still_baton b record k.stage { pieces = x.pieces } s _ k.holder (else n (λ e. omega arith))
+            (total_same turn_count s.views id v w at refl) (set_else s.homes lane n x.home (λ e. omega arith)) baton;
+        holds = named_same k.holder s.views id v w at refl k.holds;
+        legal = told.0;
+        told = told.1;
+        logs = logs;
+      }
     where
-      word : (x : ℕ) → get_or s.words (x + 1) 0 ≡ total (he x) s.views + 2 * total (pu x) s.views + below x k.taken
-          → get_or (set s.words (lane + 1) b) (lane + 1) 0 ≡ b → (x ≢ lane → get_or (set s.words (lane + 1) b) (x + 1) 0 ≡ get_or s.words (x + 1) 0) → Dec (x ≡ lane)
-          → get_or (set s.words (lane + 1) b) (x + 1) 0 ≡ total (he x) (set s.views id w) + 2 * total (pu x) (set s.views id w) + below x k.taken
-      word x was there else (yes e) =
-          subst (λ (y : ℕ). get_or (set s.words (lane + 1) b) (y + 1) 0 ≡ total (he y) (set s.views id w) + 2 * total (pu y) (set s.views id w) + below y k.taken) (sym e) (there ∙ here)
-      word x was there else (no ne) =
-          let o = others x ne in
-          let h = total_same (he x) s.views id v w at o.0 in
-          let p = total_same (pu x) s.views id v w at o.1 in
+      -- the word of a lane, and the views
+      Word : ℕ → Type 0
+      Word y = get_or (set s.words (lane + 1) x.word) (y + 1) 0
+          ≡ total (held_count y) (put_views s x id v) + 2 * total (put_times y) (put_views s x id v) + below y k.stage.taken
+
+      Else : ℕ → Type 0
+      Else y = y ≢ lane → get_or (set s.words (lane + 1) x.word) (y + 1) 0 ≡ get_or s.words (y + 1) 0
+
+      There : Type 0
+      There = get_or (set s.words (lane + 1) x.word) (lane + 1) 0 ≡ x.word
+
+      unput_at : (y : ℕ) → total (put_times y) (put_views s x id v) ≡ 0 → Dec (y ≡ lane) → piece_of y x.pieces ≡ None
+      unput_at y e (yes is) = subst (λ (z : ℕ). total (put_times z) (put_views s x id v) ≡ 0 → piece_of z x.pieces ≡ None) (sym is) unput e
+      unput_at y e (no ne) = pieces y ne ∙ k.unput y (sym (total_same (put_times y) s.views id v (put_view_of x v) at (others y ne).1) ∙ e)
+
+      word : (y : ℕ) → get_or s.words (y + 1) 0 ≡ total (held_count y) s.views + 2 * total (put_times y) s.views + below y k.stage.taken → There → Else y
+          → Dec (y ≡ lane) → Word y
+      word y was there else (yes e) = subst Word (sym e) (there ∙ here)
+      word y was there else (no ne) =
+          let o = others y ne in
+          let h = total_same (held_count y) s.views id v (put_view_of x v) at o.0 in
+          let p = total_same (put_times y) s.views id v (put_view_of x v) at o.1 in
           let same = else ne in omega arith
 
-      slots : (x : ℕ) → IsSlot fits k.pieces x (get_or s.words (x + 1) 0) (get_elem? s.homes x)
-          → get_or (set s.words (lane + 1) b) (lane + 1) 0 ≡ b → (x ≢ lane → get_or (set s.words (lane + 1) b) (x + 1) 0 ≡ get_or s.words (x + 1) 0) → Dec (x ≡ lane)
-          → IsSlot fits ps x (get_or (set s.words (lane + 1) b) (x + 1) 0) (get_elem? (set s.homes lane home) x)
-      slots x was there else (yes e) =
+      slots : (y : ℕ) → IsSlot b.fits k.stage.pieces y (get_or s.words (y + 1) 0) (get_elem? s.homes y) → There → Else y → Dec (y ≡ lane)
+          → IsSlot b.fits x.pieces y (get_or (set s.words (lane + 1) x.word) (y + 1) 0) (get_elem? (set s.homes lane x.home) y)
+      slots y was there else (yes e) =
           let count = k.count in
-          subst (λ (y : ℕ). IsSlot fits ps y (get_or (set s.words (lane + 1) b) (y + 1) 0) (get_elem? (set s.homes lane home) y)) (sym e)
-          (same_slot key fits laid stands ps lane b _ (some home) _ there (set_here s.homes lane home (omega arith)) slot)
-      slots x was there else (no ne) =
-          same_slot key fits laid stands ps x _ _ _ _ (else ne) (set_else s.homes lane x home ne)
-          record { empty = was.empty; full = λ e. let f = was.full e in (f.0, f.1, f.2, pieces x ne ∙ f.3) }
+          subst (λ (z : ℕ). IsSlot b.fits x.pieces z (get_or (set s.words (lane + 1) x.word) (z + 1) 0) (get_elem? (set s.homes lane x.home) z)) (sym e)
+          (same_slot b x.pieces lane x.word _ (some x.home) _ there (set_here s.homes lane x.home (omega arith)) slot)
+      slots y was there else (no ne) =
+          same_slot b x.pieces y _ _ _ _ (else ne) (set_else s.homes lane y x.home ne)
+          record { empty = was.empty; full = λ e. let f = was.full e in (f.0, f.1, f.2, pieces y ne ∙ f.3) }
 
-  -- a lane that no view has put was not taken from the board
-  ahead : (s : St) (k : Kept s) (x : ℕ) → total (pu x) s.views ≡ 0 → k.taken ≤ x
-  ahead s k x none = go (dec_le k.taken x)
-    where
-      go : Dec (k.taken ≤ x) → k.taken ≤ x
-      go (yes le) = le
-      go (no n) = let b = k.behind x (omega arith) in absurd (omega arith)
+  -- a lane is taken
+  abbrev held_lane : (s : State (Slot T H) (View T K)) → IsKept b s → View T K → ℕ → Lane
+  held_lane s k v lane = record {
+    holds = Some lane;
+    put = v.put;
+    log = v.log;
+    pieces = k.stage.pieces;
+    journal = k.journal;
+    word = 1;
+    home = maybe.none;
+  }
 
-  taking_keeps : (s : St) (k : Kept s) (id : ℕ) (v : V) → get_elem? s.views id ≡ some v → (lane : ℕ) → lane < key.lanes → 1 ≤ times lane v.drawn → times lane v.put ≡ 0 → v.holds ≡ None
+  taking_keeps : (s : State (Slot T H) (View T K)) (k : IsKept b s) (id : ℕ) (v : View T K) → get_elem? s.views id ≡ some v → (lane : ℕ) → lane < b.key.lanes
+      → 1 ≤ times lane v.drawn → times lane v.put ≡ 0 → v.holds ≡ None
       → Kept record { words = set s.words (lane + 1) 1; homes = set s.homes lane maybe.none; views = set s.views id (taking lane v) }
   taking_keeps s k id v at lane lt has not_put free =
-      let w : V = taking lane v in
+      let w : View T K = taking lane v in
       let so = k.sound id v at in
-      let none = none_has key fits laid stands s k id v at lane has not_put free in
-      lane_step s k id v w at lane 1 maybe.none k.pieces k.history lt refl refl refl refl
-      (sound_one key fits laid stands (get_or s.words 0 0) k.taken k.judged k.pieces s.views id w k.sound record {
+      let none = none_has b s k id v at lane has not_put free in
+      lane_step s k id v at lane (held_lane s k v lane) lt
+      (sound_one b.key k.stage s.views id w k.sound record {
         about = so.about;
         late = so.late;
         spent = so.spent;
         paid = so.paid;
         able = so.able;
         own = λ x. mine x (so.own x) (ℕ_discrete x lane);
-        turn = so.turn;
+        turn = λ t e. let q = so.turn t e in record { next = q.next; found = q.found; put = q.put; first = q.first };
         given = so.given;
       })
-      (λ x. let e = total_same (pu x) s.views id v w at refl in omega arith)
-      (let a = below_no lane k.taken (ahead s k lane none.1) in
-      let h = total_set (he lane) s.views id v w at in
-      let p = total_same (pu lane) s.views id v w at refl in
+      (λ x. let e = total_same (put_times x) s.views id v w at refl in omega arith)
+      (let a = below_no lane k.stage.taken (ahead b s k lane none.1) in
+      let h = total_set (held_count lane) s.views id v w at in
+      let p = total_same (put_times lane) s.views id v w at refl in
       let o = one_same lane in
-      let z : holding lane v.holds ≡ 0 = ap (holding lane) free in omega arith)
+      let z : held_count lane v ≡ 0 = ap (holding lane) free in omega arith)
       (λ x ne. (one_other x lane ne ∙ sym (ap (holding x) free), refl))
       record { empty = λ e. absurd (omega arith); full = λ e. absurd (omega arith) }
       (λ x ne. refl)
+      (λ _. k.unput lane none.1)
       k.baton
-      (told_same fits key.lanes (get_or s.words 0 0) s.views k.pieces k.judged k.history id v w at refl refl (told_of key fits laid stands s k))
+      (told_same b.fits b.key.lanes k.stage k.holder s.views k.journal id v w at refl refl refl refl (told_of b s k))
+      (logs_same s.views k.journal id v w at refl k.logs)
     where
       mine : (x : ℕ) → times x v.put + holding x v.holds ≤ times x v.drawn → Dec (x ≡ lane) → times x v.put + one x lane ≤ times x v.drawn
       mine x o (yes e) =
@@ -152,85 +182,122 @@ module _ {T H K : Type 0} (key : Setting K) (fits : ℕ → T → Type 0) (laid 
           let l = one_le x lane in omega arith
       mine x o (no ne) = let z = one_other x lane ne in omega arith
 
-  pub takes_lane : (slots id : ℕ) (v : V) (c : Held) (lane : ℕ) → 0 < v.share → lane < v.lanes → 1 ≤ times lane v.drawn → times lane v.put ≡ 0 → v.holds ≡ None
-      → Allows (IsKept key fits laid stands) slots id (v, c) (lane + 1) (λ _. 1) (took (step slots (lane + 1) 1 0 maybe.none) (v, c))
+  pub takes_lane : (slots id : ℕ) (v : View T K) (c : Held) (lane : ℕ) → 0 < v.share → lane < v.lanes → 1 ≤ times lane v.drawn → times lane v.put ≡ 0
+      → v.holds ≡ None
+      → Allows (IsKept b) slots id (v, c) (lane + 1) (λ _. 1) (IsTake (step slots (lane + 1) 1 0 maybe.none) (v, c))
   takes_lane slots id v c lane live lt has not_put free s k len at small =
       let same = ((k.sound id v at).about live).1 in
-      let near : lane < key.lanes = omega arith in
-      let none = none_has key fits laid stands s k id v at lane has not_put free in
-      let zero_there : get_or s.words (lane + 1) 0 ≡ 0 = let w = k.word lane near in let a = below_no lane k.taken (ahead s k lane none.1) in omega arith in (
+      let near : lane < b.key.lanes = omega arith in
+      let none = none_has b s k id v at lane has not_put free in
+      let zero_there : get_or s.words (lane + 1) 0 ≡ 0 = let w = k.word lane near in
+      let a = below_no lane k.stage.taken (ahead b s k lane none.1) in omega arith in (
         taking lane v,
         takes lane Empty,
         (k.slot lane near).empty zero_there,
         taking_keeps s k id v at lane near has not_put free,
-        (λ x e. let same : lane ≡ x = omega arith in (ap (λ (z : ℕ). taking z v) same, ap (λ (z : ℕ). (z, Empty) ∷ c) same)),
+        record {
+          view = λ x e. let same : lane ≡ x = omega arith in ap (λ (z : ℕ). taking z (unlogged v)) same;
+          slots = λ x e. let same : lane ≡ x = omega arith in ap (λ (z : ℕ). (z, Empty) ∷ c) same;
+        },
       )
 
-  gave_keeps : (s : St) (k : Kept s) (id : ℕ) (v : V) → get_elem? s.views id ≡ some v → (lane : ℕ) (piece : T) → lane < key.lanes → v.holds ≡ Some lane → fits lane piece
-      → Kept record { words = set s.words (lane + 1) 2; homes = set s.homes lane (some (Piece piece)); views = set s.views id (gave lane v) }
+  -- a lane is put
+  abbrev filled_lane : (s : State (Slot T H) (View T K)) → IsKept b s → ℕ → View T K → ℕ → T → Lane
+  filled_lane s k id v lane piece = record {
+    holds = None;
+    put = v.put ++ lane ∷ [];
+    log = Put id lane piece ∷ k.journal;
+    pieces = (lane, piece) ∷ k.stage.pieces;
+    journal = Put id lane piece ∷ k.journal;
+    word = 2;
+    home = some (Piece piece);
+  }
+
+  gave_keeps : (s : State (Slot T H) (View T K)) (k : IsKept b s) (id : ℕ) (v : View T K) → get_elem? s.views id ≡ some v → (lane : ℕ) (piece : T)
+      → lane < b.key.lanes
+      → v.holds ≡ Some lane → b.fits lane piece
+      → Kept record {
+        words = set s.words (lane + 1) 2;
+        homes = set s.homes lane (some (Piece piece));
+        views = put_views s (filled_lane s k id v lane piece)
+            id v;
+      }
   gave_keeps s k id v at lane piece lt holds fit =
-      let d : ℕ = get_or s.words 0 0 in
-      let w : V = gave lane v in
+      let w : View T K = put_view_of (filled_lane s k id v lane piece) v in
       let so = k.sound id v at in
-      let z : holding lane v.holds ≡ one lane lane = ap (holding lane) holds in
+      let z : held_count lane v ≡ one lane lane = ap (holding lane) holds in
       let o = one_same lane in
-      let m = at_most_one key fits laid stands s k lane in
-      let l = member_le (he lane) s.views id v at in
-      let none : total (pu lane) s.views ≡ 0 = omega arith in
-      let a = ahead s k lane none in
-      let mine = member_le (pu lane) s.views id v at in
+      let m = at_most_one b s k lane in
+      let l = member_le (held_count lane) s.views id v at in
+      let none : total (put_times lane) s.views ≡ 0 = omega arith in
+      let a = ahead b s k lane none in
+      let mine = member_le (put_times lane) s.views id v at in
       let own = so.own lane in
-      let ps : List (ℕ × T) = (lane, piece) ∷ k.pieces in
-      lane_step s k id v w at lane 2 (some (Piece piece)) ps (puts id lane piece ∷ k.history) lt refl refl refl refl
-      (sound_set key fits laid stands d d k.taken k.taken k.judged k.judged k.pieces ps s.views id w (λ i u ne at' so'. grown key fits laid stands d k.taken k.judged k.pieces lane piece a u so') k.sound
+      let ps : List (ℕ × T) = (lane, piece) ∷ k.stage.pieces in
+      let g : Stage T = record k.stage { pieces = ps } in
+      lane_step s k id v at lane (filled_lane s k id v lane piece) lt
+      (sound_set b.key k.stage g s.views id w (λ i u ne at' so'. grown b.key k.stage lane piece a u so') k.sound
       record {
         about = so.about;
         late = so.late;
         spent = so.spent;
         paid = so.paid;
         able = so.able;
-        own = λ x. let o = so.own x in let h : holding x v.holds ≡ one x lane = ap (holding x) holds in let t = times_snoc x lane v.put in omega arith;
-        turn = λ x e. let t = (grown key fits laid stands d k.taken k.judged k.pieces lane piece a v so).turn x e in (t.0, t.1, let b = length-append v.put (lane ∷ []) in let q = t.2 in omega arith, t.3);
+        own = λ x. let o = so.own x in let h : held_count x v ≡ one x lane = ap (holding x) holds in let t = times_snoc x lane v.put in omega arith;
+        turn = λ x e.
+            let t = (grown b.key k.stage lane piece a v so).turn x e in
+            let has = t.put in
+            record { next = t.next; found = t.found; put = let q = length-append v.put (lane ∷ []) in omega arith; first = t.first };
         given = so.given;
       })
-      (λ x. let e = total_set (pu x) s.views id v w at in let t = times_snoc x lane v.put in omega arith)
-      (let h = total_set (he lane) s.views id v w at in
-      let p = total_set (pu lane) s.views id v w at in
+      (λ x. let e = total_set (put_times x) s.views id v w at in let t = times_snoc x lane v.put in omega arith)
+      (let h = total_set (held_count lane) s.views id v w at in
+      let p = total_set (put_times lane) s.views id v w at in
       let t = times_snoc lane lane v.put in
-      let b = below_no lane k.taken a in omega arith)
+      let c = below_no lane k.stage.taken a in omega arith)
       (λ x ne. (let o = one_other x lane ne in sym (ap (holding x) holds ∙ o), let t = times_snoc x lane v.put in let o = one_other x lane ne in omega arith))
-      record { empty = λ e. absurd (omega arith); full = λ _. (piece, refl, fit, piece_here lane piece k.pieces) }
-      (λ x ne. piece_else x lane piece k.pieces ne)
-      (grown_baton key fits laid stands key.shelved _ _ _ _ _ _ lane piece a k.baton)
-      (told_put fits key.lanes d s.views k.pieces k.judged k.history id v w lane piece at refl refl (omega arith) (omega arith) fit (told_of key fits laid stands s k))
+      record { empty = λ e. absurd (omega arith); full = λ _. (piece, refl, fit, piece_here lane piece k.stage.pieces) }
+      (λ x ne. piece_else x lane piece k.stage.pieces ne)
+      (λ e. let p = total_set (put_times lane) s.views id v w at in let t = times_snoc lane lane v.put in absurd (omega arith))
+      (grown_baton b k.stage _ lane piece a k.baton)
+      (told_put b.fits b.key.lanes k.stage k.holder s.views k.journal id v w lane piece at refl refl refl refl (omega arith) (omega arith) fit
+      (told_of b s k))
+      (logs_entry s.views k.journal id v w (Put id lane piece) at refl k.logs)
 
-  pub fills_lane : (slots id : ℕ) (v w : V) (c : Held) (m : V × Held) (lane : ℕ) (piece : T) → 0 < v.share → lane < v.lanes → w ≡ taking lane v → m ≡ (w, (lane, Piece piece) ∷ c) → fits lane piece
-      → Allows (IsKept key fits laid stands) slots id m (lane + 1) (λ _. 2) (filled (step slots (lane + 1) 2 0 maybe.none) m)
+  pub fills_lane : (slots id : ℕ) (v w : View T K) (c : Held) (m : View T K × Held) (lane : ℕ) (piece : T) → 0 < v.share → lane < v.lanes
+      → unlogged w ≡ taking lane v
+      → m ≡ (w, (lane, Piece piece) ∷ c) → b.fits lane piece
+      → Allows (IsKept b) slots id m (lane + 1) (λ _. 2) (IsFill (step slots (lane + 1) 2 0 maybe.none) m)
   fills_lane slots id v w c m lane piece live lt e is fit =
-      subst (λ (y : V × Held). Allows (IsKept key fits laid stands) slots id y (lane + 1) (λ _. 2) (filled (step slots (lane + 1) 2 0 maybe.none) y)) (sym is) here
+      subst (λ (y : View T K × Held). Allows (IsKept b) slots id y (lane + 1) (λ _. 2) (IsFill (step slots (lane + 1) 2 0 maybe.none) y)) (sym is) here
     where
-      here : Allows (IsKept key fits laid stands) slots id (w, (lane, Piece piece) ∷ c) (lane + 1) (λ _. 2) (filled (step slots (lane + 1) 2 0 maybe.none) (w, (lane, Piece piece) ∷ c))
+      here : Allows (IsKept b) slots id (w, (lane, Piece piece) ∷ c) (lane + 1) (λ _. 2)
+          (IsFill (step slots (lane + 1) 2 0 maybe.none) (w, (lane, Piece piece) ∷ c))
       here s k len at small =
-          let share : w.share ≡ v.share = ap (λ (z : V). z.share) e in
-          let lanes : w.lanes ≡ v.lanes = ap (λ (z : V). z.lanes) e in
+          let share : w.share ≡ v.share = ap (λ (z : View T K). z.share) e in
+          let lanes : w.lanes ≡ v.lanes = ap (λ (z : View T K). z.lanes) e in
           let live' : 0 < w.share = omega arith in
           let same = ((k.sound id w at).about live').1 in
-          let near : lane < key.lanes = omega arith in
-          let h = gave_keeps s k id w at lane piece near (ap (λ (z : V). z.holds) e) fit in (
-            gave lane w,
+          let near : lane < b.key.lanes = omega arith in
+          let x : View T K = put_view_of (filled_lane s k id w lane piece) w in
+          let h = gave_keeps s k id w at lane piece near (ap (λ (z : View T K). z.holds) e) fit in (
+            x,
             gives,
             tt,
             h,
-            (λ x e'. let same : lane ≡ x = omega arith in (
-              ap (λ (z : ℕ). gave z w) same,
-              refl,
-              bounded key fits laid stands record { words = set s.words (lane + 1) 2; homes = set s.homes lane (some (Piece piece)); views = set s.views id (gave lane w) } h id (gave lane w) (set_at s.views id w (gave lane w) at) live',
-            )),
+            record {
+              view = λ y e'. let same : lane ≡ y = omega arith in ap (λ (z : ℕ). gave z (unlogged w)) same;
+              slots = refl;
+              bounded = bounded b _ h id x (set_at s.views id w x at) live';
+            },
           )
 
 module _ {T H K : Type 0} where
-  pub put_view : (v w x : View T K) (c : List (ℕ × Slot T H)) (m : View T K × List (ℕ × Slot T H)) (lane : ℕ) → w ≡ taking lane v → m ≡ (w, c) → x ≡ gave lane m.0 → x ≡ gave lane v
-  put_view v w x c m lane e is h = h ∙ ap (λ (y : View T K × List (ℕ × Slot T H)). gave lane y.0) is ∙ ap (gave lane) e
+  -- the view after both steps
+  pub put_view : (v w x : View T K) (c : List (ℕ × Slot T H)) (m : View T K × List (ℕ × Slot T H)) (lane : ℕ)
+      → unlogged w ≡ taking lane v → m ≡ (w, c) → unlogged x ≡ gave lane (unlogged m.0) → unlogged x ≡ gave lane v
+  put_view v w x c m lane e is h = h ∙ ap (λ (y : View T K × List (ℕ × Slot T H)). gave lane (unlogged y.0)) is ∙ ap (gave lane) e
 
-  pub put_idle : (w : View T K) (c c₁ x : List (ℕ × Slot T H)) (m : View T K × List (ℕ × Slot T H)) (lane : ℕ) (a b : Slot T H) → c ≡ [] → c₁ ≡ (lane, a) ∷ c → m ≡ (w, (lane, b) ∷ rest c₁) → x ≡ rest m.1 → x ≡ []
-  put_idle w c c₁ x m lane a b e took is h = h ∙ ap (λ (y : View T K × List (ℕ × Slot T H)). rest y.1) is ∙ ap rest took ∙ e
+  pub put_idle : (w : View T K) (c c₁ x : List (ℕ × Slot T H)) (m : View T K × List (ℕ × Slot T H)) (lane : ℕ) (y z : Slot T H)
+      → c ≡ [] → c₁ ≡ (lane, y) ∷ c → m ≡ (w, (lane, z) ∷ rest c₁) → x ≡ rest m.1 → x ≡ []
+  put_idle w c c₁ x m lane y z e took is h = h ∙ ap (λ (y : View T K × List (ℕ × Slot T H)). rest y.1) is ∙ ap rest took ∙ e

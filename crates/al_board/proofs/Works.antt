@@ -1,10 +1,20 @@
 -- A worker's run.
-use Rattle.std.proofs.Common.{◌≡◌, ℕ, ◌+◌, ◌≤◌, List, [], ◌∷◌, ◌++◌, sym, ap, ◌∙◌, arith, subst, true, Option, Some, None, MatchOption, ◌<◌}
+use Rattle.std.proofs.Common.{◌≡◌, ℕ, ◌+◌, ◌≤◌, List, [], ◌∷◌, ◌++◌, refl, sym, ap, ◌∙◌, ⊎_elim, arith, length-append, subst, true, Option, Some, None, MatchOption, ◌<◌}
 use Rattle.std.proofs.lemmas.List.{append-nil, append_assoc}
+use Rattle.al_board.specs.declared.view.Helped.{Helped}
+use Rattle.al_board.specs.declared.view.Helped.TheVariants.{Busy, Advanced}
+use Rattle.al_board.specs.declared.view.Miss.{Miss}
+use Rattle.al_board.specs.declared.view.Miss.TheVariants.{Baton, Lane}
 use Rattle.al_board.specs.declared.view.View.{View}
 use Rattle.al_count.specs.Counts.{times}
 use Rattle.al_count.proofs.Totals.{one_same, times_append, times_snoc}
-use Rattle.al_board.specs.Views.{IsBounded, HasPutAll, got, gave, joined, over, ran}
+use Rattle.al_board.specs.Views.{IsBounded, IsSameWork, HasPutAll, HasLaid, got, gave, joined, over, ran, handed, missed, met_times, tries_of}
+use Rattle.al_board.specs.Helps.{IsThrough, IsStopped, IsHelped}
+
+met_append : (ms ns : List Miss) → met_times (ms ++ ns) ≡ met_times ms + met_times ns
+met_append [] ns = omega arith
+met_append (Baton ∷ ms) ns = let ih = met_append ms ns in omega arith
+met_append (Lane j ∷ ms) ns = met_append ms ns
 
 module _ {T K : Type 0} where
   pub has_drawn : (v w : View T K) (lane : ℕ) → w ≡ got lane v → 1 ≤ times lane w.drawn
@@ -29,11 +39,14 @@ module _ {T K : Type 0} where
       let h = all x in omega arith
 
   -- a lane that a draw gave is drawn
-  pub has_drawn_some : (o : Option ℕ) (lane n : ℕ) (v w : View T K) → o ≡ Some lane → MatchOption o (w ≡ over v) (λ x. (x < n) × (times x v.drawn ≡ 0) × (w ≡ got x v)) → 1 ≤ times lane w.drawn
-  has_drawn_some o lane n v w e h = has_drawn v w lane (subst (λ (z : Option ℕ). MatchOption z (w ≡ over v) (λ x. (x < n) × (times x v.drawn ≡ 0) × (w ≡ got x v))) e h).2
+  pub has_drawn_some : (o : Option ℕ) (lane n : ℕ) (v w : View T K) → o ≡ Some lane
+      → MatchOption o (w ≡ over v) (λ x. (x < n) × (times x v.drawn ≡ 0) × (w ≡ got x v)) → 1 ≤ times lane w.drawn
+  has_drawn_some o lane n v w e h = has_drawn v w lane
+      (subst (λ (z : Option ℕ). MatchOption z (w ≡ over v) (λ x. (x < n) × (times x v.drawn ≡ 0) × (w ≡ got x v))) e h).2
 
   -- of two passes that have put all, the first ended, the join has put all and has both shares
-  pub joined_all : (a b w : View T K) → w ≡ joined a b → a.ended ≡ true → HasPutAll a → HasPutAll b → (w.ended ≡ true) × HasPutAll w × (w.share ≡ a.share + b.share)
+  pub joined_all : (a b w : View T K) → w ≡ joined a b → a.ended ≡ true → HasPutAll a → HasPutAll b
+      → (w.ended ≡ true) × HasPutAll w × (w.share ≡ a.share + b.share)
   joined_all a b w e ended all all' = (
     ap (λ (z : View T K). z.ended) e ∙ ended,
     (λ x.
@@ -45,3 +58,68 @@ module _ {T K : Type 0} where
         let h' = all' x in omega arith),
     ap (λ (z : View T K). z.share) e,
   )
+
+  -- where all was put, all is, also with pieces laid
+  pub worked_all : (v u w : View T K) (lanes : List ℕ) → IsSameWork (ran lanes v) u → w ≡ over u → HasPutAll v → HasPutAll w
+  worked_all v u w lanes same e all x =
+      let a = times_append x v.drawn lanes in
+      let b = times_append x v.put lanes in
+      let d : times x u.drawn ≡ times x (v.drawn ++ lanes) = ap (times x) same.drawn in
+      let p : times x u.put ≡ times x (v.put ++ lanes) = ap (times x) same.put in
+      let d' : times x w.drawn ≡ times x u.drawn = ap (λ (z : View T K). times x z.drawn) e in
+      let p' : times x w.put ≡ times x u.put = ap (λ (z : View T K). times x z.put) e in
+      let h = all x in omega arith
+
+  -- each call that lays pieces tries once to take the baton
+  tried_once : (v w : View T K) (r : Helped) → IsHelped v w r → tries_of w ≡ tries_of v + 1
+  tried_once v w Busy h =
+      let e : tries_of w ≡ tries_of (missed Baton v) = ap tries_of h.0 in
+      let m = met_append v.misses (Baton ∷ []) in omega arith
+  tried_once v w (Advanced j) h =
+      let l = length-append v.given (j ∷ []) in
+      ⊎_elim
+      (λ (t : IsThrough v w j). let e : tries_of w ≡ tries_of (handed j v) = ap tries_of t.1 in omega arith)
+      (λ (t : IsStopped v w j).
+      let e : tries_of w ≡ tries_of (handed j (missed (Lane j) v)) = ap tries_of t.1 in
+      let m = met_append v.misses (Lane j ∷ []) in omega arith)
+      h.1
+
+  -- a run starts with no lane, and goes on by one lane
+  pub laid_none : (v w : View T K) → w ≡ v → HasLaid v w
+  laid_none v w e = subst (HasLaid v) (sym e) record {
+    ran_lanes = [];
+    same = record {
+      task = refl;
+      lanes = refl;
+      shelved = refl;
+      drawn = sym (append-nil v.drawn);
+      put = sym (append-nil v.put);
+      holds = refl;
+      ended = refl;
+      allowance = refl;
+      share = refl;
+    };
+    tried = omega arith;
+  }
+
+  pub laid_more : (v u x w : View T K) (lane : ℕ) (r : Helped) → HasLaid v u → u.holds ≡ None → x ≡ gave lane (got lane u) → IsHelped x w r → IsSameWork x w
+      → HasLaid v w
+  laid_more v u x w lane r h idle e helped same = record {
+    ran_lanes = h.ran_lanes ++ lane ∷ [];
+    same = record {
+      task = same.task ∙ ap (λ (z : View T K). z.task) e ∙ h.same.task;
+      lanes = same.lanes ∙ ap (λ (z : View T K). z.lanes) e ∙ h.same.lanes;
+      shelved = same.shelved ∙ ap (λ (z : View T K). z.shelved) e ∙ h.same.shelved;
+      drawn = same.drawn ∙ ap (λ (z : View T K). z.drawn) e ∙ ap (λ (l : List ℕ). l ++ lane ∷ []) h.same.drawn ∙ append_assoc v.drawn h.ran_lanes (lane ∷ []);
+      put = same.put ∙ ap (λ (z : View T K). z.put) e ∙ ap (λ (l : List ℕ). l ++ lane ∷ []) h.same.put ∙ append_assoc v.put h.ran_lanes (lane ∷ []);
+      holds = same.holds ∙ ap (λ (z : View T K). z.holds) e ∙ sym idle ∙ h.same.holds;
+      ended = same.ended ∙ ap (λ (z : View T K). z.ended) e ∙ h.same.ended;
+      allowance = same.allowance ∙ ap (λ (z : View T K). z.allowance) e ∙ h.same.allowance;
+      share = same.share ∙ ap (λ (z : View T K). z.share) e ∙ h.same.share;
+    };
+    tried =
+        let t = tried_once x w r helped in
+        let was = h.tried in
+        let is : tries_of x ≡ tries_of u = ap tries_of e in
+        let l = length-append h.ran_lanes (lane ∷ []) in omega arith;
+  }

@@ -11,7 +11,8 @@ pub data Event (T : Type 0) : Type 0 where
   joins : ℕ → ℕ → Event T
   judges : ℕ → Event T
 
--- the number of draws, the lanes that each pass drew and put, the pieces with their lanes, the last one first, and how many are judged
+-- the number of draws, the lanes that each pass drew and put, the pieces with their lanes, the last one first,
+-- and how many are judged
 pub record Core (T : Type 0) : Type 0 where
   pub drawn : ℕ
   pub own : List (List ℕ)
@@ -20,7 +21,7 @@ pub record Core (T : Type 0) : Type 0 where
   pub judged : ℕ
 
 -- the list of a pass
-abbrev pub of : List (List ℕ) → ℕ → List ℕ
+abbrev pub of : {A : Type 0} → List (List A) → ℕ → List A
 of xs pass = slice_index_or xs pass []
 
 -- the piece that was put for the lane
@@ -31,10 +32,17 @@ piece_of x (p ∷ ps) = cond (x == p.0) (Some p.1) (piece_of x ps)
 module _ {T : Type 0} (lanes : ℕ) where
   -- the state after an event
   abbrev pub after : Event T → Core T → Core T
-  after (draws p) c = record c { drawn = c.drawn + 1; own = cond (nat_lt c.drawn lanes) (slice_set c.own p (of c.own p ++ c.drawn ∷ [])) c.own }
-  after (puts p lane piece) c = record c { put = slice_set c.put p (of c.put p ++ lane ∷ []); pieces = (lane, piece) ∷ c.pieces }
+  after (draws p) c = record c {
+    drawn = c.drawn + 1;
+    own = cond (nat_lt c.drawn lanes) (slice_set c.own p (of c.own p ++ c.drawn ∷ [])) c.own;
+  }
+  after (puts p lane piece) c =
+      record c { put = slice_set c.put p (of c.put p ++ lane ∷ []); pieces = (lane, piece) ∷ c.pieces }
   after (splits p) c = record c { own = c.own ++ [] ∷ []; put = c.put ++ [] ∷ [] }
-  after (joins p q) c = record c { own = slice_set (slice_set c.own p (of c.own p ++ of c.own q)) q []; put = slice_set (slice_set c.put p (of c.put p ++ of c.put q)) q [] }
+  after (joins p q) c = record c {
+    own = slice_set (slice_set c.own p (of c.own p ++ of c.own q)) q [];
+    put = slice_set (slice_set c.put p (of c.put p ++ of c.put q)) q [];
+  }
   after (judges lane) c = record c { judged = lane + 1 }
 
   -- the state after a history, whose last event stands first
@@ -43,10 +51,12 @@ module _ {T : Type 0} (lanes : ℕ) where
   played (e ∷ es) = after e (played es)
 
 module _ {T : Type 0} (fits : ℕ → T → Type 0) (lanes : ℕ) where
-  -- the event may come next: a pass puts a lane that it drew and has not put, with a piece that fits, and the next lane is judged once it is put
+  -- the event may come next: a pass puts a lane that it drew and has not put, with a piece that fits,
+  -- and the next lane is judged once it is put
   abbrev pub IsLegal : Event T → Core T → Type 0
   IsLegal (draws p) c = p < length c.own
-  IsLegal (puts p lane piece) c = (p < length c.own) × (1 ≤ times lane (of c.own p)) × (times lane (of c.put p) ≡ 0) × fits lane piece
+  IsLegal (puts p lane piece) c =
+      (p < length c.own) × (1 ≤ times lane (of c.own p)) × (times lane (of c.put p) ≡ 0) × fits lane piece
   IsLegal (splits p) c = p < length c.own
   IsLegal (joins p q) c = (p < length c.own) × (q < length c.own) × (q ≢ p)
   IsLegal (judges lane) c = (lane ≡ c.judged) × ((piece : T) × (piece_of lane c.pieces ≡ Some piece))

@@ -1,7 +1,10 @@
+pub mod Words
 pub mod Core
 pub mod Fits
 pub mod Piles
 pub mod Views
+pub mod Counted
+pub mod Journal
 pub mod Rule
 pub mod Ruled
 pub mod Steps
@@ -9,3 +12,5 @@ pub mod Helps
 pub mod Verdicts
 pub mod Rounds
 pub mod Seen
+pub mod Closes
+pub mod Laws

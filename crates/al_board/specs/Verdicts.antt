@@ -20,8 +20,10 @@ module _ {T W : Type 0} (judge : List T → T → W) where
   verdicts lanes (puts p lane piece ∷ es) = verdicts lanes es
   verdicts lanes (splits p ∷ es) = verdicts lanes es
   verdicts lanes (joins p q ∷ es) = verdicts lanes es
-  verdicts lanes (judges lane ∷ es) = verdicts lanes es ++ said (first_pieces lane (played lanes es).pieces) (piece_of lane (played lanes es).pieces)
+  verdicts lanes (judges lane ∷ es) = verdicts lanes es
+      ++ said (first_pieces lane (played lanes es).pieces) (piece_of lane (played lanes es).pieces)
 
 -- so many lanes are judged in both histories, and each of them has one piece in both
 abbrev pub AgreeOn : {T : Type 0} → (lanes n : ℕ) → List (Event T) → List (Event T) → Type 0
-AgreeOn lanes n h h' = ((played lanes h).judged ≡ n) × ((played lanes h').judged ≡ n) × ((lane : ℕ) → lane < n → piece_of lane (played lanes h).pieces ≡ piece_of lane (played lanes h').pieces)
+AgreeOn lanes n h h' = ((played lanes h).judged ≡ n) × ((played lanes h').judged ≡ n)
+    × ((lane : ℕ) → lane < n → piece_of lane (played lanes h).pieces ≡ piece_of lane (played lanes h').pieces)

@@ -1,12 +1,12 @@
 //! The calls of a board that draw and put.
-ghost use Rattle.std.specs.Prelude.{ℕ, ◌≡◌, ◌+◌, ◌<◌, ◌≤◌, false, [], ◌∷◌, MatchOption, length};
+ghost use Rattle.std.specs.Prelude.{ℕ, ◌≡◌, ◌+◌, ◌<◌, ◌≤◌, false, [], ◌∷◌, length};
 ghost use Rattle.al_count.specs.Counts.{times};
-ghost use Rattle.al_board.specs.Seen.{view, IsSame, IsPassOf, lane_count, task_of};
-ghost use Rattle.al_board.specs.Views.{got, over, gave, keeping, parted, joined, IsBounded};
+ghost use Rattle.al_board.specs.Seen.{view, IsSame, IsPassOf, lane_count, task_of, has_shelf};
+ghost use Rattle.al_board.specs.Views.{gave, keeping, parted, joined, HasDrawn, IsBounded};
 
 use crate::piece::Piece;
 use crate::plays::{Draw, Fill, Halve, Look, Take, Unite};
-use crate::table::{Board, Pass};
+use crate::table::{Board, FILLED, HELD, Pass};
 use crate::view::Slot;
 
 impl<T: Piece> Board<T> {
@@ -15,7 +15,7 @@ impl<T: Piece> Board<T> {
         requires own { IsPassOf self.now pass.old }
         requires going { (view pass.old).ended ≡ false }
         ensures own { IsSame self.now pass.old pass.new }
-        ensures drawn { MatchOption result (view pass.new ≡ over (view pass.old)) (λ lane. (lane < lane_count self.now) × (times lane (view pass.old).drawn ≡ 0) × (view pass.new ≡ got lane (view pass.old))) }
+        ensures drawn { HasDrawn (lane_count self.now) (view pass.old) (view pass.new) result }
         ensures once { IsBounded (view pass.new) }
     {
         let number = self.table.shared.fetch_add::<Draw>(&mut pass.seat, 0, 1);
@@ -33,6 +33,13 @@ impl<T: Piece> Board<T> {
         ensures { result ≡ (view pass.now).allowance }
     {
         pass.allowance
+    }
+
+    /// Whether the board has a shelf.
+    pub fn shelved(&self) -> bool
+        ensures { result ≡ has_shelf self.now }
+    {
+        self.setting.shelved
     }
 
     /// How many lanes the pass put.
@@ -89,11 +96,11 @@ impl<T: Piece> Board<T> {
         ensures put { view pass.new ≡ gave lane (view pass.old) }
     {
         let word = lane as usize + 1;
-        self.table.shared.swap::<Take>(&mut pass.seat, word, 1);
+        self.table.shared.swap::<Take>(&mut pass.seat, word, HELD);
         self.table
             .shared
             .exchange(&mut pass.seat, lane as usize, Slot::Piece(piece));
-        self.table.shared.swap::<Fill>(&mut pass.seat, word, 2);
+        self.table.shared.swap::<Fill>(&mut pass.seat, word, FILLED);
         pass.puts += 1;
     }
 }

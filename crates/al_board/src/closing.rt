@@ -1,15 +1,11 @@
 //! How boards are closed.
-ghost use Rattle.std.specs.Prelude.{ℕ, false, true, slice_index_or, ◌≡◌, ◌+◌, ◌<◌, ◌≤◌, [], ◌∷◌, length};
+ghost use Rattle.std.specs.Prelude.{ℕ, false, true, ◌≡◌, ◌≤◌, [], ◌∷◌, length};
 ghost use Rattle.std.specs.Slots.{slots_items, slots_len, slots_filled};
-ghost use Rattle.std.specs.Mem.Slots.Ownership.{Filled};
-ghost use mathlib.Core.Option.{some};
-ghost use lib.ListN.{get_elem?};
-ghost use Rattle.al_board.specs.declared.view.Slot.TheVariants.{Piece};
-ghost use Rattle.al_board.specs.Piles.{on_pile, room_of};
-ghost use Rattle.al_board.specs.Seen.{view, pass_number, IsPassOf, lane_count, task_of, has_shelf};
-ghost use Rattle.al_board.specs.Views.{IsFull};
+ghost use Rattle.al_board.specs.Closes.{AreFrom, AreLeft, HavePieces};
 ghost use Rattle.al_board.specs.Fits.{AreFit};
-ghost use Rattle.al_board.specs.Rounds.{IsRound};
+ghost use Rattle.al_board.specs.Piles.{on_pile, room_of};
+ghost use Rattle.al_board.specs.Seen.{view, IsPassOf, IsRoundOf, lane_count, task_of, has_shelf};
+ghost use Rattle.al_board.specs.Views.{IsFull};
 
 use crate::piece::Piece;
 use crate::pile::Pile;
@@ -27,7 +23,31 @@ impl<T: Piece> Board<T> {
         requires full { IsFull (view pass) }
         ensures each { length result ≡ lane_count self }
         ensures fit { AreFit (T.fits (task_of self)) result }
-        ensures history { IsRound (T.fits (task_of self)) (lane_count self) 0 (pass_number pass) (view pass) result }
+        ensures history { IsRoundOf T.fits self 0 pass result }
+    {
+        self.close_pile(pass).into_pieces()
+    }
+
+    /// The same as a vector.
+    pub fn close_vec(self, pass: Pass<T>) -> Vec<T>
+        requires own { IsPassOf self pass }
+        requires plain { has_shelf self ≡ false }
+        requires full { IsFull (view pass) }
+        ensures each { length result.items ≡ lane_count self }
+        ensures fit { AreFit (T.fits (task_of self)) result.items }
+        ensures history { IsRoundOf T.fits self 0 pass result.items }
+    {
+        self.close_pile(pass).into_vec()
+    }
+
+    // The same as a pile.
+    fn close_pile(self, pass: Pass<T>) -> Pile<T>
+        requires own { IsPassOf self pass }
+        requires plain { has_shelf self ≡ false }
+        requires full { IsFull (view pass) }
+        ensures each { length (on_pile result) ≡ lane_count self }
+        ensures fit { AreFit (T.fits (task_of self)) (on_pile result) }
+        ensures history { IsRoundOf T.fits self 0 pass (on_pile result) }
     {
         let Board { table, setting } = self;
         let Setting {
@@ -57,7 +77,7 @@ impl<T: Piece> Board<T> {
         ensures stands { T.stands (task_of self) result }
         ensures each { length (T.laid result) ≡ lane_count self }
         ensures fit { AreFit (T.fits (task_of self)) (T.laid result) }
-        ensures history { IsRound (T.fits (task_of self)) (lane_count self) (lane_count self) (pass_number pass) (view pass) (T.laid result) }
+        ensures history { IsRoundOf T.fits self (lane_count self) pass (T.laid result) }
     {
         self.take_turn(&mut pass);
         let Board { table, setting } = self;
@@ -88,12 +108,12 @@ fn gather<T: Drop, H: Drop>(
     mut closed: Closed<Slot<T, H>, Global>,
     mut room: Pile<T>,
     lanes: u32,
-) -> Items<T>
+) -> Pile<T>
     requires room { (on_pile room ≡ []) × (lanes ≤ room_of room) }
-    requires slots { (slots_len closed.slots ≡ lanes + 1) × Filled (slots_filled closed.slots) 0 lanes × (slice_index_or (slots_filled closed.slots) lanes false ≡ false) }
-    requires pieces { (k : ℕ) → k < lanes → (piece : T) × (get_elem? (slots_items closed.slots) k ≡ some (Piece piece)) }
-    ensures each { length result ≡ lanes }
-    ensures from { (k : ℕ) (piece : T) → get_elem? result k ≡ some piece → get_elem? (slots_items closed.slots) k ≡ some (Piece piece) }
+    requires slots { AreLeft (slots_len closed.slots) (slots_filled closed.slots) lanes }
+    requires pieces { HavePieces (slots_items closed.slots) lanes }
+    ensures each { length (on_pile result) ≡ lanes }
+    ensures from { AreFrom (on_pile result) (slots_items closed.slots) }
 {
     for lane in 0..lanes {
         match closed.take(lane as usize) {
@@ -104,13 +124,12 @@ fn gather<T: Drop, H: Drop>(
         }
     }
     closed.free();
-    room.into_pieces()
+    room
 }
 
 // Drops what is left in a closed table, of which the last slot was taken.
 fn discard<S: Drop>(mut closed: Closed<S, Global>, lanes: u32)
-    requires len { slots_len closed.slots ≡ lanes + 1 }
-    requires rest { Filled (slots_filled closed.slots) 0 lanes × (slice_index_or (slots_filled closed.slots) lanes false ≡ false) }
+    requires slots { AreLeft (slots_len closed.slots) (slots_filled closed.slots) lanes }
 {
     for lane in 0..lanes {
         drop(closed.take(lane as usize));

@@ -1,13 +1,13 @@
 //! The calls of a board with a shelf that lay pieces on it.
 ghost use Rattle.std.specs.Prelude.{ℕ, true, ◌≡◌, ◌≢◌, ◌+◌, ◌<◌, ◌≤◌, ◌⊎◌, [], ◌∷◌, Some, None, length};
 ghost use Rattle.al_board.specs.declared.view.Slot.TheVariants.{Empty};
-ghost use Rattle.al_board.specs.Seen.{view, IsSame, IsPassOf, lane_count, task_of, has_shelf};
+ghost use Rattle.al_board.specs.Seen.{seen, view, IsSame, IsPassOf, lane_count, task_of, has_shelf};
 ghost use Rattle.al_board.specs.Views.{at_turn, IsFull, IsSameWork};
-ghost use Rattle.al_board.specs.Helps.{IsHelped, IsLaid, IsCarried};
+ghost use Rattle.al_board.specs.Helps.{IsAbout, IsHelped, IsLaid, IsCarried};
 
 use crate::piece::Piece;
 use crate::plays::{PassOn, Seize, Try};
-use crate::table::{Board, Pass};
+use crate::table::{AWAY, Board, FILLED, Pass, TAKEN};
 use crate::view::{Helped, Slot, View};
 use atomic_table::Seat;
 
@@ -21,12 +21,15 @@ impl<T: Piece> Board<T> {
         found: u32,
     ) -> u32
         requires own { seat.old.table_id ≡ self.now.table.shared.table_id }
-        requires about { (seat.old.me.0.task ≡ Some (task_of self.now)) × (seat.old.me.0.lanes ≡ lane_count self.now) × (seat.old.me.0.shelved ≡ true) × (0 < seat.old.me.0.share) × (T.lanes (task_of self.now) ≡ lane_count self.now) }
-        requires turn { (seat.old.me.0.turn ≡ Some record { found = found; next = found; laid = T.laid shelf.old }) × (seat.old.me.1 ≡ (lane_count self.now, Empty) ∷ []) × (found ≤ lane_count self.now) }
+        requires about { IsAbout (task_of self.now) (lane_count self.now) seat.old.me.0 }
+        requires room { T.lanes (task_of self.now) ≡ lane_count self.now }
+        requires turn { seat.old.me.0.turn ≡ Some record { found = found; next = found; laid = T.laid shelf.old } }
+        requires slots { seat.old.me.1 ≡ (lane_count self.now, Empty) ∷ [] }
+        requires from { found ≤ lane_count self.now }
         requires shelf { T.stands (task_of self.now) shelf.old × (length (T.laid shelf.old) ≡ found) }
         ensures own { (seat.new.table_id ≡ seat.old.table_id) × (seat.new.id ≡ seat.old.id) }
         ensures shelf { T.stands (task_of self.now) shelf.new }
-        ensures laid { IsLaid (lane_count self.now) found result (T.laid shelf.new) seat.old.me.0 seat.new.me.0 }
+        ensures laid { IsLaid (lane_count self.now) found result (T.laid shelf.new) (seen seat.old) (seen seat.new) }
         ensures held { IsCarried (lane_count self.now) result seat.new.me.1 }
     {
         let mut next = found;
@@ -34,8 +37,8 @@ impl<T: Piece> Board<T> {
             let word = self
                 .table
                 .shared
-                .compare_exchange::<Try>(seat, next as usize + 1, 2, 3);
-            if word != 2 {
+                .compare_exchange::<Try>(seat, next as usize + 1, FILLED, TAKEN);
+            if word != FILLED {
                 return next;
             }
             match self.table.shared.exchange(seat, next as usize, Slot::Empty) {
@@ -59,8 +62,8 @@ impl<T: Piece> Board<T> {
     {
         let last = self.setting.lanes as usize;
         let baton = last + 1;
-        let found = self.table.shared.swap::<Seize>(&mut pass.seat, baton, 1025);
-        if found == 1025 {
+        let found = self.table.shared.swap::<Seize>(&mut pass.seat, baton, AWAY);
+        if found == AWAY {
             return Helped::Busy;
         }
         match self

@@ -2,8 +2,7 @@
 ghost use Rattle.std.specs.Prelude.{ℕ, ◌≡◌, ◌+◌, ◌<◌, ◌≤◌, false, true, [], ◌∷◌, IfOk};
 ghost use Rattle.al_board.specs.Seen.{view, IsPassOf, lane_count, task_of, has_shelf};
 ghost use Rattle.al_board.specs.Views.{opener};
-ghost use Rattle.al_board.specs.Rule.{IsBaton, IsRow};
-ghost use mathlib.Core.Option.{some};
+ghost use Rattle.al_board.specs.Rule.{IsOpening, IsRow, terms_of};
 
 use crate::piece::Piece;
 use crate::pile::Pile;
@@ -77,7 +76,7 @@ impl<T: Piece> Board<T> {
         last: Slot<T, T::Shelf>,
     ) -> Result<(Board<T>, Pass<T>), AllocError>
         requires lanes { (1 ≤ setting.lanes) × (setting.lanes ≤ 1024) }
-        requires last { IsBaton T.laid (λ h. T.stands setting.task h × (T.lanes setting.task ≡ setting.lanes)) setting.lanes setting.shelved 0 0 0 [] 0 (some (some last)) }
+        requires last { IsOpening (terms_of T.fits T.laid T.stands T.lanes setting) last }
         ensures board { IfOk result (λ r. r.0.setting ≡ setting) }
         ensures pass { IfOk result (λ r. IsPassOf r.0 r.1 × (view r.1 ≡ opener r.0.setting)) }
     {

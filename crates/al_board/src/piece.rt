@@ -21,7 +21,8 @@ pub trait Piece: Send + Drop {
     // The pieces on the shelf, the first one first. How many are judged is their number.
     ghost laid: { Self.Shelf → List Self };
 
-    // The shelf is one for the task, with room for as many pieces as the task has lanes, and its pieces fit their lanes.
+    // The shelf is one for the task, with room for as many pieces as the task has lanes, and its pieces fit their
+    // lanes.
     ghost stands: { Self.Task → Self.Shelf → Type 0 };
 
     /// Lays the piece of the next lane on the shelf. It takes no memory.

@@ -5,7 +5,8 @@ ghost use Rattle.al_board.specs.Piles.{on_pile, room_of};
 use sqlite_items::Items;
 use std::alloc::{AllocError, Global};
 
-/// Pieces in the order in which they were laid, and room for more. It serves as the shelf of pieces whose boards have none.
+/// Pieces in the order in which they were laid, and room for more. It serves as the shelf of pieces whose boards have
+/// none.
 #[derive(Drop)]
 pub struct Pile<T> {
     pub(crate) items: Vec<T>,
@@ -36,5 +37,13 @@ impl<T: Drop> Pile<T> {
     {
         let Pile { items } = self;
         Items::from_vec(items)
+    }
+
+    /// The pieces, in their order, as a vector.
+    pub fn into_vec(self) -> Vec<T>
+        ensures { result.items ≡ on_pile self }
+    {
+        let Pile { items } = self;
+        items
     }
 }

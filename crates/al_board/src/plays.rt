@@ -1,8 +1,8 @@
 //! The rule of a board, and what each of its steps tells. These types are for the proofs alone.
 ghost use Rattle.std.specs.Prelude.{◌≡◌};
-ghost use Rattle.al_board.specs.Rule.{IsKept};
+ghost use Rattle.al_board.specs.Rule.{IsKept, terms_of};
 ghost use Rattle.al_board.specs.Views.{opener, spent_view, keeping, parted, joined};
-ghost use Rattle.al_board.specs.Steps.{drew, looked, took, filled, seized, tried, passed_on};
+ghost use Rattle.al_board.specs.Steps.{IsDraw, IsLook, IsTake, IsFill, IsSeizure, IsTry, IsHanding};
 
 use crate::piece::Piece;
 use crate::view::{Setting, Slot, View};
@@ -11,7 +11,7 @@ use atomic_table::{Join, Play, Split, TableRule};
 pub struct Lanes;
 
 impl<T: Piece> TableRule<Slot<T, T::Shelf>, View<T, T::Task>, Setting<T::Task>> for Lanes {
-    ghost holds = { λ key. IsKept key (T.fits key.task) T.laid (λ h. T.stands key.task h × (T.lanes key.task ≡ key.lanes)) };
+    ghost holds = { λ key. IsKept (terms_of T.fits T.laid T.stands T.lanes key) };
 
     ghost first = { opener };
 }
@@ -19,43 +19,43 @@ impl<T: Piece> TableRule<Slot<T, T::Shelf>, View<T, T::Task>, Setting<T::Task>> 
 pub struct Draw;
 
 impl<T, H, K> Play<Slot<T, H>, View<T, K>> for Draw {
-    ghost then = { drew };
+    ghost then = { IsDraw };
 }
 
 pub struct Look;
 
 impl<T, H, K> Play<Slot<T, H>, View<T, K>> for Look {
-    ghost then = { looked };
+    ghost then = { IsLook };
 }
 
 pub struct Take;
 
 impl<T, H, K> Play<Slot<T, H>, View<T, K>> for Take {
-    ghost then = { took };
+    ghost then = { IsTake };
 }
 
 pub struct Fill;
 
 impl<T, H, K> Play<Slot<T, H>, View<T, K>> for Fill {
-    ghost then = { filled };
+    ghost then = { IsFill };
 }
 
 pub struct Seize;
 
 impl<T: Piece> Play<Slot<T, T::Shelf>, View<T, T::Task>> for Seize {
-    ghost then = { seized T.laid (λ k n h. T.stands k h × (T.lanes k ≡ n)) };
+    ghost then = { IsSeizure T.laid (λ k n h. T.stands k h × (T.lanes k ≡ n)) };
 }
 
 pub struct Try;
 
 impl<T: Piece> Play<Slot<T, T::Shelf>, View<T, T::Task>> for Try {
-    ghost then = { tried T.fits };
+    ghost then = { IsTry T.fits };
 }
 
 pub struct PassOn;
 
 impl<T, H, K> Play<Slot<T, H>, View<T, K>> for PassOn {
-    ghost then = { passed_on };
+    ghost then = { IsHanding };
 }
 
 pub struct Halve;

@@ -4,12 +4,10 @@ ghost use Rattle.al_board.specs.Piles.{on_pile, IsPileFor};
 ghost use Rattle.al_board.specs.Seen.{view, IsPassOf, lane_count, task_of};
 ghost use Rattle.al_board.specs.Views.{HasPutAll};
 
-use crate::{Board, Helped, Maker, Pass, Piece, Pile, fill_next, work};
+use crate::{Board, Helped, Maker, Piece, Pile, fill_next, work, work_and_lay};
 use sqlite_items::Items;
 use std::alloc::{AllocError, Global};
 use std::test::Fail;
-use std::thread;
-use std::thread::Threads;
 
 // The piece of lane k has the number 2k + 1; the task is the number of lanes.
 #[derive(Drop)]
@@ -118,142 +116,6 @@ fn a_pass_is_dropped(rt: HostRuntime) -> Result<(), Fail> {
     Ok(())
 }
 
-// Works with a pass that it is given, and gives it back.
-fn work_alone(
-    board: &Board<Mark>,
-    mut pass: Pass<Mark>,
-    maker: &Marker,
-) -> Result<Pass<Mark>, AllocError>
-    requires own { IsPassOf board.now pass }
-    requires maker { (maker.now.lanes ≡ task_of board.now) × (maker.now.lanes ≡ lane_count board.now) }
-    requires going { ((view pass).ended ≡ false) × HasPutAll (view pass) }
-    ensures own { IfOk result (λ p. IsPassOf board.now p) }
-    ensures done { IfOk result (λ p. ((view p).ended ≡ true) × HasPutAll (view p) × ((view p).share ≡ (view pass).share)) }
-{
-    work(board, &mut pass, maker)?;
-    Ok(pass)
-}
-
-// Two threads work, each with half of the pass.
-fn work_in_two<R: Threads + Sync>(
-    rt: &R,
-    board: &Board<Mark>,
-    mut pass: Pass<Mark>,
-    maker: &Marker,
-) -> Result<Pass<Mark>, AllocError>
-    requires own { IsPassOf board.now pass }
-    requires maker { (maker.now.lanes ≡ task_of board.now) × (maker.now.lanes ≡ lane_count board.now) }
-    requires going { ((view pass).ended ≡ false) × HasPutAll (view pass) × (2 ≤ (view pass).allowance) }
-    ensures own { IfOk result (λ p. IsPassOf board.now p) }
-    ensures done { IfOk result (λ p. ((view p).ended ≡ true) × HasPutAll (view p) × ((view p).share ≡ (view pass).share)) }
-{
-    let other = board.split(&mut pass);
-    let (mine, theirs) = thread::join(
-        rt,
-        || -> Result<Pass<Mark>, AllocError>
-            requires own { IsPassOf board.now pass }
-            requires maker { (maker.now.lanes ≡ task_of board.now) × (maker.now.lanes ≡ lane_count board.now) }
-            requires going { ((view pass).ended ≡ false) × HasPutAll (view pass) }
-            ensures own { IfOk result (λ p. IsPassOf board.entry.now p) }
-            ensures done { IfOk result (λ p. ((view p).ended ≡ true) × HasPutAll (view p) × ((view p).share ≡ (view pass).share)) }
-        { work_alone(board, pass, maker) },
-        || -> Result<Pass<Mark>, AllocError>
-            requires own { IsPassOf board.now other }
-            requires maker { (maker.now.lanes ≡ task_of board.now) × (maker.now.lanes ≡ lane_count board.now) }
-            requires going { ((view other).ended ≡ false) × HasPutAll (view other) }
-            ensures own { IfOk result (λ p. IsPassOf board.entry.now p) }
-            ensures done { IfOk result (λ p. ((view p).ended ≡ true) × HasPutAll (view p) × ((view p).share ≡ (view other).share)) }
-        { work_alone(board, other, maker) },
-    );
-    let mut joined = mine?;
-    board.join(&mut joined, theirs?);
-    Ok(joined)
-}
-
-// Four threads work.
-fn work_in_four<R: Threads + Sync>(
-    rt: &R,
-    board: &Board<Mark>,
-    mut pass: Pass<Mark>,
-    maker: &Marker,
-) -> Result<Pass<Mark>, AllocError>
-    requires own { IsPassOf board.now pass }
-    requires maker { (maker.now.lanes ≡ task_of board.now) × (maker.now.lanes ≡ lane_count board.now) }
-    requires going { ((view pass).ended ≡ false) × HasPutAll (view pass) × (4 ≤ (view pass).allowance) }
-    ensures own { IfOk result (λ p. IsPassOf board.now p) }
-    ensures done { IfOk result (λ p. ((view p).ended ≡ true) × HasPutAll (view p) × ((view p).share ≡ (view pass).share)) }
-{
-    let other = board.split(&mut pass);
-    let (mine, theirs) = thread::join(
-        rt,
-        || -> Result<Pass<Mark>, AllocError>
-            requires own { IsPassOf board.now pass }
-            requires maker { (maker.now.lanes ≡ task_of board.now) × (maker.now.lanes ≡ lane_count board.now) }
-            requires going { ((view pass).ended ≡ false) × HasPutAll (view pass) × (2 ≤ (view pass).allowance) }
-            ensures own { IfOk result (λ p. IsPassOf board.entry.now p) }
-            ensures done { IfOk result (λ p. ((view p).ended ≡ true) × HasPutAll (view p) × ((view p).share ≡ (view pass).share)) }
-        { work_in_two(rt, board, pass, maker) },
-        || -> Result<Pass<Mark>, AllocError>
-            requires own { IsPassOf board.now other }
-            requires maker { (maker.now.lanes ≡ task_of board.now) × (maker.now.lanes ≡ lane_count board.now) }
-            requires going { ((view other).ended ≡ false) × HasPutAll (view other) × (2 ≤ (view other).allowance) }
-            ensures own { IfOk result (λ p. IsPassOf board.entry.now p) }
-            ensures done { IfOk result (λ p. ((view p).ended ≡ true) × HasPutAll (view p) × ((view p).share ≡ (view other).share)) }
-        { work_in_two(rt, board, other, maker) },
-    );
-    let mut joined = mine?;
-    board.join(&mut joined, theirs?);
-    Ok(joined)
-}
-
-// Eight threads work.
-fn work_in_eight<R: Threads + Sync>(
-    rt: &R,
-    board: &Board<Mark>,
-    mut pass: Pass<Mark>,
-    maker: &Marker,
-) -> Result<Pass<Mark>, AllocError>
-    requires own { IsPassOf board.now pass }
-    requires maker { (maker.now.lanes ≡ task_of board.now) × (maker.now.lanes ≡ lane_count board.now) }
-    requires going { ((view pass).ended ≡ false) × HasPutAll (view pass) × (8 ≤ (view pass).allowance) }
-    ensures own { IfOk result (λ p. IsPassOf board.now p) }
-    ensures done { IfOk result (λ p. ((view p).ended ≡ true) × HasPutAll (view p) × ((view p).share ≡ (view pass).share)) }
-{
-    let other = board.split(&mut pass);
-    let (mine, theirs) = thread::join(
-        rt,
-        || -> Result<Pass<Mark>, AllocError>
-            requires own { IsPassOf board.now pass }
-            requires maker { (maker.now.lanes ≡ task_of board.now) × (maker.now.lanes ≡ lane_count board.now) }
-            requires going { ((view pass).ended ≡ false) × HasPutAll (view pass) × (4 ≤ (view pass).allowance) }
-            ensures own { IfOk result (λ p. IsPassOf board.entry.now p) }
-            ensures done { IfOk result (λ p. ((view p).ended ≡ true) × HasPutAll (view p) × ((view p).share ≡ (view pass).share)) }
-        { work_in_four(rt, board, pass, maker) },
-        || -> Result<Pass<Mark>, AllocError>
-            requires own { IsPassOf board.now other }
-            requires maker { (maker.now.lanes ≡ task_of board.now) × (maker.now.lanes ≡ lane_count board.now) }
-            requires going { ((view other).ended ≡ false) × HasPutAll (view other) × (4 ≤ (view other).allowance) }
-            ensures own { IfOk result (λ p. IsPassOf board.entry.now p) }
-            ensures done { IfOk result (λ p. ((view p).ended ≡ true) × HasPutAll (view p) × ((view p).share ≡ (view other).share)) }
-        { work_in_four(rt, board, other, maker) },
-    );
-    let mut joined = mine?;
-    board.join(&mut joined, theirs?);
-    Ok(joined)
-}
-
-#[test]
-fn two_hundred_lanes_on_threads(rt: HostRuntime) -> Result<(), Fail> {
-    let maker = Marker { lanes: 200 };
-    let (board, pass) = Board::<Mark>::new(rt.alloc(), 200, 200)?;
-    let pass = work_in_two::<HostRuntime>(&rt, &board, pass, &maker)?;
-    assert!(rt; is_whole(&board.close(pass), 200));
-    let (board, pass) = Board::<Mark>::new(rt.alloc(), 200, 200)?;
-    let pass = work_in_eight::<HostRuntime>(&rt, &board, pass, &maker)?;
-    assert!(rt; is_whole(&board.close(pass), 200));
-    Ok(())
-}
-
 #[test]
 fn lays_in_lane_order(rt: HostRuntime) -> Result<(), Fail> {
     let pile = Pile::new(rt.alloc(), 3)?;
@@ -274,5 +136,41 @@ fn lays_in_lane_order(rt: HostRuntime) -> Result<(), Fail> {
     board.join(&mut one, three);
     assert!(rt; board.filled(&one) == 3);
     assert!(rt; is_whole(&board.close_shelf(one).into_pieces(), 3));
+    Ok(())
+}
+
+// One pass fills a whole board and lays the pieces.
+fn fill_shelf(alloc: Global, lanes: u32) -> Result<Vec<Mark>, AllocError>
+    requires { (1 ≤ lanes) × (lanes ≤ 64) }
+    ensures each { IfOk result (λ v. length v.items ≡ lanes) }
+    ensures fit { IfOk result (λ v. AreFit (λ lane piece. piece.value ≡ 2 * lane + 1) v.items) }
+{
+    let pile = Pile::new(alloc, lanes)?;
+    let (board, mut pass) = Board::<Mark>::with_shelf(alloc, lanes, lanes, pile)?;
+    work_and_lay(&board, &mut pass, &Marker { lanes })?;
+    Ok(board.close_shelf(pass).into_vec())
+}
+
+#[test]
+fn shelves_of_any_size(rt: HostRuntime) -> Result<(), Fail> {
+    for lanes in [1, 2, 64] {
+        let pieces = fill_shelf(rt.alloc(), lanes)?;
+        assert!(rt; pieces.len() == lanes as usize);
+        let mut right = true;
+        for (lane, piece) in pieces.as_slice().iter().enumerate() {
+            right = right && piece.value == (lane as u64).wrapping_mul(2).wrapping_add(1);
+        }
+        assert!(rt; right);
+    }
+    Ok(())
+}
+
+#[test]
+fn closes_into_a_vector(rt: HostRuntime) -> Result<(), Fail> {
+    let (board, mut pass) = Board::<Mark>::new(rt.alloc(), 3, 3)?;
+    assert!(rt; !board.shelved());
+    work(&board, &mut pass, &Marker { lanes: 3 })?;
+    let pieces = board.close_vec(pass);
+    assert!(rt; pieces.len() == 3);
     Ok(())
 }

@@ -24,6 +24,24 @@ pub struct Turn<T> {
     pub laid: LinkedList<T>,
 }
 
+/// What a pass does to its board, by the number of the pass: one entry of the board's journal. No value of it is made.
+pub enum Entry<T> {
+    Drew(u32),
+    /// The pass put the lane's piece.
+    Put(u32, u32, T),
+    Split(u32),
+    /// The pass took in the lanes and the rights of the other.
+    Joined(u32, u32),
+    /// The pass took the baton, or found that another has it.
+    Seized(u32),
+    Met(u32),
+    /// The pass, which has the baton, took the piece of the next lane, or found none there.
+    Took(u32),
+    Skipped(u32),
+    /// The pass gave the baton back.
+    Handed(u32),
+}
+
 /// What a pass knows. No value of it is made: it stands in proofs alone.
 pub struct View<T, K> {
     /// The board's task, its number of lanes and whether it has a shelf, but in a view that a join has spent.
@@ -41,6 +59,8 @@ pub struct View<T, K> {
     /// The numbers at which it gave the baton back.
     pub given: LinkedList<u32>,
     pub turn: Option<Turn<T>>,
+    /// The board's journal up to the pass's last entry, the last entry first.
+    pub log: LinkedList<Entry<T>>,
 }
 
 /// What lies in a slot of a board.

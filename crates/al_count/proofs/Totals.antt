@@ -2,6 +2,7 @@
 use Rattle.std.proofs.Common.{◌≡◌, ℕ, zero, suc, ◌+◌, ◌*◌, ◌<◌, ◌≤◌, ◌≢◌, ◌==◌, ◌⊎◌, inl, inr, ⊎_elim, cond, Option, Some, None, List, [], ◌∷◌, ◌++◌, length, set, refl, sym, ap, ◌∙◌, subst, arith}
 use Rattle.std.proofs.lemmas.Bool.Decides.{nat_tests}
 use mathlib.Core.Option.{some, some-injective, some-ne-none}
+use native.Mathlib.Decide.{ℕ_discrete}
 use lib.ListN.{get_elem?}
 use Rattle.al_count.specs.Counts.{one, below, times, total, holding, present}
 
@@ -238,3 +239,22 @@ is_present (Some a) h = (a, refl)
 pub times_length : (x : ℕ) (ys : List ℕ) → times x ys ≤ length ys
 times_length x [] = omega arith
 times_length x (y ∷ ys) = let ih = times_length x ys in let o = one_le x y in omega arith
+
+-- where f of all but one is 0, the total is f of that one
+pub total_alone : {V : Type 0} (f : V → ℕ) (vs : List V) (i : ℕ) (v : V) → get_elem? vs i ≡ some v → ((j : ℕ) (u : V) → j ≢ i → get_elem? vs j ≡ some u → f u ≡ 0) → total f vs ≡ f v
+total_alone f [] i v at none = absurd (some-ne-none v (sym at))
+total_alone f (x ∷ xs) zero v at none =
+    let rest = total_zero f xs (λ j u at'. none (suc j) u (λ e. omega arith) at') in
+    let same : f x ≡ f v = ap f (some-injective x v at) in omega arith
+total_alone f (x ∷ xs) (suc i) v at none =
+    let ih = total_alone f xs i v at (λ j u ne at'. none (suc j) u (λ e. ne (omega arith)) at') in
+    let first = none 0 x (λ e. omega arith) refl in omega arith
+
+-- what holds x is Some x
+pub is_holding : (x : ℕ) (o : Option ℕ) → 1 ≤ holding x o → o ≡ Some x
+is_holding x None h = absurd (omega arith)
+is_holding x (Some y) h = go (ℕ_discrete x y)
+  where
+    go : Dec (x ≡ y) → Some y ≡ Some x
+    go (yes e) = ap (λ (z : ℕ). Some z) (sym e)
+    go (no ne) = let o = one_other x y ne in absurd (omega arith)

@@ -6,4 +6,5 @@ pub put-requires-clause-drawn : goal.put-requires-clause-drawn
 put-requires-clause-drawn g c κs within = has_drawn _ (view c.draw.new.pass) c.in-Some.lane c.in-Some.ensures.drawn.2
 
 pub put-requires-clause-not_put : goal.put-requires-clause-not_put
-put-requires-clause-not_put g c κs within = is_not_put (view c.args.pass.now) (view c.draw.new.pass) c.in-Some.lane c.in-Some.ensures.drawn.2 c.args.pass.now.bounded c.in-Some.ensures.drawn.1
+put-requires-clause-not_put g c κs within = is_not_put (view c.args.pass.now) (view c.draw.new.pass) c.in-Some.lane c.in-Some.ensures.drawn.2
+    c.args.pass.now.bounded c.in-Some.ensures.drawn.1

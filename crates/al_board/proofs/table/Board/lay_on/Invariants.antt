@@ -1,4 +1,5 @@
 use Rattle.std.proofs.Common.{◌≡◌, ◌-◌, ◌≤◌, length}
+use Rattle.al_board.specs.Seen.{seen}
 use Rattle.al_board.specs.Views.{at_turn}
 use Rattle.al_board.specs.Helps.{IsCarried}
 use Rattle.al_board.proofs.table.Board.lay_on.Given as goal
@@ -7,7 +8,7 @@ abbrev pub invariant-loop-next : goal.invariant-loop-next
 invariant-loop-next g l = record {
   table : l.seat.table_id ≡ l.initial.seat.table_id;
   id : l.seat.id ≡ l.initial.seat.id;
-  view : l.seat.me.0 ≡ at_turn l.found l.next (g.T.Piece.laid l.shelf) l.initial.seat.me.0;
+  view : seen l.seat ≡ at_turn l.found l.next (g.T.Piece.laid l.shelf) (seen l.initial.seat);
   held : IsCarried l.self.setting.lanes l.next l.seat.me.1;
   from : l.found ≤ l.next;
   to : l.next ≤ l.self.setting.lanes;

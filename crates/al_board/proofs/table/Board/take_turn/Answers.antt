@@ -1,6 +1,8 @@
 use Rattle.std.proofs.Common.{arith, refl, sym, subst, ap, ◌∙◌, ◌≡◌, ℕ, ◌∷◌}
 use Rattle.atomic_table.specs.Table.{rest}
 use Rattle.al_board.specs.declared.view.Slot.TheVariants.{Empty, Shelf}
+use Rattle.al_board.specs.Seen.{seen}
+use Rattle.al_board.specs.Views.{unlogged}
 use Rattle.al_board.proofs.Batons.{seizes, passes_on}
 use Rattle.al_board.proofs.Lays.{laid_turn, laid_work, turned_is, turned_other}
 use Rattle.al_board.proofs.table.Board.take_turn.Goals as goal
@@ -10,35 +12,41 @@ swap-found-requires g c =
     let q = c.args.self.now.sized in (
       c.requires.own.0,
       omega arith,
-      seizes c.args.self.now.table.shared.key g.T.Piece.fits g.T.Piece.laid (λ k n h. g.T.Piece.stands k h × (g.T.Piece.lanes k ≡ n)) _ c.args.self.now.setting.lanes _ _ _ c.requires.own.2 c.args.pass.now.live.0 (c.requires.own.3 ∙ c.requires.shelf) c.args.pass.now.idle.2 c.requires.put,
+      seizes g.T.Piece.fits g.T.Piece.laid (λ k n h. g.T.Piece.stands k h × (g.T.Piece.lanes k ≡ n)) c.args.self.now.table.shared.key _
+          c.args.self.now.setting.lanes _ _ _
+          c.requires.own.2 c.args.pass.now.live.0 (c.requires.own.3 ∙ c.requires.shelf) c.args.pass.now.idle.2 c.requires.put,
     )
 
 pub exchange-requires : goal.exchange-requires
 exchange-requires g c =
-    let took = c.swap-found.ensures.2.1 c.if-found-eq1025.false in
-    (c.swap-found.ensures.0 ∙ c.requires.own.0, (Shelf took.1.0, took.1.2 ∙ (λ j. (c.requires.own.2 j, Shelf took.1.0) ∷ sym (ap rest took.1.2) j)))
+    let took = c.swap-found.ensures.2.home c.if-found-eq-AWAY.false in
+    (c.swap-found.ensures.0 ∙ c.requires.own.0, (Shelf took.shelf, took.slots ∙ (λ j. (c.requires.own.2 j, Shelf took.shelf) ∷ sym (ap rest took.slots) j)))
 
 pub swap-requires : goal.swap-requires
 swap-requires g c =
     let q = c.args.self.now.sized in
     let own = c.requires.own in
     let n : ℕ = c.args.self.now.setting.lanes in
-    let took = c.swap-found.ensures.2.1 c.if-found-eq1025.false in
-    let e = ap (λ z. z.0) c.exchange.ensures.3 ∙ took.1.1 in
+    let took = c.swap-found.ensures.2.home c.if-found-eq-AWAY.false in
+    let e = ap (λ z. unlogged z.0) c.exchange.ensures.3 ∙ took.view in
     let laid = c.lay_on-next.ensures.laid in
-    let w = laid_work n c.swap-found.result c.lay_on-next.result (g.T.Piece.laid c.lay_on-next.new.shelf) c.exchange.new.seat.me.0 c.lay_on-next.new.seat.me.0 laid in
-    let me : c.exchange-in-Shelf.new.seat.me.0 ≡ c.lay_on-next.new.seat.me.0 = ap (λ z. z.0) c.exchange-in-Shelf.ensures.3 ∙ ap (λ z. z.0) c.turn.ensures.2 in
+    let on_shelf = g.T.Piece.laid c.lay_on-next.new.shelf in
+    let w = laid_work n c.swap-found.result c.lay_on-next.result on_shelf (seen c.exchange.new.seat) (seen c.lay_on-next.new.seat) laid in
+    let me : seen c.exchange-in-Shelf.new.seat ≡ seen c.lay_on-next.new.seat =
+    ap (λ z. unlogged z.0) c.exchange-in-Shelf.ensures.3 ∙ ap (λ z. unlogged z.0) c.turn.ensures.2 in
     let share : c.exchange-in-Shelf.new.seat.me.0.share ≡ c.args.pass.now.seat.me.0.share = ap (λ z. z.share) me ∙ w.share ∙ ap (λ z. z.share) e in
     let live = c.args.pass.now.live.0 in (
       c.exchange-in-Shelf.ensures.0 ∙ c.turn.ensures.0 ∙ c.lay_on-next.ensures.own.0 ∙ c.exchange.ensures.0 ∙ c.swap-found.ensures.0 ∙ own.0,
       omega arith,
-      passes_on c.args.self.now.table.shared.key g.T.Piece.fits g.T.Piece.laid (λ k n h. g.T.Piece.stands k h × (g.T.Piece.lanes k ≡ n)) _ n _ _
-          record { found = c.swap-found.result; next = c.lay_on-next.result; laid = g.T.Piece.laid c.lay_on-next.new.shelf } c.lay_on-next.new.shelf
+      passes_on g.T.Piece.fits g.T.Piece.laid (λ k n h. g.T.Piece.stands k h × (g.T.Piece.lanes k ≡ n)) c.args.self.now.table.shared.key _ n _ _
+          record { found = c.swap-found.result; next = c.lay_on-next.result; laid = on_shelf } c.lay_on-next.new.shelf
           (ap (λ z. z.lanes) me ∙ w.lanes ∙ ap (λ z. z.lanes) e ∙ own.2)
           (omega arith)
           (ap (λ z. z.shelved) me ∙ w.shelved ∙ ap (λ z. z.shelved) e ∙ own.3 ∙ c.requires.shelf)
-          (ap (λ z. z.turn) me ∙ laid_turn n c.swap-found.result c.lay_on-next.result (g.T.Piece.laid c.lay_on-next.new.shelf) c.exchange.new.seat.me.0 c.lay_on-next.new.seat.me.0 laid)
-          (subst (λ k. g.T.Piece.stands k.task c.lay_on-next.new.shelf × (g.T.Piece.lanes k.task ≡ k.lanes)) (sym c.args.self.now.about) (c.lay_on-next.ensures.shelf, (took.1.4 c.args.self.now.setting.task own.1).1 ∙ own.2))
+          (ap (λ z. z.turn) me ∙ laid_turn n c.swap-found.result c.lay_on-next.result on_shelf (seen c.exchange.new.seat) (seen c.lay_on-next.new.seat) laid)
+          (subst (λ k. g.T.Piece.stands k.task c.lay_on-next.new.shelf × (g.T.Piece.lanes k.task ≡ k.lanes)) (sym c.args.self.now.about)
+          (c.lay_on-next.ensures.shelf, (took.standing c.args.self.now.setting.task own.1).1 ∙ own.2))
           refl
-          (turned_other n c.lay_on-next.result Empty (Shelf c.lay_on-next.new.shelf) _ _ (turned_is n c.lay_on-next.result _ c.lay_on-next.ensures.held) (ap (λ z. z.1) c.exchange-in-Shelf.ensures.3 ∙ ap (λ z. (n, Shelf c.lay_on-next.new.shelf) ∷ rest z.1) c.turn.ensures.2)),
+          (turned_other n c.lay_on-next.result Empty (Shelf c.lay_on-next.new.shelf) _ _ (turned_is n c.lay_on-next.result _ c.lay_on-next.ensures.held)
+          (ap (λ z. z.1) c.exchange-in-Shelf.ensures.3 ∙ ap (λ z. (n, Shelf c.lay_on-next.new.shelf) ∷ rest z.1) c.turn.ensures.2)),
     )

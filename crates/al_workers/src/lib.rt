@@ -1,0 +1,10 @@
+//! Threads that work on all lanes of a board.
+#![tactic(auto)]
+
+mod gate;
+#[cfg(test)]
+mod tests;
+mod tree;
+
+pub use gate::{FreeGate, Gate};
+pub use tree::work_all;
