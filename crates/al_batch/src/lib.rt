@@ -1,0 +1,12 @@
+//! Jobs that threads do, each once, with the answers in the order of the jobs.
+#![tactic(auto)]
+
+mod gate;
+mod jobs;
+mod run;
+#[cfg(test)]
+mod tests;
+
+pub use gate::{FreePool, PoolGate};
+pub use jobs::Work;
+pub use run::run_jobs;
