@@ -1,5 +1,9 @@
 pub mod Lists
 pub mod Sets
+pub mod Parts
 pub mod Unlogged
 pub mod Later
 pub mod OneRound
+pub mod AllRounds
+pub mod Plain
+pub mod InOrder
