@@ -7,3 +7,6 @@ pub mod OneRound
 pub mod AllRounds
 pub mod Plain
 pub mod InOrder
+pub mod Names
+pub mod Commuting
+pub mod Writes

@@ -1,3 +1,4 @@
 pub mod Loops
 pub mod Serially
 pub mod InOrder
+pub mod Writes

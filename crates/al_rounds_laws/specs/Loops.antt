@@ -28,10 +28,14 @@ abbrev pub Each : (ℕ → Type 0) → List ℕ → Type 0
 Each P [] = Unit {0}
 Each P (c ∷ cs) = P c × Each P cs
 
+-- of each chunk of the list and each later one
+abbrev pub Pairwise : (ℕ → ℕ → Type 0) → List ℕ → Type 0
+Pairwise R [] = Unit {0}
+Pairwise R (c ∷ cs) = Each (R c) cs × Pairwise R cs
+
 -- no chunk stands in the list twice
 abbrev pub AreDistinct : List ℕ → Type 0
-AreDistinct [] = Unit {0}
-AreDistinct (c ∷ cs) = Each (λ d. c ≢ d) cs × AreDistinct cs
+AreDistinct = Pairwise (λ c d. c ≢ d)
 
 -- ---- policies
 
