@@ -9,4 +9,5 @@ pub mod Plain
 pub mod InOrder
 pub mod Names
 pub mod Commuting
-pub mod Writes
+pub mod Writing
+pub mod NoReds
