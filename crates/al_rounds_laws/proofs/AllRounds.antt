@@ -14,7 +14,7 @@ use Rattle.al_core.specs.Round.{Round, round}
 use Rattle.al_core.specs.Lockstep.{Rounds, not_committed, commits, with_round, still_pending, unless_trapped, rounds_from, up_from, all_chunks, no_rounds, lockstep, commits_of}
 use Rattle.al_core.specs.Serial.{direct, chunks_run, serial}
 use Rattle.al_laws.proofs.Commits.{next_round, round_verdicts, chunks_judged}
-use Rattle.al_rounds_laws.specs.Loops.{LoopEnd, end_of, end_of_round, end_of_rounds, Each, AreDistinct, LooksAtReads}
+use Rattle.al_rounds_laws.specs.Loops.{LoopEnd, end_of, end_of_round, end_of_rounds, Each, Pairwise, AreDistinct, LooksAtReads}
 use Rattle.al_rounds_laws.specs.Serially.{Serially}
 use Rattle.al_rounds_laws.proofs.Lists.{each_map, each_both}
 use Rattle.al_rounds_laws.proofs.Parts.{chunks_of_both}
@@ -28,9 +28,9 @@ each_first : (P : ℕ → Type 0) (ks bs : List ℕ) → Each P (ks ++ bs) → E
 each_first P [] bs h = tt
 each_first P (a ∷ ks) bs h = (h.0, each_first P ks bs h.1)
 
-distinct_first : (ks bs : List ℕ) → AreDistinct (ks ++ bs) → AreDistinct ks
-distinct_first [] bs h = tt
-distinct_first (a ∷ ks) bs h = (each_first _ ks bs h.0, distinct_first ks bs h.1)
+pairwise_first : (R : ℕ → ℕ → Type 0) (ks bs : List ℕ) → Pairwise R (ks ++ bs) → Pairwise R ks
+pairwise_first R [] bs h = tt
+pairwise_first R (a ∷ ks) bs h = (each_first _ ks bs h.0, pairwise_first R ks bs h.1)
 
 abbrev chunks_of : List Judged → List ℕ
 chunks_of js = map (λ j. j.chunk) js
@@ -65,21 +65,65 @@ left_apart (j ∷ js) es h =
       | false ↦ (each_map (commits js) (λ c n e. n (sym e)) (each_commits _ js es h.0), left_apart js es h.1)
     ]
 
-left_distinct : (js : List Judged) (es : List ℕ) → AreDistinct (chunks_of js ++ es) → AreDistinct (not_committed js ++ es)
-left_distinct [] es h = h
-left_distinct (j ∷ js) es h = elim (is_committed j.verdict) as (λ b. AreDistinct (cons_if (not b) j.chunk (not_committed js) ++ es)) [
-  | true ↦ left_distinct js es h.1
-  | false ↦ (each_left _ js es h.0, left_distinct js es h.1)
+left_pairwise : (R : ℕ → ℕ → Type 0) (js : List Judged) (es : List ℕ) → Pairwise R (chunks_of js ++ es) → Pairwise R (not_committed js ++ es)
+left_pairwise R [] es h = h
+left_pairwise R (j ∷ js) es h = elim (is_committed j.verdict) as (λ b. Pairwise R (cons_if (not b) j.chunk (not_committed js) ++ es)) [
+  | true ↦ left_pairwise R js es h.1
+  | false ↦ (each_left _ js es h.0, left_pairwise R js es h.1)
 ]
 
-above : (n k l : ℕ) → k < l → Each (λ d. k ≢ d) (up_from n l)
+commits_pairwise : (R : ℕ → ℕ → Type 0) (js : List Judged) (es : List ℕ) → Pairwise R (chunks_of js ++ es) → Pairwise R (commits js)
+commits_pairwise R [] es h = tt
+commits_pairwise R (j ∷ js) es h = elim (is_committed j.verdict) as (λ b. Pairwise R (cons_if b j.chunk (commits js))) [
+  | true ↦ (each_commits _ js es h.0, commits_pairwise R js es h.1)
+  | false ↦ commits_pairwise R js es h.1
+]
+
+-- ---- the chunks of a round
+
+module _ (x : Execution) (choice : Choice) (m : Memory) where
+  round_chunks : (cs : List ℕ) → chunks_of (round x choice cs m).verdicts ≡ cs
+  round_chunks cs = ap chunks_of (round_verdicts x choice cs m) ∙ chunks_judged x choice m cs nothing_judged
+
+  -- the pending ones, by what the round judged and what it left out
+  pub split_pending : (lanes : ℕ) (pending : List ℕ) → chunks_of (round x choice (take lanes pending) m).verdicts ++ drop lanes pending ≡ pending
+  split_pending lanes pending = ap (λ z. z ++ drop lanes pending) (round_chunks (take lanes pending)) ∙ take-append-drop lanes pending
+
+  chunks_again : (cs : List ℕ) → cs ≡ chunks_of (round x choice cs m).verdicts ++ []
+  chunks_again cs = sym (append-nil (chunks_of (round x choice cs m).verdicts) ∙ round_chunks cs)
+
+  -- what holds of the chunks of a round holds of the committed ones
+  pub round_each : (P : ℕ → Type 0) (cs : List ℕ) → Each P cs → Each P (commits (round x choice cs m).verdicts)
+  round_each P cs h = each_commits P (round x choice cs m).verdicts [] (subst (Each P) (chunks_again cs) h)
+
+  pub round_pairwise : (R : ℕ → ℕ → Type 0) (cs : List ℕ) → Pairwise R cs → Pairwise R (commits (round x choice cs m).verdicts)
+  round_pairwise R cs h = commits_pairwise R (round x choice cs m).verdicts [] (subst (Pairwise R) (chunks_again cs) h)
+
+  pub pending_pairwise : (R : ℕ → ℕ → Type 0) (lanes : ℕ) (pending : List ℕ) → Pairwise R pending
+      → Pairwise R (commits (round x choice (take lanes pending) m).verdicts)
+      × Pairwise R (still_pending lanes pending (round x choice (take lanes pending) m))
+  pending_pairwise R lanes pending h =
+      let js = (round x choice (take lanes pending) m).verdicts in
+      let all = subst (Pairwise R) (sym (split_pending lanes pending)) h in
+      (commits_pairwise R js (drop lanes pending) all, left_pairwise R js (drop lanes pending) all)
+
+-- ---- all chunks
+
+above : (n k l : ℕ) → k < l → Each (λ d. k < d) (up_from n l)
 above zero k l h = tt
-above (suc n) k l h = (λ e. absurd (omega (arith, e)), above n k (suc l) (omega arith))
+above (suc n) k l h = (h, above n k (suc l) (omega arith))
+
+pub up_ascends : (n k : ℕ) → Pairwise (λ c d. c < d) (up_from n k)
+up_ascends zero k = tt
+up_ascends (suc n) k = (above n k (suc k) (omega arith), up_ascends n (suc k))
+
+ascending_distinct : (cs : List ℕ) → Pairwise (λ c d. c < d) cs → AreDistinct cs
+ascending_distinct [] h = tt
+ascending_distinct (c ∷ cs) h = (each_map cs (λ d l e. absurd (omega (arith, e, l))) h.0, ascending_distinct cs h.1)
 
 -- the chunks of an execution are distinct
 pub up_distinct : (n k : ℕ) → AreDistinct (up_from n k)
-up_distinct zero k = tt
-up_distinct (suc n) k = (above n k (suc k) (omega arith), up_distinct n (suc k))
+up_distinct n k = ascending_distinct (up_from n k) (up_ascends n k)
 
 -- ---- the rounds that come
 
@@ -119,26 +163,19 @@ module _ (x : Execution) (choice : Choice) (Ready : ℕ → Memory → Type 0) (
       let split = sym (take-append-drop lanes pending) in
       round_comes x choice Ready h looks m (take lanes pending)
       (each_first (λ c. Ready c m) (take lanes pending) (drop lanes pending) (subst (λ z. Each (λ c. Ready c m) z) split g.ready))
-      (distinct_first (take lanes pending) (drop lanes pending) (subst AreDistinct split g.differ))
-
-  round_chunks : (m : Memory) (cs : List ℕ) → chunks_of (round x choice cs m).verdicts ≡ cs
-  round_chunks m cs = ap chunks_of (round_verdicts x choice cs m) ∙ chunks_judged x choice m cs nothing_judged
-
-  -- the pending ones, by what the round judged and what it left out
-  split_pending : (m : Memory) (pending : List ℕ) → chunks_of (round x choice (take lanes pending) m).verdicts ++ drop lanes pending ≡ pending
-  split_pending m pending = ap (λ z. z ++ drop lanes pending) (round_chunks m (take lanes pending)) ∙ take-append-drop lanes pending
+      (pairwise_first _ (take lanes pending) (drop lanes pending) (subst AreDistinct split g.differ))
 
   left_ready : (m : Memory) (pending : List ℕ) → AllReady m pending
       → AllReady (round x choice (take lanes pending) m).memory (still_pending lanes pending (round x choice (take lanes pending) m))
   left_ready m pending g =
       let js = (round x choice (take lanes pending) m).verdicts in
       let es = drop lanes pending in
-      let differ = subst AreDistinct (sym (split_pending m pending)) g.differ in
-      let ready = subst (λ z. Each (λ c. Ready c m) z) (sym (split_pending m pending)) g.ready in
+      let differ = subst AreDistinct (sym (split_pending x choice m lanes pending)) g.differ in
+      let ready = subst (λ z. Each (λ c. Ready c m) z) (sym (split_pending x choice m lanes pending)) g.ready in
       record {
         ready = each_both (not_committed js ++ es) (λ d n k. (one_round m pending g).ready d n k) (left_apart js es differ)
             (each_left (λ c. Ready c m) js es ready);
-        differ = left_distinct js es differ;
+        differ = left_pairwise _ js es differ;
       }
 
   -- a round, and then the rest

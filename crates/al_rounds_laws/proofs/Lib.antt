@@ -11,3 +11,7 @@ pub mod Names
 pub mod Commuting
 pub mod Writing
 pub mod NoReds
+pub mod Ascending
+pub mod Shuffles
+pub mod AnyOrder
+pub mod Unread

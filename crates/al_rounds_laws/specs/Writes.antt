@@ -53,3 +53,11 @@ OutcomesCommute =
     → (n : Memory)
     → applied [] (applied [] n (outcome x [] m c)) (outcome x [] m d)
     ≡ applied [] (applied [] n (outcome x [] m d)) (outcome x [] m c)
+
+-- So the committed chunks of a round may be laid over the memory at its start in any order.
+abbrev pub AnyOrderIsSame : Type 0
+AnyOrderIsSame =
+    (x : Execution) (choice : Choice) (m : Memory) (cs ds : List ℕ)
+    → choice.reds ≡ [] → LooksAtWrites choice.policy → AreDistinct cs → Each (IsFresh x m) cs
+    → IsPermutation (commits (round x choice cs m).verdicts) ds
+    → (round x choice cs m).memory ≡ all_applied [] (outcomes x [] m ds) m
