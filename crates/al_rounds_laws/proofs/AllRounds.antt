@@ -1,14 +1,13 @@
 -- An execution in rounds is a serial run of its chunks in commit order.
-use Rattle.std.proofs.Common.{◌≡◌, ◌≢◌, ℕ, zero, suc, ◌+◌, ◌<◌, List, [], ◌∷◌, ◌++◌, take, drop, true, false, refl, sym, ap, subst, ◌∙◌, arith, append_assoc, append-nil, take-append-drop}
+use Rattle.std.proofs.Common.{◌≡◌, ◌≢◌, ℕ, zero, suc, ◌<◌, List, [], ◌∷◌, ◌++◌, take, drop, true, false, refl, sym, ap, subst, ◌∙◌, arith, append_assoc, append-nil, take-append-drop}
 use Rattle.std.specs.Prelude.{map, not}
 use Rattle.al_core.specs.declared.choices.Choice.{Choice}
 use Rattle.al_core.specs.declared.reports.Ending.{Ending}
 use Rattle.al_core.specs.declared.reports.Ending.TheVariants as ending
 use Rattle.al_core.specs.declared.reports.Judged.{Judged}
 use Rattle.al_core.specs.Memory.{Memory}
-use Rattle.al_core.specs.Access.{Content}
-use Rattle.al_core.specs.Iteration.{Execution, then_by, then_runs}
-use Rattle.al_core.specs.Chunk.{chunk_count, chunk_runs}
+use Rattle.al_core.specs.Iteration.{Execution, then_by}
+use Rattle.al_core.specs.Chunk.{chunk_count}
 use Rattle.al_core.specs.Verdicts.{nothing_judged, is_committed, cons_if}
 use Rattle.al_core.specs.Round.{Round, round}
 use Rattle.al_core.specs.Lockstep.{Rounds, not_committed, commits, with_round, still_pending, unless_trapped, rounds_from, up_from, all_chunks, no_rounds, lockstep, commits_of}
@@ -18,7 +17,7 @@ use Rattle.al_rounds_laws.specs.Loops.{LoopEnd, end_of, end_of_round, end_of_rou
 use Rattle.al_rounds_laws.specs.Serially.{Serially}
 use Rattle.al_rounds_laws.proofs.Lists.{each_map, each_both}
 use Rattle.al_rounds_laws.proofs.Parts.{chunks_of_both}
-use Rattle.al_rounds_laws.proofs.Later.{Later, chunks_later}
+use Rattle.al_rounds_laws.proofs.Later.{chunks_later}
 use Rattle.al_rounds_laws.proofs.Unlogged.{chunks_unlogged}
 use Rattle.al_rounds_laws.proofs.OneRound.{Tells, RoundComes, round_comes}
 
@@ -153,7 +152,8 @@ all_rounds (suc n) x choice lanes (c ∷ cs) s =
       | ending.Trap t line ↦ refl
     ]
 
-module _ (x : Execution) (choice : Choice) (Ready : ℕ → Memory → Type 0) (h : Serially x choice.reds Ready) (looks : LooksAtReads choice.policy) (lanes : ℕ) where
+module _ (x : Execution) (choice : Choice) (Ready : ℕ → Memory → Type 0) (h : Serially x choice.reds Ready) (looks : LooksAtReads choice.policy)
+    (lanes : ℕ) where
   record AllReady (m : Memory) (pending : List ℕ) : Type 0 where
     pub ready : Each (λ c. Ready c m) pending
     pub differ : AreDistinct pending

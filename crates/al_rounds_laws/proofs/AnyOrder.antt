@@ -1,7 +1,6 @@
 -- The committed outcomes of a round may be laid over the memory at its start in any order.
-use Rattle.std.proofs.Common.{◌≡◌, ◌≢◌, ℕ, zero, suc, ◌<◌, List, [], ◌∷◌, length, get_or, All, refl, sym, ap, subst, ◌∙◌, ◌⊎◌, inl, inr, arith, true, false, Bool}
+use Rattle.std.proofs.Common.{◌≡◌, ◌≢◌, ℕ, zero, suc, ◌<◌, List, [], ◌∷◌, length, get_or, refl, sym, ap, subst, ◌∙◌, ◌⊎◌, inl, inr, arith}
 use Rattle.std.proofs.lemmas.Bool.{cases_eq}
-use Rattle.al_core.specs.declared.choices.Choice.{Choice}
 use Rattle.al_core.specs.declared.choices.Red.{Red}
 use Rattle.al_core.specs.Memory.{Memory}
 use Rattle.al_core.specs.Iteration.{Execution}
@@ -10,10 +9,9 @@ use Rattle.al_core.specs.Readiness.{IsFresh}
 use Rattle.al_core.specs.Applied.{applied, all_applied}
 use Rattle.al_core.specs.Round.{outcomes, round}
 use Rattle.al_core.specs.Lockstep.{commits}
-use Rattle.al_rounds_laws.specs.Loops.{Each, Pairwise, AreDistinct, LooksAtWrites}
+use Rattle.al_rounds_laws.specs.Loops.{Each, Pairwise}
 use Rattle.al_rounds_laws.specs.Writes.{AreApart, AnyOrderIsSame}
-use Rattle.al_rounds_laws.proofs.Lists.{each_both, each_map}
-use Rattle.al_rounds_laws.proofs.AllRounds.{round_each, round_pairwise}
+use Rattle.al_rounds_laws.proofs.AllRounds.{round_each}
 use Rattle.al_rounds_laws.proofs.Commuting.{outcomes_commute}
 use Rattle.al_rounds_laws.proofs.Writing.{round_is_laid_over, committed_touch_apart}
 use Rattle.al_rounds_laws.proofs.Shuffles.{steps, any_order}
@@ -66,7 +64,8 @@ module _ (x : Execution) (m : Memory) (ks : List ℕ) where
   by_steps (c ∷ l) n apart fresh = by_steps l (laid c n) apart fresh
 
 any_choice : (reds : List Red) → reds ≡ [] → (x : Execution) (m : Memory) (ks ds : List ℕ)
-    → Pairwise (λ c d. AreApart (outcome x reds m c).touched (outcome x reds m d).touched) ks → Pairwise (λ c d. AreApart (outcome x [] m c).touched (outcome x [] m d).touched) ks
+    → Pairwise (λ c d. AreApart (outcome x reds m c).touched (outcome x reds m d).touched) ks
+    → Pairwise (λ c d. AreApart (outcome x [] m c).touched (outcome x [] m d).touched) ks
 any_choice reds none x m ks ds h = subst (λ r. Pairwise (λ c d. AreApart (outcome x r m c).touched (outcome x r m d).touched) ks) none h
 
 pub any_order_is_same : AnyOrderIsSame

@@ -1,21 +1,19 @@
 -- Two outcomes that write at different addresses may be laid over a memory in either order.
-use Rattle.std.proofs.Common.{◌≡◌, ◌≢◌, ℕ, List, [], ◌∷◌, length, Option, Some, None, Bool, true, false, refl, sym, ap, ◌∙◌, ◌⊎◌, inl, inr}
+use Rattle.std.proofs.Common.{◌≡◌, ℕ, List, [], ◌∷◌, length, Option, Some, None, Bool, true, false, refl, sym, ap, ◌∙◌, ◌⊎◌, inl, inr}
 use Rattle.std.specs.Prelude.{if◌then◌else◌, is_some, option_map, slice_get}
 use Rattle.std.specs.FinMap as map
-use Rattle.std.specs.FinMap.{FinMap}
 use Rattle.std.specs.FinSet as set
 use Rattle.std.proofs.Math.Bool.{true≢false}
 use Rattle.al_core.specs.declared.values.Val.{Val}
 use Rattle.al_core.specs.declared.values.Addr.{Addr}
-use Rattle.al_core.specs.declared.values.Addr.TheVariants.{Word, Head, Local}
+use Rattle.al_core.specs.declared.values.Addr.TheVariants.{Word, Local}
 use Rattle.al_core.specs.declared.values.Obj.{Obj}
 use Rattle.al_core.specs.Memory.{Memory, length_at, value_at, word_in}
-use Rattle.al_core.specs.Iteration.{Execution}
 use Rattle.al_core.specs.Chunk.{Outcome, outcome}
 use Rattle.al_core.specs.Applied.{with_writes, with_made, applied}
 use Rattle.al_laws.specs.PrivateMemories.{is_among}
 use Rattle.al_laws.proofs.Orders.{obj_total, obj_apart}
-use Rattle.al_laws.proofs.Words.{same_some, some_none, same_list}
+use Rattle.al_laws.proofs.Words.{some_none, same_list}
 use Rattle.al_laws.proofs.Overlay.{over, written_words, written_locals, get_with_made, locals_with_made, get_without_freed, locals_without_freed}
 use Rattle.al_laws.proofs.Applying.{put_length}
 use Rattle.al_laws.proofs.Untouched.{untouched_unwritten}
@@ -79,7 +77,8 @@ module _ (n : Memory) (out : Outcome) where
         | Some ws ↦ Some ws
       ] ≡ made_or x (map.get written.objects q)) [ None ↦ refl | Some ws ↦ refl ]
 
-  object_after : (q : Obj) → map.get (applied [] n out).objects q ≡ (if is_among out.freed q then None else made_or (map.get out.made q) (map.get written.objects q))
+  object_after : (q : Obj)
+      → map.get (applied [] n out).objects q ≡ (if is_among out.freed q then None else made_or (map.get out.made q) (map.get written.objects q))
   unfolding applied
   object_after q =
       get_without_freed out.freed (with_made (map.entries out.made) written) q
@@ -193,8 +192,8 @@ outcomes_commute x m c d differ f g apart n =
     let a = outcome x [] m c in
     let b = outcome x [] m d in
     let writes = λ (q : Addr).
-        elim (set.contains a.touched q) as (λ t. set.contains a.touched q ≡ t → OneIsNone (map.get a.writes q) (map.get b.writes q)) [
-          | true ↦ λ t. inr (untouched_unwritten x [] m d q (false_or _ (λ u. apart q t u)))
-          | false ↦ λ t. inl (untouched_unwritten x [] m c q t)
-        ] refl in
+    elim (set.contains a.touched q) as (λ t. set.contains a.touched q ≡ t → OneIsNone (map.get a.writes q) (map.get b.writes q)) [
+      | true ↦ λ t. inr (untouched_unwritten x [] m d q (false_or _ (λ u. apart q t u)))
+      | false ↦ λ t. inl (untouched_unwritten x [] m c q t)
+    ] refl in
     commute a b writes (λ q t. made_is_foreign x [] m c d differ f g q t) (λ q t. made_is_foreign x [] m d c (λ e. differ (sym e)) g f q t) n

@@ -18,7 +18,7 @@ use Rattle.al_core.specs.Round.{round}
 use Rattle.al_core.specs.Lockstep.{Rounds, not_committed, commits, with_round, still_pending, unless_trapped, rounds_from, all_chunks, no_rounds, lockstep, commits_of}
 use Rattle.al_core.specs.Serial.{direct, chunks_run, serial, plain_loop}
 use Rattle.al_laws.proofs.Commits.{more_verdicts, round_verdicts, next_round, pending_falls, up_length}
-use Rattle.al_rounds_laws.specs.Loops.{LoopEnd, end_of, end_of_rounds, Each, LooksAtReads}
+use Rattle.al_rounds_laws.specs.Loops.{end_of, end_of_rounds, Each, LooksAtReads}
 use Rattle.al_rounds_laws.specs.Serially.{Serially}
 use Rattle.al_rounds_laws.specs.InOrder.{IsPrefix}
 use Rattle.al_rounds_laws.proofs.Parts.{chunks_of_both}
@@ -62,7 +62,8 @@ module _ (x : Execution) (choice : Choice) (ordered : is_in_order choice.order �
   idle_after c cs js k = ap (λ l. c ∷ l) (sym k.all) ∙ ap (λ l. l ++ (c ∷ not_committed js)) (sym k.none)
 
   by_verdict : (m : Memory) (c : ℕ) (cs : List ℕ) (s : Judging) (stop clash : Bool) (e : Ending) → stops s ≡ stop
-      → ((s : Judging) → Split cs (more_verdicts x choice m cs s)) → SplitBy m c cs s (if stop then verdict.After else if clash then verdict.Fail else commit_or_trap e)
+      → ((s : Judging) → Split cs (more_verdicts x choice m cs s))
+      → SplitBy m c cs s (if stop then verdict.After else if clash then verdict.Fail else commit_or_trap e)
   by_verdict m c cs s true clash e t rest = idle_after c cs (more_verdicts x choice m cs s) (idle m cs s t)
   by_verdict m c cs s false true e t rest =
       let failed : Judging = record s { failed = true } in

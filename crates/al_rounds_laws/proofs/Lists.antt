@@ -1,6 +1,6 @@
 -- Lists of chunks.
-use Rattle.std.proofs.Common.{◌≢◌, ℕ, List, [], ◌∷◌}
-use Rattle.al_rounds_laws.specs.Loops.{Each, AreDistinct}
+use Rattle.std.proofs.Common.{ℕ, List, [], ◌∷◌}
+use Rattle.al_rounds_laws.specs.Loops.{Each}
 
 pub each_map : {P Q : ℕ → Type 0} (cs : List ℕ) → ((c : ℕ) → P c → Q c) → Each P cs → Each Q cs
 each_map [] f h = tt

@@ -1,5 +1,5 @@
 -- What one chunk made another one knows nothing of.
-use Rattle.std.proofs.Common.{◌≡◌, ◌≢◌, ℕ, ◌+◌, ◌<◌, ◌≤◌, List, Option, Some, None, Bool, true, false, refl, sym, ap, subst, ◌∙◌, arith, inl, inr}
+use Rattle.std.proofs.Common.{◌≡◌, ◌≢◌, ℕ, ◌+◌, ◌<◌, ◌≤◌, List, Option, Some, None, Bool, true, false, refl, sym, ap, ◌∙◌, arith, inl, inr}
 use Rattle.std.specs.Prelude.{if◌then◌else◌, is_some}
 use Rattle.std.specs.FinMap as map
 use Rattle.std.specs.FinSet as set
@@ -17,7 +17,7 @@ use Rattle.al_core.specs.Memory.{Memory, value_at, word_in}
 use Rattle.al_core.specs.Iteration.{Execution}
 use Rattle.al_core.specs.Chunk.{Outcome, chunk_start, chunk_end, chunk_runs, chunk_from, writes_of, outcome_of, outcome}
 use Rattle.al_core.specs.Readiness.{IsNameFrom, IsFresh}
-use Rattle.al_laws.specs.PrivateMemories.{is_among, SameBut, IsPrivate, HasPrivateMemory}
+use Rattle.al_laws.specs.PrivateMemories.{is_among, SameBut, HasPrivateMemory}
 use Rattle.al_laws.proofs.Naming.{made_are_named, given_is_from}
 use Rattle.al_laws.proofs.Overlay.{get_written}
 use Rattle.al_laws.proofs.Laid.{none_of}
@@ -83,7 +83,7 @@ module _ (x : Execution) (reds : List Red) (m : Memory) (c d : ℕ) (differ : c 
     unmade : map.get (outcome x reds m d).made o ≡ None
     unmade =
         let no = λ (t : is_some (map.get (outcome x reds m d).made o) ≡ true).
-            names_apart x c d differ o name (given_is_from x.number (chunk_start x d) (chunk_end x d) o (made_are_named x reds m d o t)) in
+        names_apart x c d differ o name (given_is_from x.number (chunk_start x d) (chunk_end x d) o (made_are_named x reds m d o t)) in
         none_of (map.get (outcome x reds m d).made o) (false_or (is_some (map.get (outcome x reds m d).made o)) no)
 
     foreign_name : IsForeign (outcome x reds m d) o

@@ -1,7 +1,5 @@
 -- Loops without reductions, on memories that have no names of their chunks.
-use Rattle.std.proofs.Common.{◌≡◌, ℕ, zero, suc, ◌<◌, ◌≤◌, List, [], ◌∷◌, refl, sym, subst, ◌∙◌, arith}
-use Rattle.std.specs.Prelude.{min}
-use Rattle.std.proofs.Math.Nat.{min-le_right}
+use Rattle.std.proofs.Common.{◌≡◌, ℕ, zero, suc, [], refl, sym, subst, arith}
 use Rattle.al_core.specs.declared.choices.Choice.{Choice}
 use Rattle.al_core.specs.declared.values.Obj.{Obj}
 use Rattle.al_core.specs.declared.values.Obj.TheVariants.{Global, Serial, Iter}

@@ -53,7 +53,8 @@ kept x choice m cs earlier = committed (outcomes x choice.reds m cs) (verdicts_f
 abbrev pub kept_end : List Red → List Outcome → Memory → List ℕ → LoopEnd
 kept_end reds os n p = record { memory = all_applied reds os n; printed = all_printed os p; ending = last_ending os ending.Done }
 
-pub round_kept : (x : Execution) (choice : Choice) (cs : List ℕ) (m : Memory) → end_of_round (round x choice cs m) ≡ kept_end choice.reds (kept x choice m cs nothing_judged) m []
+pub round_kept : (x : Execution) (choice : Choice) (cs : List ℕ) (m : Memory)
+    → end_of_round (round x choice cs m) ≡ kept_end choice.reds (kept x choice m cs nothing_judged) m []
 unfolding round verdicts
 round_kept x choice cs m = refl
 
@@ -135,7 +136,8 @@ module _ (x : Execution) (choice : Choice) (Ready : ℕ → Memory → Type 0) (
 
   -- a committed chunk, and then the rest
   after_direct : (c : ℕ) (n : Memory) (o : Outcome) (ds : List ℕ) → RunsAs reds n o (chunk_runs x c (direct x n))
-      → Later (chunk_runs x c (direct x n)).content.printed (chunks_run x ds (chunk_runs x c (direct x n)).content) (chunks_run x ds (direct x (applied reds n o)))
+      → Later (chunk_runs x c (direct x n)).content.printed (chunks_run x ds (chunk_runs x c (direct x n)).content)
+      (chunks_run x ds (direct x (applied reds n o)))
   after_direct c n o ds r =
       let f = chunk_runs x c (direct x n) in
       chunks_later f.content.printed x ds f.content (direct x (applied reds n o)) (record {

@@ -10,20 +10,19 @@ use Rattle.al_core.specs.declared.reports.Ending.{Ending}
 use Rattle.al_core.specs.declared.reports.Ending.TheVariants as ending
 use Rattle.al_core.specs.declared.reports.Verdict.{Verdict}
 use Rattle.al_core.specs.declared.reports.Verdict.TheVariants as verdict
-use Rattle.al_core.specs.declared.reports.Judged.{Judged}
 use Rattle.al_core.specs.Orders.{addr_cmp}
 use Rattle.al_core.specs.Memory.{Memory}
 use Rattle.al_core.specs.Iteration.{Execution}
 use Rattle.al_core.specs.Chunk.{Outcome, outcome}
-use Rattle.al_core.specs.Clash.{meets, clashes}
+use Rattle.al_core.specs.Clash.{clashes}
 use Rattle.al_core.specs.Verdicts.{Judging, nothing_judged, is_in_order, commit_or_trap, verdict_of, with_written, after_verdict, judged, is_committed, cons_if}
-use Rattle.al_core.specs.Round.{outcomes, round}
+use Rattle.al_core.specs.Round.{outcomes}
 use Rattle.al_core.specs.Lockstep.{commits}
 use Rattle.al_laws.proofs.Commits.{more_verdicts, round_verdicts}
-use Rattle.al_rounds_laws.specs.Loops.{end_of_round, Each, Pairwise, LooksAtWrites}
-use Rattle.al_rounds_laws.specs.Writes.{laid_over, RoundIsLaidOver, AreApart, TouchApart, CommittedTouchApart}
+use Rattle.al_rounds_laws.specs.Loops.{Each, Pairwise, LooksAtWrites}
+use Rattle.al_rounds_laws.specs.Writes.{laid_over, RoundIsLaidOver, TouchApart, CommittedTouchApart}
 use Rattle.al_rounds_laws.proofs.Lists.{each_map}
-use Rattle.al_rounds_laws.proofs.Sets.{false_or, not_met, writes_apart, off_one}
+use Rattle.al_rounds_laws.proofs.Sets.{not_met, writes_apart, off_one}
 use Rattle.al_rounds_laws.proofs.OneRound.{kept, kept_end, round_kept}
 
 -- ---- what is kept are the outcomes of the committed chunks
