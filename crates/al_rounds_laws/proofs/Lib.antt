@@ -1,0 +1,17 @@
+pub mod Lists
+pub mod Sets
+pub mod Parts
+pub mod Unlogged
+pub mod Later
+pub mod OneRound
+pub mod AllRounds
+pub mod Plain
+pub mod InOrder
+pub mod Names
+pub mod Commuting
+pub mod Writing
+pub mod NoReds
+pub mod Ascending
+pub mod Shuffles
+pub mod AnyOrder
+pub mod Unread
