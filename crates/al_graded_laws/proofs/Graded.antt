@@ -37,7 +37,7 @@ use Rattle.al_core.specs.Loops.{Start, start_in, start_of, bound_of}
 use Rattle.al_core.specs.Accepted.{Terms, no_terms, one_expr, if_expr, both_terms, all_terms, kind_terms, terms, terms_of, calls, calls_at, expr_calls, place_calls, all_called}
 use Rattle.al_core.specs.Meaning.{Flow, Next, Broke, Continued, Returned, Where, Outside, Inside, then_flow, sequence, at_each, all_do, turn_end, turns_to, turns, bound_value, trips_to, annotated, annotated_loop, expr_case, place_case, value, place, values, test_value, result_value, start_value, kind_does, stmt_does, execute, execute_kind, execute_all}
 use Rattle.al_laws.proofs.Induction.{With, expr_induct, place_induct, stmt_induct}
-use Rattle.al_graded_laws.specs.Rules.{Rules, every, expr_obeys, place_obeys, obeys, obeys_at, all_obey, any_obeys, bound_obeys, start_obeys, each_obeys, kind_obeys, stmt_obeys, stmt_kind_obeys, stmts_obey}
+use Rattle.al_graded_laws.specs.Rules.{Rules, every, expr_obeys, place_obeys, obeys, obeys_at, all_obey, any_obeys, bound_obeys, start_obeys, each_obeys, kind_obeys, stmt_obeys, stmt_kind_obeys, stmts_obey, MayCall, MayCallAt, MayCallIn}
 
 -- ---- lists
 
@@ -364,15 +364,14 @@ module _ {S T : Type 0} (v : World S) (w : World T) (F : Fineness) (r : Rules) (
   graded_place = place_induct OfValue OfPlace value_step place_step
 
   abbrev CallsIn : TExpr → Type 0
-  CallsIn e = Calls (calls e)
+  CallsIn = MayCall r.called
 
   abbrev CallsAt : TPlace → Type 0
-  CallsAt p = Calls (calls_at p)
+  CallsAt = MayCallAt r.called
 
   -- the calls in the terms of a statement
-  pub record Allowed (t : Terms) : Type 0 where
-    pub exprs : AllByRecursion CallsIn t.exprs
-    pub places : AllByRecursion CallsAt t.places
+  abbrev Allowed : Terms → Type 0
+  Allowed = MayCallIn r.called
 
   abbrev AnyCalls : Option TExpr → Type 0
   AnyCalls (Some e) = CallsIn e

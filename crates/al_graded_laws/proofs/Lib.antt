@@ -1,1 +1,3 @@
 pub mod Graded
+pub mod Numbers
+pub mod Steady

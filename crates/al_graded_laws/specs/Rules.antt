@@ -1,5 +1,6 @@
 -- What the expressions and statements of a program may mention.
 use Rattle.std.specs.Prelude.{ℕ, Bool, true, ◌&&◌, ◌||◌, List, [], ◌∷◌, Option, Some, None, ℤ}
+use Rattle.std.specs.List.{AllByRecursion}
 use Rattle.al_source.specs.declared.operators.BinOp.{BinOp}
 use Rattle.al_core.specs.declared.choices.Bound.{Bound}
 use Rattle.al_core.specs.declared.choices.Bound.TheVariants as bound
@@ -9,6 +10,7 @@ use Rattle.al_core.specs.declared.typed_tree.TExpr.TheOpen.{TExpr-F, TPlace-F}
 use Rattle.al_core.specs.declared.typed_tree.TStmt.{TStmt, para-TStmt}
 use Rattle.al_core.specs.declared.typed_tree.TKind.{TKind, para-TKind}
 use Rattle.al_core.specs.declared.typed_tree.TKind.TheOpen.{TKind-F}
+use Rattle.al_core.specs.Accepted.{Terms, calls, calls_at}
 use Rattle.al_core.specs.Loops.{Start, any_stmt, start_of, bound_of}
 
 -- the locals, globals, numbers and functions that a program may mention, and the statements that are exempt
@@ -119,3 +121,17 @@ module _ (r : Rules) where
   abbrev pub stmts_obey : List TStmt → Bool
   stmts_obey [] = true
   stmts_obey (d ∷ ds) = stmt_obeys d && stmts_obey ds
+
+-- ---- calls
+
+module _ (called : ℕ → Type 0) where
+  -- it calls only functions that may be called
+  abbrev pub MayCall : TExpr → Type 0
+  MayCall e = AllByRecursion called (calls e)
+
+  abbrev pub MayCallAt : TPlace → Type 0
+  MayCallAt p = AllByRecursion called (calls_at p)
+
+  pub record MayCallIn (t : Terms) : Type 0 where
+    pub exprs : AllByRecursion MayCall t.exprs
+    pub places : AllByRecursion MayCallAt t.places
