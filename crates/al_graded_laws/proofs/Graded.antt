@@ -50,6 +50,22 @@ module _ {X : Type 0} (P : X → Type 0) where
   each_right [] ys h = h
   each_right (x ∷ xs) ys h = each_right xs ys h.1
 
+-- ---- calls
+
+each_of : {X : Type 0} (P : X → Type 0) → ((x : X) → P x) → (xs : List X) → AllByRecursion P xs
+each_of P h [] = tt
+each_of P h (x ∷ xs) = (h x, each_of P h xs)
+
+abbrev pub AnyFunction : ℕ → Type 0
+AnyFunction f = Unit {0}
+
+-- where every function may be called
+pub may_call_all : (t : Terms) → MayCallIn AnyFunction t
+may_call_all t = record {
+  exprs = each_of (MayCall AnyFunction) (λ e. each_of AnyFunction (λ f. tt) (calls e)) t.exprs;
+  places = each_of (MayCallAt AnyFunction) (λ p. each_of AnyFunction (λ f. tt) (calls_at p)) t.places;
+}
+
 -- ---- fine values
 
 -- an answer, if there is one, has the property

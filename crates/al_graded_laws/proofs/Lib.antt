@@ -1,3 +1,4 @@
 pub mod Graded
 pub mod Numbers
 pub mod Steady
+pub mod Watched
