@@ -2,3 +2,5 @@ pub mod Graded
 pub mod Numbers
 pub mod Steady
 pub mod Watched
+pub mod Alone
+pub mod Contents
