@@ -37,7 +37,7 @@ use Rattle.al_core.specs.Loops.{Start, start_in, start_of, bound_of}
 use Rattle.al_core.specs.Accepted.{Terms, no_terms, one_expr, if_expr, both_terms, all_terms, kind_terms, terms, terms_of, calls, calls_at, expr_calls, place_calls, all_called}
 use Rattle.al_core.specs.Meaning.{Flow, Next, Broke, Continued, Returned, Where, Outside, Inside, then_flow, sequence, at_each, all_do, turn_end, turns_to, turns, bound_value, trips_to, annotated, annotated_loop, expr_case, place_case, value, place, values, test_value, result_value, start_value, kind_does, stmt_does, execute, execute_kind, execute_all}
 use Rattle.al_laws.proofs.Induction.{With, expr_induct, place_induct, stmt_induct}
-use Rattle.al_graded_laws.specs.Rules.{Rules, every, expr_obeys, place_obeys, obeys, obeys_at, all_obey, any_obeys, bound_obeys, start_obeys, each_obeys, kind_obeys, stmt_obeys, stmt_kind_obeys, stmts_obey, MayCall, MayCallAt, MayCallIn}
+use Rattle.al_graded_laws.specs.Rules.{Rules, every, expr_obeys, place_obeys, obeys, obeys_at, all_obey, any_obeys, bound_obeys, start_obeys, each_obeys, kind_obeys, stmt_obeys, stmt_kind_obeys, stmts_obey, MayCall, MayCallAt, MayCallIn, AnyFunction}
 
 -- ---- lists
 
@@ -55,9 +55,6 @@ module _ {X : Type 0} (P : X → Type 0) where
 each_of : {X : Type 0} (P : X → Type 0) → ((x : X) → P x) → (xs : List X) → AllByRecursion P xs
 each_of P h [] = tt
 each_of P h (x ∷ xs) = (h x, each_of P h xs)
-
-abbrev pub AnyFunction : ℕ → Type 0
-AnyFunction f = Unit {0}
 
 -- where every function may be called
 pub may_call_all : (t : Terms) → MayCallIn AnyFunction t

@@ -4,3 +4,4 @@ pub mod Steady
 pub mod Watched
 pub mod Alone
 pub mod Contents
+pub mod Values

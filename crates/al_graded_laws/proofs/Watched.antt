@@ -16,8 +16,8 @@ use Rattle.al_core.specs.World.{Pointer, World}
 use Rattle.al_core.specs.Action.{AllPrivate, Private, Frame, State, Answer, Act, after, bind, ◌>>=◌, ◌>>◌, pure, lift, asks, hands_on, at_line, spend, spend_from, get_budget, get_frame, set_frame, or_zero, is_private, with_locals, get_local, set_local, load, store, make, free, print, visit, enter, leave}
 use Rattle.al_core.specs.Accepted.{Terms, terms_of}
 use Rattle.al_core.specs.Meaning.{Where, Flow, returned, frame_of, body_of, call_to}
-use Rattle.al_graded_laws.specs.Rules.{Rules, stmts_obey, MayCallIn}
-use Rattle.al_graded_laws.proofs.Graded.{AnyFunction, may_call_all, Fineness, Fine, FineAll, FineFlow, FineNumbers, OkIs, Any, Graded, graded_execute_all}
+use Rattle.al_graded_laws.specs.Rules.{Rules, AnyFunction, stmts_obey}
+use Rattle.al_graded_laws.proofs.Graded.{may_call_all, Fineness, Fine, FineAll, FineFlow, FineNumbers, OkIs, Any, Graded, graded_execute_all}
 use Rattle.al_graded_laws.proofs.Steady.{fine_set, fine_get, fine_frame, fine_returned, own_frame}
 
 -- the rules outside: all locals, and no exemption

@@ -124,6 +124,9 @@ module _ (r : Rules) where
 
 -- ---- calls
 
+abbrev pub AnyFunction : ℕ → Type 0
+AnyFunction f = Unit {0}
+
 module _ (called : ℕ → Type 0) where
   -- it calls only functions that may be called
   abbrev pub MayCall : TExpr → Type 0
