@@ -81,8 +81,10 @@ module _ {S : Type 0} (F : Fineness) (zero_fine : F.num (pos 0)) (U : S → Type
     module _ (v : World S) (r : Rules) (h : KeepsWorld v r) where
       visits : (loop : ℕ) (lo hi : ℤ) → F.num lo → F.num hi → Does own (Unit {0}) Any (visit v loop lo hi) (visit v loop lo hi)
       visits loop lo hi f g =
-          steady_bind F zero_fine Both Anything (λ s. tt) (λ r s t e f. tt) own (steady_get_frame F zero_fine Both Anything (λ s. tt) (λ r s t e f. tt) own) (λ fr is.
-          steady_bind F zero_fine Both Anything (λ s. tt) (λ r s t e f. tt) own {P = FineAll F} (comes (v.visit loop lo hi fr.locals) (h.visit loop lo hi fr.locals f g is.locals)) (λ l fine.
+          steady_bind F zero_fine Both Anything (λ s. tt) (λ r s t e f. tt) own (steady_get_frame F zero_fine Both Anything (λ s. tt) (λ r s t e f. tt) own)
+          (λ fr is.
+          steady_bind F zero_fine Both Anything (λ s. tt) (λ r s t e f. tt) own {P = FineAll F}
+          (comes (v.visit loop lo hi fr.locals) (h.visit loop lo hi fr.locals f g is.locals)) (λ l fine.
           steady_set_frame F zero_fine Both Anything (λ s. tt) (λ r s t e f. tt) own (with_locals fr l) (record { own_is = is.own_is; locals = fine })))
 
       pub alone_worlds : Worlds F zero_fine Both Anything (λ s. tt) (λ r s t e f. tt) v v own r

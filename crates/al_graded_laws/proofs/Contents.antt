@@ -130,9 +130,11 @@ module _ (F : Fineness) (zero_fine : F.num (pos 0)) where
     named = h.named;
   }
   put_within c (Head o) v f h = record { objects = h.objects; locals = h.locals; sums = h.sums; counted = h.counted; named = h.named }
-  put_within c (Local k) v f h = record { objects = h.objects; locals = fine_set F c.memory.locals k v f h.locals; sums = h.sums; counted = h.counted; named = h.named }
+  put_within c (Local k) v f h =
+      record { objects = h.objects; locals = fine_set F c.memory.locals k v f h.locals; sums = h.sums; counted = h.counted; named = h.named }
 
-  stored : (c : Content) (a : Addr) (v : Val) (y : Option Val) → Fine F v → Within c → OkIs {A = Unit {0}} Any (store_in c a v y).0 × Within (store_in c a v y).1
+  stored : (c : Content) (a : Addr) (v : Val) (y : Option Val) → Fine F v → Within c
+      → OkIs {A = Unit {0}} Any (store_in c a v y).0 × Within (store_in c a v y).1
   stored c a v (Some old) f h = (tt, put_within c a v f h)
   stored c a v None f h = (tt, h)
 
@@ -156,8 +158,7 @@ module _ (F : Fineness) (zero_fine : F.num (pos 0)) where
   made c words true e h = (tt, h)
   made c words false e h =
       let o = name_of c.allocations.allocator c.allocations.next in
-      let low = ltb-false (word_limit c.allocations.allocator) (c.allocations.words + words + 1) e in
-      (
+      let low = ltb-false (word_limit c.allocations.allocator) (c.allocations.words + words + 1) e in (
         h.named c.allocations.next (omega (arith, low, h.counted)),
         record {
           objects = add_fine c.memory o (replicate words (Int (pos 0))) (fine_replicate F words zero_fine) h.objects;
@@ -175,12 +176,14 @@ module _ (F : Fineness) (zero_fine : F.num (pos 0)) where
   freed_if : (c : Content) (o : Obj) (b : Bool) → Within c → Within (free_if c o b).1
   freed_if c o true h =
       let there = has_object c.memory o in
-      taken_out (record c { accesses = free_recorded c.accesses o there }) o there (with_record c (free_recorded c.accesses o there) (fine_freed c.accesses o there h.sums) h)
+      taken_out (record c { accesses = free_recorded c.accesses o there }) o there
+      (with_record c (free_recorded c.accesses o there) (fine_freed c.accesses o there h.sums) h)
   freed_if c o false h = h
 
   -- ---- the operations
 
-  load_from : (c : Content) (z : Option AccessRecord) (a : Addr) (k : Kind) → FineSums z → Within c → OkIs (Fine F) (load_by z c a k).0 × Within (load_by z c a k).1
+  load_from : (c : Content) (z : Option AccessRecord) (a : Addr) (k : Kind) → FineSums z → Within c
+      → OkIs (Fine F) (load_by z c a k).0 × Within (load_by z c a k).1
   load_from c None a k f h = (fine_loaded c.memory a k (value_at c.memory a) (λ v e. value_fine c.memory a v h.objects h.locals e), h)
   load_from c (Some l) a k f h =
       elim (red_index l.reds a) as (λ i. OkIs (Fine F) (load_recorded c l a k i).0 × Within (load_recorded c l a k i).1) [
@@ -198,7 +201,7 @@ module _ (F : Fineness) (zero_fine : F.num (pos 0)) where
       elim (red_index l.reds a) as (λ i. OkIs {A = Unit {0}} Any (store_recorded c l a v i).0 × Within (store_recorded c l a v i).1) [
         | Some i ↦ (tt, with_record c (Some (record l { accumulators = slice_set l.accumulators i v })) (fine_set F l.accumulators i v g f) h)
         | None ↦ stored (if is_own l a then c else with_accesses c (record_store l a (value_at c.memory a))) a v (value_at c.memory a) g
-        (with_record_if (is_own l a) c (record_store l a (value_at c.memory a)) (fine_record_store l a (value_at c.memory a) f) h)
+            (with_record_if (is_own l a) c (record_store l a (value_at c.memory a)) (fine_record_store l a (value_at c.memory a) f) h)
       ]
 
   any_unit : (e : Result (Unit {0}) Trap) → OkIs Any e

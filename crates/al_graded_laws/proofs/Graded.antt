@@ -113,7 +113,8 @@ Any a = Unit {0}
 -- ---- the premises, one a word
 
 -- A relation between actions in two worlds that answer the same, where an answer has the property P: it is kept by the words.
-pub record Graded {S T : Type 0} (v : World S) (w : World T) (F : Fineness) (r : Rules) (Rel : (A : Type 0) → (A → Type 0) → Act S A → Act T A → Type 0) : Type 1 where
+pub record Graded {S T : Type 0} (v : World S) (w : World T) (F : Fineness) (r : Rules)
+    (Rel : (A : Type 0) → (A → Type 0) → Act S A → Act T A → Type 0) : Type 1 where
   pub of_pure : {A : Type 0} {P : A → Type 0} (a : A) → P a → Rel A P (pure a) (pure a)
   pub of_lift : {A : Type 0} {P : A → Type 0} (line : ℕ) (e : Result A Trap) → OkIs P e → Rel A P (lift line e) (lift line e)
   pub of_bind : {A B : Type 0} {P : A → Type 0} {Q : B → Type 0} {p : Act S A} {q : Act T A} {f : A → Act S B} {g : A → Act T B} → Rel A P p q
@@ -143,7 +144,8 @@ int_result : (F : Fineness) (e : Result ℤ Trap) → OkIs F.num e → OkIs (Fin
 int_result F (Ok z) h = h
 int_result F (Err t) h = tt
 
-module _ {S T : Type 0} (v : World S) (w : World T) (F : Fineness) (r : Rules) (Rel : (A : Type 0) → (A → Type 0) → Act S A → Act T A → Type 0) (c : Graded v w F r Rel) (input : List ℤ) (numbers_fine : FineNumbers F r input) where
+module _ {S T : Type 0} (v : World S) (w : World T) (F : Fineness) (r : Rules) (Rel : (A : Type 0) → (A → Type 0) → Act S A → Act T A → Type 0)
+    (c : Graded v w F r Rel) (input : List ℤ) (numbers_fine : FineNumbers F r input) where
   abbrev N : FineNumbers F r input
   N = numbers_fine
 
@@ -241,7 +243,8 @@ module _ {S T : Type 0} (v : World S) (w : World T) (F : Fineness) (r : Rules) (
       → Rel Flow (FineFlow F) (turns_to n line test body third) (turns_to n line test' body' third')
   of_turns_to zero line t b h = c.of_lift line (Err trap.Steps) tt
   of_turns_to (suc n) line t b h =
-      c.of_bind (c.of_spend line) (λ u _. c.of_bind t (λ x _. of_cond (truth x) (c.of_bind b (of_turn_end (c.of_bind h (of_then_flow (of_turns_to n line t b h))))) (c.of_pure Next tt)))
+      c.of_bind (c.of_spend line) (λ u _. c.of_bind t
+      (λ x _. of_cond (truth x) (c.of_bind b (of_turn_end (c.of_bind h (of_then_flow (of_turns_to n line t b h))))) (c.of_pure Next tt)))
 
   of_turns : (line : ℕ) {test : Act S Val} {test' : Act T Val} {body third : Act S Flow} {body' third' : Act T Flow} → Rel Val (Fine F) test test'
       → Rel Flow (FineFlow F) body body' → Rel Flow (FineFlow F) third third'
@@ -257,7 +260,8 @@ module _ {S T : Type 0} (v : World S) (w : World T) (F : Fineness) (r : Rules) (
       → Rel Flow (FineFlow F) (trips_to v n line counter lo j body) (trips_to w n line counter lo j body')
   of_trips_to zero line counter lo j l k b = c.of_pure Next tt
   of_trips_to (suc n) line counter lo j l k b =
-      c.of_bind (c.of_spend line) (λ u _. c.of_bind (c.of_set_local counter (Int (lo +ℤ pos j)) line l (k j (omega arith))) (λ u _. c.of_bind b (of_turn_end (of_trips_to n line counter lo (suc j) l (λ i h. k i (omega arith)) b))))
+      c.of_bind (c.of_spend line) (λ u _. c.of_bind (c.of_set_local counter (Int (lo +ℤ pos j)) line l (k j (omega arith)))
+      (λ u _. c.of_bind b (of_turn_end (of_trips_to n line counter lo (suc j) l (λ i h. k i (omega arith)) b))))
 
   of_annotated : (here : Where) (loop line counter : ℕ) (lo hi : ℤ) {body : Act S Flow} {body' : Act T Flow} → r.local counter ≡ true → F.num lo → F.num hi
       → Rel Flow (FineFlow F) body body'
@@ -265,17 +269,22 @@ module _ {S T : Type 0} (v : World S) (w : World T) (F : Fineness) (r : Rules) (
   of_annotated Outside loop line counter lo hi l f g b = c.of_bind (c.of_visit loop lo hi f g) (λ u _. c.of_pure Next tt)
   of_annotated Inside loop line counter lo hi l f g b =
       c.of_bind {P = λ n. (j : ℕ) → j < n → F.num (lo +ℤ pos j)} (c.of_lift line (trips lo hi) (N.counter lo hi f g))
-      (λ n k. c.of_bind (of_trips_to n line counter lo 0 l (λ i h. k i (omega arith)) b) (of_then_flow (c.of_bind (c.of_set_local counter (Int (int_max lo hi)) line l (N.greater lo hi f g)) (λ u _. c.of_pure Next tt))))
+      (λ n k. c.of_bind (of_trips_to n line counter lo 0 l (λ i h. k i (omega arith)) b)
+      (of_then_flow (c.of_bind (c.of_set_local counter (Int (int_max lo hi)) line l (N.greater lo hi f g)) (λ u _. c.of_pure Next tt))))
 
   of_annotated_loop : (here : Where) (loop line counter : ℕ) {start : Act S Val} {start' : Act T Val} (b : Bound) {body : Act S Flow} {body' : Act T Flow}
       → r.local counter ≡ true → bound_obeys r b ≡ true → Rel Val (Fine F) start start' → Rel Flow (FineFlow F) body body'
-      → Rel Flow (FineFlow F) (annotated_loop v here loop line (Some (counter, start)) b body) (annotated_loop w here loop line (Some (counter, start')) b body')
+      → Rel Flow (FineFlow F) (annotated_loop v here loop line (Some (counter, start)) b body)
+      (annotated_loop w here loop line (Some (counter, start')) b body')
   of_annotated_loop here loop line counter b l o s h =
-      c.of_bind s (λ x fine. c.of_bind (c.of_lift line (number x) (fine_number x fine)) (λ lo f. c.of_bind (of_bound_value b line o) (λ hi g. of_annotated here loop line counter lo hi l f g h)))
+      c.of_bind s (λ x fine. c.of_bind (c.of_lift line (number x) (fine_number x fine))
+      (λ lo f. c.of_bind (of_bound_value b line o) (λ hi g. of_annotated here loop line counter lo hi l f g h)))
 
 -- ---- the tree, for calls that are related
 
-module _ {S T : Type 0} (v : World S) (w : World T) (F : Fineness) (r : Rules) (Rel : (A : Type 0) → (A → Type 0) → Act S A → Act T A → Type 0) (c : Graded v w F r Rel) (here : Where) (input : List ℤ) (n : FineNumbers F r input) (call : ℕ → List Val → At S Val) (dial : ℕ → List Val → At T Val) (calls_related : (f : ℕ) (vs : List Val) (line : ℕ) → r.called f → FineAll F vs → Rel Val (Fine F) (call f vs line) (dial f vs line)) where
+module _ {S T : Type 0} (v : World S) (w : World T) (F : Fineness) (r : Rules) (Rel : (A : Type 0) → (A → Type 0) → Act S A → Act T A → Type 0)
+    (c : Graded v w F r Rel) (here : Where) (input : List ℤ) (n : FineNumbers F r input) (call : ℕ → List Val → At S Val) (dial : ℕ → List Val → At T Val)
+    (calls_related : (f : ℕ) (vs : List Val) (line : ℕ) → r.called f → FineAll F vs → Rel Val (Fine F) (call f vs line) (dial f vs line)) where
   -- every function that is called may be
   abbrev Calls : List ℕ → Type 0
   Calls = AllByRecursion r.called
@@ -290,7 +299,9 @@ module _ {S T : Type 0} (v : World S) (w : World T) (F : Fineness) (r : Rules) (
   OfValue e = obeys r e ≡ true → Calls (calls e) → (line : ℕ) → Rel Val (Fine F) (value v here input call e line) (value w here input dial e line)
 
   abbrev OfPlace : TPlace → Type 0
-  OfPlace p = (obeys_at r p).0 ≡ true → Calls (calls_at p) → (line : ℕ) → Rel Pointer (FineAt F (obeys_at r p).1) (place v here input call p line) (place w here input dial p line)
+  OfPlace p =
+      (obeys_at r p).0 ≡ true → Calls (calls_at p) → (line : ℕ) → Rel Pointer (FineAt F (obeys_at r p).1) (place v here input call p line)
+      (place w here input dial p line)
 
   abbrev E : Type 0
   E = With TExpr OfValue
@@ -299,9 +310,11 @@ module _ {S T : Type 0} (v : World S) (w : World T) (F : Fineness) (r : Rules) (
   Q = With TPlace OfPlace
 
   of_args : (es : List E) (line : ℕ) → every (map (obeys r) (map (λ e. e.0) es)) ≡ true → Calls (all_called (map calls (map (λ e. e.0) es)))
-      → Rel (List Val) (FineAll F) (all (at_each line (map (value v here input call) (map (λ e. e.0) es)))) (all (at_each line (map (value w here input dial) (map (λ e. e.0) es))))
+      → Rel (List Val) (FineAll F) (all (at_each line (map (value v here input call) (map (λ e. e.0) es))))
+      (all (at_each line (map (value w here input dial) (map (λ e. e.0) es))))
   of_args [] line o k = c.of_pure [] tt
-  of_args (e ∷ es) line o k = c.of_bind (e.1 (both_left (obeys r e.0) _ o) (left (calls e.0) _ k) line) (λ x f. c.of_bind (of_args es line (both_right (obeys r e.0) _ o) (right (calls e.0) _ k)) (λ xs g. c.of_pure (x ∷ xs) (f, g)))
+  of_args (e ∷ es) line o k = c.of_bind (e.1 (both_left (obeys r e.0) _ o) (left (calls e.0) _ k) line)
+      (λ x f. c.of_bind (of_args es line (both_right (obeys r e.0) _ o) (right (calls e.0) _ k)) (λ xs g. c.of_pure (x ∷ xs) (f, g)))
 
   abbrev obeyed : TExpr-F E Q → TExpr-F Bool (Bool × Bool)
   obeyed y = map-TExpr TExpr TPlace Bool (Bool × Bool) (obeys r) (obeys_at r) (map-TExpr E Q TExpr TPlace (λ e. e.0) (λ p. p.0) y)
@@ -311,28 +324,43 @@ module _ {S T : Type 0} (v : World S) (w : World T) (F : Fineness) (r : Rules) (
 
   of_two : (a b : E) (line : ℕ) → (obeys r a.0 && obeys r b.0) ≡ true → Calls (calls a.0 ++ calls b.0)
       → {P : Val → Type 0} {f : Val → Val → Act S Val} {g : Val → Val → Act T Val} → ((x y : Val) → Fine F x → Fine F y → Rel Val P (f x y) (g x y))
-      → Rel Val P (value v here input call a.0 line >>= (λ x. value v here input call b.0 line >>= (λ y. f x y))) (value w here input dial a.0 line >>= (λ x. value w here input dial b.0 line >>= (λ y. g x y)))
-  of_two a b line o i k = c.of_bind (a.1 (both_left (obeys r a.0) (obeys r b.0) o) (left (calls a.0) (calls b.0) i) line) (λ x h. c.of_bind (b.1 (both_right (obeys r a.0) (obeys r b.0) o) (right (calls a.0) (calls b.0) i) line) (λ y j. k x y h j))
+      → Rel Val P (value v here input call a.0 line >>= (λ x. value v here input call b.0 line >>= (λ y. f x y)))
+      (value w here input dial a.0 line >>= (λ x. value w here input dial b.0 line >>= (λ y. g x y)))
+  of_two a b line o i k = c.of_bind (a.1 (both_left (obeys r a.0) (obeys r b.0) o) (left (calls a.0) (calls b.0) i) line)
+      (λ x h. c.of_bind (b.1 (both_right (obeys r a.0) (obeys r b.0) o) (right (calls a.0) (calls b.0) i) line) (λ y j. k x y h j))
 
   value_layer : (y : TExpr-F E Q) (line : ℕ) → expr_obeys r (obeyed y) ≡ true → Calls (expr_calls (calling y))
-      → Rel Val (Fine F) (expr_case v here input call (map-TExpr TExpr TPlace (At S Val) (At S Pointer) (value v here input call) (place v here input call) (map-TExpr E Q TExpr TPlace (λ e. e.0) (λ p. p.0) y)) line) (expr_case w here input dial (map-TExpr TExpr TPlace (At T Val) (At T Pointer) (value w here input dial) (place w here input dial) (map-TExpr E Q TExpr TPlace (λ e. e.0) (λ p. p.0) y)) line)
+      → Rel Val (Fine F) (expr_case v here input call (map-TExpr TExpr TPlace (At S Val) (At S Pointer) (value v here input call) (place v here input call)
+      (map-TExpr E Q TExpr TPlace (λ e. e.0) (λ p. p.0) y)) line)
+      (expr_case w here input dial (map-TExpr TExpr TPlace (At T Val) (At T Pointer) (value w here input dial) (place w here input dial)
+      (map-TExpr E Q TExpr TPlace (λ e. e.0) (λ p. p.0) y)) line)
   value_layer (TExpr-F.Number m) line o k = c.of_pure (Int m) (n.literal m o)
   value_layer (TExpr-F.Local j) line o k = c.of_get_local j line o
   value_layer (TExpr-F.Load want p) line o k = c.of_bind (p.1 o k line) (λ q h. c.of_load q want line h.0 h.1)
-  value_layer (TExpr-F.Addr p) line o k = c.of_bind (p.1 (both_left (obeys_at r p.0).0 (obeys_at r p.0).1 o) k line) (λ q h. c.of_pure (Ptr q.0 q.1) (h.2 (both_right (obeys_at r p.0).0 (obeys_at r p.0).1 o), h.1))
+  value_layer (TExpr-F.Addr p) line o k =
+      c.of_bind (p.1 (both_left (obeys_at r p.0).0 (obeys_at r p.0).1 o) k line)
+      (λ q h. c.of_pure (Ptr q.0 q.1) (h.2 (both_right (obeys_at r p.0).0 (obeys_at r p.0).1 o), h.1))
   value_layer (TExpr-F.Unary op a) line o k = c.of_bind (a.1 o k line) (λ x h. c.of_lift line (operate_one op x) (fine_one v w F r Rel c input n op x h))
   value_layer (TExpr-F.Binary op a b) line o k = of_two a b line o k (λ x y h i. c.of_lift line (operate op x y) (fine_binary v w F r Rel c input n op x y h i))
   value_layer (TExpr-F.Same equal a b) line o k = of_two a b line o k (λ x y h i. c.of_pure (compare equal x y) (fine_compare v w F r Rel c input n equal x y))
   value_layer (TExpr-F.And a b) line o k =
-      c.of_bind (a.1 (both_left (obeys r a.0) (obeys r b.0) o) (left (calls a.0) (calls b.0) k) line) (λ x _. of_cond v w F r Rel c input n (truth x) (c.of_bind (b.1 (both_right (obeys r a.0) (obeys r b.0) o) (right (calls a.0) (calls b.0) k) line) (λ y _. c.of_pure (of_test (truth y)) (n.tested (truth y)))) (c.of_pure (of_test false) (n.tested false)))
+      c.of_bind (a.1 (both_left (obeys r a.0) (obeys r b.0) o) (left (calls a.0) (calls b.0) k) line)
+      (λ x _. of_cond v w F r Rel c input n (truth x) (c.of_bind (b.1 (both_right (obeys r a.0) (obeys r b.0) o) (right (calls a.0) (calls b.0) k) line)
+      (λ y _. c.of_pure (of_test (truth y)) (n.tested (truth y)))) (c.of_pure (of_test false) (n.tested false)))
   value_layer (TExpr-F.Or a b) line o k =
-      c.of_bind (a.1 (both_left (obeys r a.0) (obeys r b.0) o) (left (calls a.0) (calls b.0) k) line) (λ x _. of_cond v w F r Rel c input n (truth x) (c.of_pure (of_test true) (n.tested true)) (c.of_bind (b.1 (both_right (obeys r a.0) (obeys r b.0) o) (right (calls a.0) (calls b.0) k) line) (λ y _. c.of_pure (of_test (truth y)) (n.tested (truth y)))))
+      c.of_bind (a.1 (both_left (obeys r a.0) (obeys r b.0) o) (left (calls a.0) (calls b.0) k) line)
+      (λ x _. of_cond v w F r Rel c input n (truth x) (c.of_pure (of_test true) (n.tested true))
+      (c.of_bind (b.1 (both_right (obeys r a.0) (obeys r b.0) o) (right (calls a.0) (calls b.0) k) line)
+      (λ y _. c.of_pure (of_test (truth y)) (n.tested (truth y)))))
   value_layer (TExpr-F.Call f args) line o k = c.of_bind (of_args args line o k.1) (λ vs h. calls_related f vs line k.0 h)
-  value_layer (TExpr-F.Input a) line o k = c.of_bind (a.1 o k line) (λ x _. c.of_lift line (and_then (number x) (input_at input)) (fine_input v w F r Rel c input n x))
+  value_layer (TExpr-F.Input a) line o k =
+      c.of_bind (a.1 o k line) (λ x _. c.of_lift line (and_then (number x) (input_at input)) (fine_input v w F r Rel c input n x))
   value_layer TExpr-F.Inputs line o k = c.of_pure (Int (pos (length input))) n.count
   value_layer (TExpr-F.Choose op a b) line o k = of_two a b line o k (λ x y h i. c.of_lift line (choose op x y) (fine_choose v w F r Rel c input n op x y h i))
   value_layer (TExpr-F.Calloc a size) line o k =
-      c.of_bind (a.1 o k line) (λ x _. c.of_bind {P = Any} (c.of_lift line (and_then (number x) (λ n. words_of n size)) (any_ok v w F r Rel c input n (and_then (number x) (λ n. words_of n size)))) (λ words _. c.of_make words line))
+      c.of_bind (a.1 o k line) (λ x _. c.of_bind {P = Any}
+      (c.of_lift line (and_then (number x) (λ n. words_of n size)) (any_ok v w F r Rel c input n (and_then (number x) (λ n. words_of n size))))
+      (λ words _. c.of_make words line))
   value_layer (TExpr-F.Free a) line o k = c.of_bind (a.1 o k line) (λ x h. of_free_at v w F r Rel c input n x line h)
 
   abbrev obeyed_at : TPlace-F E Q → TPlace-F Bool (Bool × Bool)
@@ -342,12 +370,19 @@ module _ {S T : Type 0} (v : World S) (w : World T) (F : Fineness) (r : Rules) (
   calling_at y = map-TPlace TExpr TPlace (List ℕ) (List ℕ) calls calls_at (map-TPlace E Q TExpr TPlace (λ e. e.0) (λ p. p.0) y)
 
   place_layer : (y : TPlace-F E Q) (line : ℕ) → (place_obeys r (obeyed_at y)).0 ≡ true → Calls (place_calls (calling_at y))
-      → Rel Pointer (FineAt F (place_obeys r (obeyed_at y)).1) (place_case v here input call (map-TPlace TExpr TPlace (At S Val) (At S Pointer) (value v here input call) (place v here input call) (map-TPlace E Q TExpr TPlace (λ e. e.0) (λ p. p.0) y)) line) (place_case w here input dial (map-TPlace TExpr TPlace (At T Val) (At T Pointer) (value w here input dial) (place w here input dial) (map-TPlace E Q TExpr TPlace (λ e. e.0) (λ p. p.0) y)) line)
+      → Rel Pointer (FineAt F (place_obeys r (obeyed_at y)).1)
+      (place_case v here input call (map-TPlace TExpr TPlace (At S Val) (At S Pointer) (value v here input call) (place v here input call)
+      (map-TPlace E Q TExpr TPlace (λ e. e.0) (λ p. p.0) y)) line)
+      (place_case w here input dial (map-TPlace TExpr TPlace (At T Val) (At T Pointer) (value w here input dial) (place w here input dial)
+      (map-TPlace E Q TExpr TPlace (λ e. e.0) (λ p. p.0) y)) line)
   place_layer (TPlace-F.Global j) line o k = c.of_pure (Global j, 0) (c.of_global j o, omega arith, λ t. c.of_taken j t)
   place_layer (TPlace-F.At e) line o k = c.of_bind (e.1 o k line) (λ x h. c.of_lift line (point x) (fine_point v w F r Rel c input n x h))
-  place_layer (TPlace-F.Plus p m) line o k = c.of_bind (p.1 o k line) (λ q h. c.of_lift line (shift q m) (fine_shift v w F r Rel c input n q m (obeys_at r p.0).1 h))
+  place_layer (TPlace-F.Plus p m) line o k =
+      c.of_bind (p.1 o k line) (λ q h. c.of_lift line (shift q m) (fine_shift v w F r Rel c input n q m (obeys_at r p.0).1 h))
   place_layer (TPlace-F.Elem p i size) line o k =
-      c.of_bind (p.1 (both_left (obeys_at r p.0).0 (obeys r i.0) o) (left (calls_at p.0) (calls i.0) k) line) (λ q h. c.of_bind (i.1 (both_right (obeys_at r p.0).0 (obeys r i.0) o) (right (calls_at p.0) (calls i.0) k) line) (λ x _. c.of_lift line (element q x size) (fine_element v w F r Rel c input n q x size (obeys_at r p.0).1 h)))
+      c.of_bind (p.1 (both_left (obeys_at r p.0).0 (obeys r i.0) o) (left (calls_at p.0) (calls i.0) k) line)
+      (λ q h. c.of_bind (i.1 (both_right (obeys_at r p.0).0 (obeys r i.0) o) (right (calls_at p.0) (calls i.0) k) line)
+      (λ x _. c.of_lift line (element q x size) (fine_element v w F r Rel c input n q x size (obeys_at r p.0).1 h)))
 
   -- two actions that are equal to two that are related
   equal_to : {A : Type 0} {P : A → Type 0} (p p' : Act S A) (q q' : Act T A) → p' ≡ p → q' ≡ q → Rel A P p q → Rel A P p' q'
@@ -357,16 +392,20 @@ module _ {S T : Type 0} (v : World S) (w : World T) (F : Fineness) (r : Rules) (
   unfolding value place obeys obeys_at calls calls_at
   value_step y o k line =
       let d = map-TExpr E Q TExpr TPlace (λ e. e.0) (λ p. p.0) y in
-      equal_to _ _ _ _ (ap (λ f. f line) (fold-roll-TExpr (At S Val) (At S Pointer) (expr_case v here input call) (place_case v here input call) d)) (ap (λ f. f line) (fold-roll-TExpr (At T Val) (At T Pointer) (expr_case w here input dial) (place_case w here input dial) d))
-      (value_layer y line (sym (fold-roll-TExpr Bool (Bool × Bool) (expr_obeys r) (place_obeys r) d) ∙ o) (subst Calls (fold-roll-TExpr (List ℕ) (List ℕ) expr_calls place_calls d) k))
+      equal_to _ _ _ _ (ap (λ f. f line) (fold-roll-TExpr (At S Val) (At S Pointer) (expr_case v here input call) (place_case v here input call) d))
+      (ap (λ f. f line) (fold-roll-TExpr (At T Val) (At T Pointer) (expr_case w here input dial) (place_case w here input dial) d))
+      (value_layer y line (sym (fold-roll-TExpr Bool (Bool × Bool) (expr_obeys r) (place_obeys r) d) ∙ o)
+      (subst Calls (fold-roll-TExpr (List ℕ) (List ℕ) expr_calls place_calls d) k))
 
   place_step : (y : TPlace-F E Q) → OfPlace (roll-TPlace (map-TPlace E Q TExpr TPlace (λ e. e.0) (λ p. p.0) y))
   unfolding value place obeys obeys_at calls calls_at
   place_step y o k line =
       let d = map-TPlace E Q TExpr TPlace (λ e. e.0) (λ p. p.0) y in
       let is = fold-roll-TPlace Bool (Bool × Bool) (expr_obeys r) (place_obeys r) d in
-      subst (λ (b : Bool × Bool). Rel Pointer (FineAt F b.1) (place v here input call (roll-TPlace d) line) (place w here input dial (roll-TPlace d) line)) (sym is)
-      (equal_to _ _ _ _ (ap (λ f. f line) (fold-roll-TPlace (At S Val) (At S Pointer) (expr_case v here input call) (place_case v here input call) d)) (ap (λ f. f line) (fold-roll-TPlace (At T Val) (At T Pointer) (expr_case w here input dial) (place_case w here input dial) d))
+      subst (λ (b : Bool × Bool). Rel Pointer (FineAt F b.1) (place v here input call (roll-TPlace d) line) (place w here input dial (roll-TPlace d) line))
+      (sym is)
+      (equal_to _ _ _ _ (ap (λ f. f line) (fold-roll-TPlace (At S Val) (At S Pointer) (expr_case v here input call) (place_case v here input call) d))
+      (ap (λ f. f line) (fold-roll-TPlace (At T Val) (At T Pointer) (expr_case w here input dial) (place_case w here input dial) d))
       (place_layer y line (ap (λ b. b.0) (sym is) ∙ o) (subst Calls (fold-roll-TPlace (List ℕ) (List ℕ) expr_calls place_calls d) k)))
 
   -- an expression that obeys
@@ -393,7 +432,8 @@ module _ {S T : Type 0} (v : World S) (w : World T) (F : Fineness) (r : Rules) (
   of_values : (es : List TExpr) (line : ℕ) → all_obey r es ≡ true → AllByRecursion CallsIn es
       → Rel (List Val) (FineAll F) (values v here input call es line) (values w here input dial es line)
   of_values [] line o k = c.of_pure [] tt
-  of_values (e ∷ es) line o k = c.of_bind (graded_value e (both_left (obeys r e) (all_obey r es) o) k.0 line) (λ x f. c.of_bind (of_values es line (both_right (obeys r e) (all_obey r es) o) k.1) (λ xs g. c.of_pure (x ∷ xs) (f, g)))
+  of_values (e ∷ es) line o k = c.of_bind (graded_value e (both_left (obeys r e) (all_obey r es) o) k.0 line)
+      (λ x f. c.of_bind (of_values es line (both_right (obeys r e) (all_obey r es) o) k.1) (λ xs g. c.of_pure (x ∷ xs) (f, g)))
 
   of_test_value : (e : Option TExpr) (line : ℕ) → any_obeys r e ≡ true → AnyCalls e
       → Rel Val (Fine F) (test_value v here input call e line) (test_value w here input dial e line)
@@ -458,12 +498,16 @@ module _ {S T : Type 0} (v : World S) (w : World T) (F : Fineness) (r : Rules) (
   module _ (x : Exempt) where
     of_annotated_start : (loop line : ℕ) (start : Option Start) (b : Bound) {body : Act S Flow} {body' : Act T Flow} → start_obeys r start ≡ true
         → bound_obeys r b ≡ true → StartCalls start → Rel Flow (FineFlow F) body body'
-        → Rel Flow (FineFlow F) (annotated_loop v here loop line (start_value v here input call start) b body) (annotated_loop w here loop line (start_value w here input dial start) b body')
-    of_annotated_start loop line (Some start) b o p k h = of_annotated_loop v w F r Rel c input n here loop line start.counter b (both_left (r.local start.counter) _ o) p (graded_value start.value (both_right (r.local start.counter) _ o) k start.line) h
+        → Rel Flow (FineFlow F) (annotated_loop v here loop line (start_value v here input call start) b body)
+        (annotated_loop w here loop line (start_value w here input dial start) b body')
+    of_annotated_start loop line (Some start) b o p k h = of_annotated_loop v w F r Rel c input n here loop line start.counter b
+        (both_left (r.local start.counter) _ o) p (graded_value start.value (both_right (r.local start.counter) _ o) k start.line) h
     of_annotated_start loop line None b o p k h = c.of_pure Next tt
 
     abbrev OfKind : TKind → Type 0
-    OfKind d = stmt_kind_obeys r d ≡ true → Allowed (kind_terms_of d) → (line : ℕ) → Rel Flow (FineFlow F) (execute_kind v here input call d line) (execute_kind w here input dial d line)
+    OfKind d =
+        stmt_kind_obeys r d ≡ true → Allowed (kind_terms_of d) → (line : ℕ) → Rel Flow (FineFlow F) (execute_kind v here input call d line)
+        (execute_kind w here input dial d line)
 
     abbrev OfStmt : TStmt → Type 0
     OfStmt d = stmt_obeys r d ≡ true → Allowed (terms d) → Rel Flow (FineFlow F) (execute v here input call d) (execute w here input dial d)
@@ -496,7 +540,8 @@ module _ {S T : Type 0} (v : World S) (w : World T) (F : Fineness) (r : Rules) (
     of_block : (zs : List Z) → each_obeys (map stmt_o (map (λ e. e.0) zs)) ≡ true → Allowed (all_terms (map terms (map (λ e. e.0) zs)))
         → Rel Flow (FineFlow F) (sequence (all_do (map stmt_v (map (λ e. e.0) zs)))) (sequence (all_do (map stmt_w (map (λ e. e.0) zs))))
     of_block [] o k = c.of_pure Next tt
-    of_block (z ∷ zs) o k = c.of_bind (z.1 (both_left (stmt_obeys r z.0) _ o) (allowed_left (terms z.0) _ k)) (of_then_flow v w F r Rel c input n (of_block zs (both_right (stmt_obeys r z.0) _ o) (allowed_right (terms z.0) _ k)))
+    of_block (z ∷ zs) o k = c.of_bind (z.1 (both_left (stmt_obeys r z.0) _ o) (allowed_left (terms z.0) _ k))
+        (of_then_flow v w F r Rel c input n (of_block zs (both_right (stmt_obeys r z.0) _ o) (allowed_right (terms z.0) _ k)))
 
     -- a layer of the tree, in each world
     abbrev layer_v : TKind-F K Z → TKind-F (TKind × At S Flow) (TStmt × Act S Flow)
@@ -521,7 +566,8 @@ module _ {S T : Type 0} (v : World S) (w : World T) (F : Fineness) (r : Rules) (
 
     of_for : (line : ℕ) (test : Option TExpr) {first third body : Act S Flow} {first' third' body' : Act T Flow} → any_obeys r test ≡ true → AnyCalls test
         → Rel Flow (FineFlow F) first first' → Rel Flow (FineFlow F) body body' → Rel Flow (FineFlow F) third third'
-        → Rel Flow (FineFlow F) (first >>= then_flow (turns line (test_value v here input call test line) body third)) (first' >>= then_flow (turns line (test_value w here input dial test line) body' third'))
+        → Rel Flow (FineFlow F) (first >>= then_flow (turns line (test_value v here input call test line) body third))
+        (first' >>= then_flow (turns line (test_value w here input dial test line) body' third'))
     of_for line test o k f b t = c.of_bind f (of_then_flow v w F r Rel c input n (of_turns v w F r Rel c input n line (of_test_value test line o k) b t))
 
     test_calls : (test : Option TExpr) → Allowed (if_expr test) → AnyCalls test
@@ -536,56 +582,89 @@ module _ {S T : Type 0} (v : World S) (w : World T) (F : Fineness) (r : Rules) (
         → Rel Flow (FineFlow F) (kind_does v here input call (layer_v y) line) (kind_does w here input dial (layer_w y) line)
     does_layer TKind-F.Empty o k line = c.of_pure Next tt
     does_layer (TKind-F.SetLocal j e) o k line =
-        either (r.set j e) (r.local j && obeys r e) (Rel Flow (FineFlow F) (kind_does v here input call (TKind-F.SetLocal j e) line) (kind_does w here input dial (TKind-F.SetLocal j e) line)) (λ t. x.set j e line t k.exprs.0)
-        (λ t. c.of_bind (graded_value e (both_right (r.local j) (obeys r e) t) k.exprs.0 line) (λ a f. of_set_then j line a (both_left (r.local j) (obeys r e) t) f)) o
+        either (r.set j e) (r.local j && obeys r e) (Rel Flow (FineFlow F) (kind_does v here input call (TKind-F.SetLocal j e) line)
+        (kind_does w here input dial (TKind-F.SetLocal j e) line)) (λ t. x.set j e line t k.exprs.0)
+        (λ t. c.of_bind (graded_value e (both_right (r.local j) (obeys r e) t) k.exprs.0 line)
+        (λ a f. of_set_then j line a (both_left (r.local j) (obeys r e) t) f)) o
     does_layer (TKind-F.Store p e) o k line =
-        either (r.store p e) ((obeys_at r p).0 && obeys r e) (Rel Flow (FineFlow F) (kind_does v here input call (TKind-F.Store p e) line) (kind_does w here input dial (TKind-F.Store p e) line)) (λ t. x.store p e line t k.places.0 k.exprs.0)
-        (λ t. c.of_bind (graded_place p (both_left (obeys_at r p).0 (obeys r e) t) k.places.0 line) (λ q h. c.of_bind (graded_value e (both_right (obeys_at r p).0 (obeys r e) t) k.exprs.0 line) (λ a f. of_store_then q line a h.0 h.1 f))) o
+        either (r.store p e) ((obeys_at r p).0 && obeys r e)
+        (Rel Flow (FineFlow F) (kind_does v here input call (TKind-F.Store p e) line) (kind_does w here input dial (TKind-F.Store p e) line))
+        (λ t. x.store p e line t k.places.0 k.exprs.0)
+        (λ t. c.of_bind (graded_place p (both_left (obeys_at r p).0 (obeys r e) t) k.places.0 line)
+        (λ q h. c.of_bind (graded_value e (both_right (obeys_at r p).0 (obeys r e) t) k.exprs.0 line) (λ a f. of_store_then q line a h.0 h.1 f))) o
     does_layer (TKind-F.UpdateLocal op j e) o k line =
-        either (r.update op j e) (r.local j && obeys r e) (Rel Flow (FineFlow F) (kind_does v here input call (TKind-F.UpdateLocal op j e) line) (kind_does w here input dial (TKind-F.UpdateLocal op j e) line)) (λ t. x.update op j e line t k.exprs.0)
-        (λ t. c.of_bind (c.of_get_local j line (both_left (r.local j) (obeys r e) t)) (λ a f. c.of_bind (graded_value e (both_right (r.local j) (obeys r e) t) k.exprs.0 line) (λ b g. c.of_bind (c.of_lift line (operate op a b) (fine_binary v w F r Rel c input n op a b f g)) (λ z h. of_set_then j line z (both_left (r.local j) (obeys r e) t) h)))) o
+        either (r.update op j e) (r.local j && obeys r e) (Rel Flow (FineFlow F) (kind_does v here input call (TKind-F.UpdateLocal op j e) line)
+        (kind_does w here input dial (TKind-F.UpdateLocal op j e) line)) (λ t. x.update op j e line t k.exprs.0)
+        (λ t. c.of_bind (c.of_get_local j line (both_left (r.local j) (obeys r e) t))
+        (λ a f. c.of_bind (graded_value e (both_right (r.local j) (obeys r e) t) k.exprs.0 line)
+        (λ b g. c.of_bind (c.of_lift line (operate op a b) (fine_binary v w F r Rel c input n op a b f g))
+        (λ z h. of_set_then j line z (both_left (r.local j) (obeys r e) t) h)))) o
     does_layer (TKind-F.UpdateAt op p e) o k line =
-        either (r.update_at op p e) ((obeys_at r p).0 && obeys r e) (Rel Flow (FineFlow F) (kind_does v here input call (TKind-F.UpdateAt op p e) line) (kind_does w here input dial (TKind-F.UpdateAt op p e) line)) (λ t. x.update_at op p e line t k.places.0 k.exprs.0)
-        (λ t. c.of_bind (graded_place p (both_left (obeys_at r p).0 (obeys r e) t) k.places.0 line) (λ q i. c.of_bind (c.of_load q kind.Int line i.0 i.1) (λ a f. c.of_bind (graded_value e (both_right (obeys_at r p).0 (obeys r e) t) k.exprs.0 line) (λ b g. c.of_bind (c.of_lift line (operate op a b) (fine_binary v w F r Rel c input n op a b f g)) (λ z h. of_store_then q line z i.0 i.1 h))))) o
+        either (r.update_at op p e) ((obeys_at r p).0 && obeys r e)
+        (Rel Flow (FineFlow F) (kind_does v here input call (TKind-F.UpdateAt op p e) line) (kind_does w here input dial (TKind-F.UpdateAt op p e) line))
+        (λ t. x.update_at op p e line t k.places.0 k.exprs.0)
+        (λ t. c.of_bind (graded_place p (both_left (obeys_at r p).0 (obeys r e) t) k.places.0 line)
+        (λ q i. c.of_bind (c.of_load q kind.Int line i.0 i.1)
+        (λ a f. c.of_bind (graded_value e (both_right (obeys_at r p).0 (obeys r e) t) k.exprs.0 line)
+        (λ b g. c.of_bind (c.of_lift line (operate op a b) (fine_binary v w F r Rel c input n op a b f g)) (λ z h. of_store_then q line z i.0 i.1 h))))) o
     does_layer (TKind-F.Call e) o k line = c.of_bind (graded_value e o k.exprs.0 line) (λ u _. c.of_pure Next tt)
-    does_layer (TKind-F.Print format es) o k line = c.of_bind (of_values es line o k.exprs) (λ vs _. c.of_bind {P = Any} (c.of_lift line (numbers vs) (any_ok v w F r Rel c input n (numbers vs))) (λ ns _. c.of_bind (c.of_print line (text format ns)) (λ u _. c.of_pure Next tt)))
+    does_layer (TKind-F.Print format es) o k line =
+        c.of_bind (of_values es line o k.exprs) (λ vs _. c.of_bind {P = Any} (c.of_lift line (numbers vs) (any_ok v w F r Rel c input n (numbers vs)))
+        (λ ns _. c.of_bind (c.of_print line (text format ns)) (λ u _. c.of_pure Next tt)))
     does_layer (TKind-F.If e a (Some b)) o k line =
         let rest = both_right (obeys r e) _ o in
         let more = allowed_right (one_expr e) _ k in
-        c.of_bind (graded_value e (both_left (obeys r e) _ o) k.exprs.0 line) (λ z _. of_cond v w F r Rel c input n (truth z) (a.1 (both_left (stmt_obeys r a.0) _ rest) (allowed_left (terms a.0) _ more)) (b.1 (both_right (stmt_obeys r a.0) _ rest) (allowed_right (terms a.0) _ more)))
+        c.of_bind (graded_value e (both_left (obeys r e) _ o) k.exprs.0 line)
+        (λ z _. of_cond v w F r Rel c input n (truth z) (a.1 (both_left (stmt_obeys r a.0) _ rest) (allowed_left (terms a.0) _ more))
+        (b.1 (both_right (stmt_obeys r a.0) _ rest) (allowed_right (terms a.0) _ more)))
     does_layer (TKind-F.If e a None) o k line =
         let rest = both_right (obeys r e) _ o in
         let more = allowed_right (one_expr e) _ k in
-        c.of_bind (graded_value e (both_left (obeys r e) _ o) k.exprs.0 line) (λ z _. of_cond v w F r Rel c input n (truth z) (a.1 (both_left (stmt_obeys r a.0) _ rest) (allowed_left (terms a.0) _ more)) (c.of_pure Next tt))
-    does_layer (TKind-F.While e a) o k line = of_turns v w F r Rel c input n line (graded_value e (both_left (obeys r e) _ o) k.exprs.0 line) (a.1 (both_right (obeys r e) _ o) (allowed_right (one_expr e) _ k)) (c.of_pure Next tt)
+        c.of_bind (graded_value e (both_left (obeys r e) _ o) k.exprs.0 line)
+        (λ z _. of_cond v w F r Rel c input n (truth z) (a.1 (both_left (stmt_obeys r a.0) _ rest) (allowed_left (terms a.0) _ more)) (c.of_pure Next tt))
+    does_layer (TKind-F.While e a) o k line =
+        of_turns v w F r Rel c input n line (graded_value e (both_left (obeys r e) _ o) k.exprs.0 line)
+        (a.1 (both_right (obeys r e) _ o) (allowed_right (one_expr e) _ k)) (c.of_pure Next tt)
     does_layer (TKind-F.For (Some first) test (Some third) body None) o k line =
         let o1 = both_right (stmt_obeys r first.0) _ o in
         let o2 = both_right (any_obeys r test) _ o1 in
         let k1 = allowed_right (terms first.0) _ k in
         let k2 = allowed_right (if_expr test) _ k1 in
-        of_for line test (both_left (any_obeys r test) _ o1) (test_calls test (allowed_left (if_expr test) _ k1)) (first.1 (both_left (stmt_obeys r first.0) _ o) (allowed_left (terms first.0) _ k)) (body.1 (both_right (stmt_obeys r third.0) _ o2) (allowed_right (terms third.0) _ k2)) (third.1 (both_left (stmt_obeys r third.0) _ o2) (allowed_left (terms third.0) _ k2))
+        of_for line test (both_left (any_obeys r test) _ o1) (test_calls test (allowed_left (if_expr test) _ k1))
+        (first.1 (both_left (stmt_obeys r first.0) _ o) (allowed_left (terms first.0) _ k))
+        (body.1 (both_right (stmt_obeys r third.0) _ o2) (allowed_right (terms third.0) _ k2))
+        (third.1 (both_left (stmt_obeys r third.0) _ o2) (allowed_left (terms third.0) _ k2))
     does_layer (TKind-F.For (Some first) test None body None) o k line =
         let o1 = both_right (stmt_obeys r first.0) _ o in
         let k1 = allowed_right (terms first.0) _ k in
         let k2 = allowed_right (if_expr test) _ k1 in
-        of_for line test (both_left (any_obeys r test) _ o1) (test_calls test (allowed_left (if_expr test) _ k1)) (first.1 (both_left (stmt_obeys r first.0) _ o) (allowed_left (terms first.0) _ k)) (body.1 (both_right (any_obeys r test) _ o1) (allowed_right no_terms _ k2)) (c.of_pure Next tt)
+        of_for line test (both_left (any_obeys r test) _ o1) (test_calls test (allowed_left (if_expr test) _ k1))
+        (first.1 (both_left (stmt_obeys r first.0) _ o) (allowed_left (terms first.0) _ k))
+        (body.1 (both_right (any_obeys r test) _ o1) (allowed_right no_terms _ k2)) (c.of_pure Next tt)
     does_layer (TKind-F.For None test (Some third) body None) o k line =
         let o2 = both_right (any_obeys r test) _ o in
         let k1 = allowed_right no_terms _ k in
         let k2 = allowed_right (if_expr test) _ k1 in
-        of_for line test (both_left (any_obeys r test) _ o) (test_calls test (allowed_left (if_expr test) _ k1)) (c.of_pure Next tt) (body.1 (both_right (stmt_obeys r third.0) _ o2) (allowed_right (terms third.0) _ k2)) (third.1 (both_left (stmt_obeys r third.0) _ o2) (allowed_left (terms third.0) _ k2))
+        of_for line test (both_left (any_obeys r test) _ o) (test_calls test (allowed_left (if_expr test) _ k1)) (c.of_pure Next tt)
+        (body.1 (both_right (stmt_obeys r third.0) _ o2) (allowed_right (terms third.0) _ k2))
+        (third.1 (both_left (stmt_obeys r third.0) _ o2) (allowed_left (terms third.0) _ k2))
     does_layer (TKind-F.For None test None body None) o k line =
         let k1 = allowed_right no_terms _ k in
         let k2 = allowed_right (if_expr test) _ k1 in
-        of_for line test (both_left (any_obeys r test) _ o) (test_calls test (allowed_left (if_expr test) _ k1)) (c.of_pure Next tt) (body.1 (both_right (any_obeys r test) _ o) (allowed_right no_terms _ k2)) (c.of_pure Next tt)
+        of_for line test (both_left (any_obeys r test) _ o) (test_calls test (allowed_left (if_expr test) _ k1)) (c.of_pure Next tt)
+        (body.1 (both_right (any_obeys r test) _ o) (allowed_right no_terms _ k2)) (c.of_pure Next tt)
     does_layer (TKind-F.For (Some first) test (Some third) body (Some loop)) o k line =
         let o1 = both_right (start_obeys r (start_of (Some first.0))) _ o in
         let k2 = allowed_right (if_expr test) _ (allowed_right (terms first.0) _ k) in
-        of_annotated_start loop line (start_of (Some first.0)) (bound_of test) (both_left (start_obeys r (start_of (Some first.0))) _ o) (both_left (bound_obeys r (bound_of test)) _ o1) (start_calls first.0 (allowed_left (terms first.0) _ k)) (body.1 (both_right (bound_obeys r (bound_of test)) _ o1) (allowed_right (terms third.0) _ k2))
+        of_annotated_start loop line (start_of (Some first.0)) (bound_of test) (both_left (start_obeys r (start_of (Some first.0))) _ o)
+        (both_left (bound_obeys r (bound_of test)) _ o1) (start_calls first.0 (allowed_left (terms first.0) _ k))
+        (body.1 (both_right (bound_obeys r (bound_of test)) _ o1) (allowed_right (terms third.0) _ k2))
     does_layer (TKind-F.For (Some first) test None body (Some loop)) o k line =
         let o1 = both_right (start_obeys r (start_of (Some first.0))) _ o in
         let k2 = allowed_right (if_expr test) _ (allowed_right (terms first.0) _ k) in
-        of_annotated_start loop line (start_of (Some first.0)) (bound_of test) (both_left (start_obeys r (start_of (Some first.0))) _ o) (both_left (bound_obeys r (bound_of test)) _ o1) (start_calls first.0 (allowed_left (terms first.0) _ k)) (body.1 (both_right (bound_obeys r (bound_of test)) _ o1) (allowed_right no_terms _ k2))
+        of_annotated_start loop line (start_of (Some first.0)) (bound_of test) (both_left (start_obeys r (start_of (Some first.0))) _ o)
+        (both_left (bound_obeys r (bound_of test)) _ o1) (start_calls first.0 (allowed_left (terms first.0) _ k))
+        (body.1 (both_right (bound_obeys r (bound_of test)) _ o1) (allowed_right no_terms _ k2))
     does_layer (TKind-F.For None test third body (Some loop)) o k line = c.of_pure Next tt
     does_layer (TKind-F.Block zs) o k line = of_block zs o k
     does_layer (TKind-F.Return e) o k line = c.of_bind (of_result_value e line o (test_calls e k)) (λ a f. c.of_pure (Returned a) f)
@@ -619,4 +698,6 @@ module _ {S T : Type 0} (v : World S) (w : World T) (F : Fineness) (r : Rules) (
     pub graded_execute_all : (ds : List TStmt) → stmts_obey r ds ≡ true → Allowed (terms_of ds)
         → Rel Flow (FineFlow F) (execute_all v here input call ds) (execute_all w here input dial ds)
     graded_execute_all [] o k = c.of_pure Next tt
-    graded_execute_all (d ∷ ds) o k = c.of_bind (graded_execute d (both_left (stmt_obeys r d) _ o) (allowed_left (terms d) _ k)) (of_then_flow v w F r Rel c input n (graded_execute_all ds (both_right (stmt_obeys r d) _ o) (allowed_right (terms d) _ k)))
+    graded_execute_all (d ∷ ds) o k =
+        c.of_bind (graded_execute d (both_left (stmt_obeys r d) _ o) (allowed_left (terms d) _ k))
+        (of_then_flow v w F r Rel c input n (graded_execute_all ds (both_right (stmt_obeys r d) _ o) (allowed_right (terms d) _ k)))

@@ -40,7 +40,8 @@ greater x y f g = grind arith
 counted : (lo hi : ℤ) (j : ℕ) → FitsSigned w64 lo → FitsSigned w64 hi → j < trip_count lo hi → FitsSigned w64 (lo +ℤ pos j)
 counted lo hi j f g l = grind arith
 
-counter_if : (lo hi : ℤ) (b : Bool) → FitsSigned w64 lo → FitsSigned w64 hi → OkIs (λ n. (j : ℕ) → j < n → FitsSigned w64 (lo +ℤ pos j)) (if b then Err trap.Trips else Ok (trip_count lo hi))
+counter_if : (lo hi : ℤ) (b : Bool) → FitsSigned w64 lo → FitsSigned w64 hi
+    → OkIs (λ n. (j : ℕ) → j < n → FitsSigned w64 (lo +ℤ pos j)) (if b then Err trap.Trips else Ok (trip_count lo hi))
 counter_if lo hi true f g = tt
 counter_if lo hi false f g = λ j l. counted lo hi j f g l
 
@@ -87,7 +88,8 @@ divided_fits true q f = tt
 divided_fits false q f = f
 
 -- a remainder, where the divisor is not 0
-rem_fits : (x y : ℤ) (b : Bool) → int_eq y (pos 0) ≡ b → FitsSigned w64 x → FitsSigned w64 y → OkIs (λ n. FitsSigned w64 n) (if b then Err trap.Divide else Ok (int_rem x y))
+rem_fits : (x y : ℤ) (b : Bool) → int_eq y (pos 0) ≡ b → FitsSigned w64 x → FitsSigned w64 y
+    → OkIs (λ n. FitsSigned w64 n) (if b then Err trap.Divide else Ok (int_rem x y))
 rem_fits x y true e f g = tt
 rem_fits x y false e f g = remainder_fits x y f g (nonzero y e)
 
@@ -123,7 +125,9 @@ unfolding trips
 counter_fits lo hi f g = counter_if lo hi (nat_lt LOOP_TRIPS (trip_count lo hi)) f g
 
 -- Numbers of 64 bits are fine, in any fineness that says so of them.
-pub fine_numbers : (F : Fineness) → ((n : ℤ) → FitsSigned w64 n → F.num n) → ((n : ℤ) → F.num n → FitsSigned w64 n) → (r : Rules) (input : List ℤ) → ((n : ℤ) → r.literal n ≡ true → FitsSigned w64 n) → ((i : ℤ) → OkIs (Fine F) (input_at input i)) → FitsSigned w64 (pos (length input)) → FineNumbers F r input
+pub fine_numbers : (F : Fineness) → ((n : ℤ) → FitsSigned w64 n → F.num n) → ((n : ℤ) → F.num n → FitsSigned w64 n) → (r : Rules) (input : List ℤ)
+    → ((n : ℤ) → r.literal n ≡ true → FitsSigned w64 n) → ((i : ℤ) → OkIs (Fine F) (input_at input i)) → FitsSigned w64 (pos (length input))
+    → FineNumbers F r input
 fine_numbers F to from r input literal read count = record {
   tested = λ b. to (truth_value b) (tested b);
   literal = λ n o. to n (literal n o);
@@ -132,6 +136,8 @@ fine_numbers F to from r input literal read count = record {
   chosen = λ op x y f g. to (red_apply op x y) (stays_in_range op x y (from x f) (from y g));
   read = read;
   count = to (pos (length input)) count;
-  counter = λ lo hi f g. over_ok (trips lo hi) (λ n. (j : ℕ) → j < n → FitsSigned w64 (lo +ℤ pos j)) (λ n. (j : ℕ) → j < n → F.num (lo +ℤ pos j)) (λ n h j l. to (lo +ℤ pos j) (h j l)) (counter_fits lo hi (from lo f) (from hi g));
+  counter =
+      λ lo hi f g. over_ok (trips lo hi) (λ n. (j : ℕ) → j < n → FitsSigned w64 (lo +ℤ pos j)) (λ n. (j : ℕ) → j < n → F.num (lo +ℤ pos j))
+      (λ n h j l. to (lo +ℤ pos j) (h j l)) (counter_fits lo hi (from lo f) (from hi g));
   greater = λ lo hi f g. to (int_max lo hi) (greater lo hi (from lo f) (from hi g));
 }

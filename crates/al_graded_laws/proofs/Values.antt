@@ -116,7 +116,6 @@ keeps_values = record {
   visit = λ loop lo hi locals f g h. record { by = λ c w. (h, w) };
 }
 
-
 -- a statement of a program, and its calls, in a world that keeps values
 module _ {S : Type 0} (v : World S) (here : Where) (funcs : List TFunc) (input : List ℤ) (n : FineNumbers sizes in_range input)
     (bodies : (f : ℕ) → stmts_obey in_range (body_of (slice_get funcs f)) ≡ true) (U : S → Type 0) (k : KeepsWorld sizes zero_fits U v in_range) where
@@ -124,18 +123,23 @@ module _ {S : Type 0} (v : World S) (here : Where) (funcs : List TFunc) (input :
   Runs = Does sizes zero_fits U
 
   pub run_graded : (own : Private) → Graded v v sizes in_range (Runs own)
-  run_graded own = steady_graded sizes zero_fits (Both sizes zero_fits U) (Anything sizes zero_fits U) (λ s. tt) (λ r s t e f. tt) v v own in_range (alone_worlds sizes zero_fits U own v in_range k)
+  run_graded own =
+      steady_graded sizes zero_fits (Both sizes zero_fits U) (Anything sizes zero_fits U) (λ s. tt) (λ r s t e f. tt) v v own in_range
+      (alone_worlds sizes zero_fits U own v in_range k)
 
   pub run_call : (own : Private) (m f : ℕ) (args : List Val) (line : ℕ) → FineAll sizes args
       → Runs own Val (Fine sizes) (call_to v here funcs input m f args line) (call_to v here funcs input m f args line)
   run_call own m f args line g =
-      steady_call sizes zero_fits (Both sizes zero_fits U) (Anything sizes zero_fits U) (λ s. tt) (λ r s t e f. tt) v v in_range.global in_range.taken in_range.literal AnyFunction
-      (alone_worlds sizes zero_fits U AllPrivate v in_range k) here funcs input n (λ f _. bodies f) (λ f _. may_call_all (terms_of (body_of (slice_get funcs f)))) own m f args line tt g
+      steady_call sizes zero_fits (Both sizes zero_fits U) (Anything sizes zero_fits U) (λ s. tt)
+      (λ r s t e f. tt) v v in_range.global in_range.taken in_range.literal AnyFunction
+      (alone_worlds sizes zero_fits U AllPrivate v in_range k) here funcs input n (λ f _. bodies f)
+      (λ f _. may_call_all (terms_of (body_of (slice_get funcs f)))) own m f args line tt g
 
   pub run_statement : (own : Private) (m : ℕ) (d : TStmt) → stmt_obeys in_range d ≡ true
       → Runs own Flow (FineFlow sizes) (execute v here input (call_to v here funcs input m) d) (execute v here input (call_to v here funcs input m) d)
   run_statement own m d o =
-      graded_execute v v sizes in_range (Runs own) (run_graded own) here input n (call_to v here funcs input m) (call_to v here funcs input m) (λ f vs line _ g. run_call own m f vs line g)
+      graded_execute v v sizes in_range (Runs own) (run_graded own) here input n (call_to v here funcs input m) (call_to v here funcs input m)
+      (λ f vs line _ g. run_call own m f vs line g)
       (record {
         set = λ k e line t _. absurd (true≢false (sym t));
         store = λ p e line t _ _. absurd (true≢false (sym t));
@@ -191,7 +195,8 @@ module _ (x : Execution) (h : RunsInRange x) where
       let g = run_graded in_iteration Inside x.typed.funcs x.input fit h.program.code (Within sizes zero_fits) keeps_values own in
       g.of_bind (g.of_spend x.loop.info.line)
       (λ u _. g.of_bind (g.of_set_local x.loop.info.counter (Int (x.lo +ℤ pos j)) x.loop.info.line refl (h.counters j l))
-      (λ u _. g.of_bind (run_statement in_iteration Inside x.typed.funcs x.input fit h.program.code (Within sizes zero_fits) keeps_values own calls_within x.loop.body h.body) (λ flow _. g.of_pure tt tt)))
+      (λ u _. g.of_bind (run_statement in_iteration Inside x.typed.funcs x.input fit h.program.code
+      (Within sizes zero_fits) keeps_values own calls_within x.loop.body h.body) (λ flow _. g.of_pure tt tt)))
 
   iteration_between : (j : ℕ) (c : Content) → j < x.trips → Between c → Between (iteration x j c).content
   unfolding iteration
@@ -247,7 +252,8 @@ module _ (x : Execution) (h : RunsInRange x) where
   plain_values m v = (sees _ (iterations_between x.trips 0 (direct x m) (omega arith) (direct_between m v))).memory
 
   chunk_values : (reds : List Red) (m : Memory) (c : ℕ) → HasValues m → SeesValues (chunk_runs x c (chunk_from x reds m c)).content
-  chunk_values reds m c v = sees _ (chunk_between c (chunk_from x reds m c) (record { objects = fine_objects m v; locals = fine_locals m v; sums = identities reds }))
+  chunk_values reds m c v =
+      sees _ (chunk_between c (chunk_from x reds m c) (record { objects = fine_objects m v; locals = fine_locals m v; sums = identities reds }))
 
 pub iterations_keep_values : IterationsKeepValues
 iterations_keep_values x h n j c l s = sees _ (iterations_between x h n j c l (between c s))
