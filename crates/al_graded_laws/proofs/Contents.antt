@@ -115,7 +115,7 @@ module _ (F : Fineness) (zero_fine : F.num (pos 0)) where
 
   -- ---- changes of a memory
 
-  put_object : (b : Bool) (z : Option (List Val)) (w : ℕ) (v : Val) (ws : List Val) → ((us : List Val) → z ≡ Some us → FineAll F us) → Fine F v
+  pub put_object : (b : Bool) (z : Option (List Val)) (w : ℕ) (v : Val) (ws : List Val) → ((us : List Val) → z ≡ Some us → FineAll F us) → Fine F v
       → (if b then option_map (λ l. slice_set l w v) z else z) ≡ Some ws → FineAll F ws
   put_object true (Some us) w v ws h f e = subst (FineAll F) (same_some (slice_set us w v) ws e) (fine_set F us w v f (h us refl))
   put_object true None w v ws h f e = absurd (some_none ws (sym e))

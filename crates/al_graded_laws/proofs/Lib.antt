@@ -5,3 +5,4 @@ pub mod Watched
 pub mod Alone
 pub mod Contents
 pub mod Values
+pub mod Committed
