@@ -86,7 +86,7 @@ sums_values [] ns m f h = h
 sums_values (r ∷ rs) [] m f h = h
 sums_values (r ∷ rs) (n ∷ ns) m f h = sums_values rs ns (with_sum r n m (value_at m r.at)) f.1 (sum_values r n m (value_at m r.at) refl f.0 h)
 
-applied_values : (reds : List Red) (m : Memory) (o : Outcome) → HasValues m → GivesValues o → HasValues (applied reds m o)
+pub applied_values : (reds : List Red) (m : Memory) (o : Outcome) → HasValues m → GivesValues o → HasValues (applied reds m o)
 unfolding applied
 applied_values reds m o h k =
     sums_values reds o.accumulators _ k.sums (freed_values _ o.freed (made_values (with_writes (fin.entries o.writes) m) o (writes_values m o h k) k))

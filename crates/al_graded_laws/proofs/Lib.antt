@@ -6,3 +6,4 @@ pub mod Alone
 pub mod Contents
 pub mod Values
 pub mod Committed
+pub mod InAllModes

@@ -12,6 +12,9 @@ use Rattle.al_core.specs.Iteration.{Execution}
 use Rattle.al_core.specs.Chunk.{Outcome, outcome}
 use Rattle.al_core.specs.Readiness.{IsVal, HasValues}
 use Rattle.al_core.specs.Applied.{all_applied}
+use Rattle.al_core.specs.Round.{round}
+use Rattle.al_core.specs.Run.{Mode, by_mode}
+use Rattle.al_core.specs.declared.choices.Choice.{Choice}
 use Rattle.al_graded_laws.specs.InRange.{RunsInRange}
 
 -- what a chunk wrote, made and gathered has the sizes of its types
@@ -31,3 +34,16 @@ abbrev pub CommitsKeepValues : Type 0
 CommitsKeepValues =
     (reds : List Red) (os : List Outcome) (m : Memory) → AllByRecursion GivesValues os → HasValues m
     → HasValues (all_applied reds os m)
+
+-- ---- whole executions
+
+abbrev pub RoundsKeepValues : Type 0
+RoundsKeepValues =
+    (x : Execution) → RunsInRange x → (choice : Choice) (cs : List ℕ) (m : Memory) → HasValues m
+    → HasValues (round x choice cs m).memory
+
+-- plain, in rounds, or chunk after chunk
+abbrev pub ModesKeepValues : Type 0
+ModesKeepValues =
+    (x : Execution) → RunsInRange x → (lanes : ℕ) (m : Memory) (mode : Mode) → HasValues m
+    → HasValues (by_mode x lanes m mode).memory
