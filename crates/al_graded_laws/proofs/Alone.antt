@@ -1,5 +1,5 @@
 -- One run alone: what is known of the values of a world, and what each operation keeps of it, holds throughout a program.
-use Rattle.std.proofs.Common.{◌≡◌, ℕ, List, Result, Ok, Err, refl, sym, ap, subst, ◌∙◌}
+use Rattle.std.proofs.Common.{◌≡◌, ℕ, List, Result, Ok, Err, ap}
 use Rattle.std.specs.Prelude.{ℤ, pos, true}
 use Rattle.al_core.specs.declared.values.Obj.{Obj}
 use Rattle.al_core.specs.declared.values.Obj.TheVariants.{Global}
@@ -12,8 +12,8 @@ use Rattle.al_core.specs.declared.values.Trap.{Trap}
 use Rattle.al_core.specs.World.{World}
 use Rattle.al_core.specs.Action.{Private, State, Answer, Act, hands_on, visit, with_locals}
 use Rattle.al_graded_laws.specs.Rules.{Rules}
-use Rattle.al_graded_laws.proofs.Graded.{Fineness, Fine, FineAll, OkIs, Any, Graded}
-use Rattle.al_graded_laws.proofs.Steady.{Before, Good, Steady, Works, Worlds, steady_bind, steady_get_frame, steady_set_frame, steady_graded}
+use Rattle.al_graded_laws.proofs.Graded.{Fineness, Fine, FineAll, OkIs, Any}
+use Rattle.al_graded_laws.proofs.Steady.{Before, Good, Steady, Works, Worlds, steady_bind, steady_get_frame, steady_set_frame}
 
 -- the locals that a visit answers
 abbrev pub Comes : Fineness → Answer (List Val) → Type 0

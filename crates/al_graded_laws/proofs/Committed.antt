@@ -1,6 +1,6 @@
 -- Outcomes give values with the sizes of their types, and laid over a memory keep them.
-use Rattle.std.proofs.Common.{◌≡◌, ℕ, zero, suc, List, [], ◌∷◌, map, Option, Some, None, Bool, true, false, refl, sym, ap, subst, ◌∙◌, w64, FitsSigned}
-use Rattle.std.specs.Prelude.{ℤ, pos, slice_get, if◌then◌else◌}
+use Rattle.std.proofs.Common.{◌≡◌, ℕ, List, [], ◌∷◌, map, Option, Some, None, Bool, true, false, refl, sym, ap, ◌∙◌, w64, FitsSigned}
+use Rattle.std.specs.Prelude.{ℤ, slice_get, if◌then◌else◌}
 use Rattle.std.specs.List.{AllByRecursion}
 use Rattle.std.specs.FinMap as fin
 use Rattle.std.specs.FinSet as set
@@ -14,18 +14,17 @@ use Rattle.al_core.specs.Orders.{obj_cmp, addr_cmp, obj_eq}
 use Rattle.al_core.specs.Reductions.{red_apply}
 use Rattle.al_core.specs.Memory.{Memory, word_in, value_at, put}
 use Rattle.al_core.specs.Access.{AccessRecord}
-use Rattle.al_core.specs.Iteration.{Execution, Finished}
+use Rattle.al_core.specs.Iteration.{Finished}
 use Rattle.al_core.specs.Chunk.{Outcome, sum_of, writes_of, made_objects, outcome_of, outcome, chunk_runs, chunk_from}
 use Rattle.al_core.specs.Readiness.{IsVal, HasValues}
-use Rattle.al_core.specs.Applied.{with_writes, with_made, without_freed, with_sum, with_sums, applied, all_applied}
-use Rattle.al_laws.proofs.Words.{same_some, some_none}
+use Rattle.al_core.specs.Applied.{with_writes, with_made, without_freed, with_sum, with_sums, applied}
+use Rattle.al_laws.proofs.Words.{some_none}
 use Rattle.al_laws.proofs.Joining.{stays_in_range}
 use Rattle.al_laws.specs.PrivateMemories.{is_among}
 use Rattle.al_laws.proofs.Stays.{get_put}
 use Rattle.al_laws.proofs.Overlay.{over, written_words, written_locals, get_with_made, locals_with_made, get_written, get_made_objects, get_without_freed, locals_without_freed}
-use Rattle.al_graded_laws.specs.InRange.{RunsInRange, SeesValues, AreSums}
+use Rattle.al_graded_laws.specs.InRange.{AreSums}
 use Rattle.al_graded_laws.specs.Commits.{GivesValues, OutcomesGiveValues, CommitsKeepValues}
-use Rattle.al_graded_laws.proofs.Graded.{FineAll}
 use Rattle.al_graded_laws.proofs.Steady.{fine_set}
 use Rattle.al_graded_laws.proofs.Contents.{put_object}
 use Rattle.al_graded_laws.proofs.Values.{sizes, zero_fits, fine_val, fine_objects, fine_locals, values_of, chunks_keep_values}
@@ -37,7 +36,8 @@ over_value (Some u) (Some z) v f g e = f v e
 over_value (Some u) None v f g e = absurd (some_none v (sym e))
 over_value None y v f g e = g v e
 
-made_value : (x y : Option (List Val)) (i : ℕ) (v : Val) → ((ws : List Val) → x ≡ Some ws → slice_get ws i ≡ Some v → IsVal v) → (word_in y i ≡ Some v → IsVal v)
+made_value : (x y : Option (List Val)) (i : ℕ) (v : Val) → ((ws : List Val) → x ≡ Some ws → slice_get ws i ≡ Some v → IsVal v)
+    → (word_in y i ≡ Some v → IsVal v)
     → word_in (elim x as (λ _. Option (List Val)) [ None ↦ y | Some ws ↦ Some ws ]) i ≡ Some v → IsVal v
 made_value (Some ws) y i v f g e = f ws refl e
 made_value None y i v f g e = g e
@@ -50,11 +50,13 @@ module _ (m : Memory) (o : Outcome) (h : HasValues m) (k : GivesValues o) where
   writes_values : HasValues (with_writes (fin.entries o.writes) m)
   writes_values (Word q i) v e =
       over_value (fin.get o.writes (Word q i)) (value_at m (Word q i)) v (k.writes (Word q i)) (h (Word q i))
-      (ap (λ x. over x (value_at m (Word q i))) (fin.get-entries o.writes (Word q i)) ∙ sym (written_words (fin.entries o.writes) m q i (fin.entries_sorted o.writes)) ∙ e)
+      (ap (λ x. over x (value_at m (Word q i))) (fin.get-entries o.writes (Word q i)) ∙ sym
+      (written_words (fin.entries o.writes) m q i (fin.entries_sorted o.writes)) ∙ e)
   writes_values (Head q) v e = absurd (some_none v (sym e))
   writes_values (Local j) v e =
       over_value (fin.get o.writes (Local j)) (value_at m (Local j)) v (k.writes (Local j)) (h (Local j))
-      (ap (λ x. over x (value_at m (Local j))) (fin.get-entries o.writes (Local j)) ∙ sym (written_locals (fin.entries o.writes) m j (fin.entries_sorted o.writes)) ∙ e)
+      (ap (λ x. over x (value_at m (Local j))) (fin.get-entries o.writes (Local j)) ∙ sym
+      (written_locals (fin.entries o.writes) m j (fin.entries_sorted o.writes)) ∙ e)
 
 made_values : (m : Memory) (o : Outcome) → HasValues m → GivesValues o → HasValues (with_made (fin.entries o.made) m)
 made_values m o h k (Word q i) v e =
@@ -65,14 +67,16 @@ made_values m o h k (Head q) v e = absurd (some_none v (sym e))
 made_values m o h k (Local j) v e = h (Local j) v (ap (λ l. slice_get l j) (sym (locals_with_made (fin.entries o.made) m)) ∙ e)
 
 freed_values : (m : Memory) (os : List Obj) → HasValues m → HasValues (without_freed os m)
-freed_values m os h (Word q i) v e = freed_value (is_among os q) (fin.get m.objects q) i v (h (Word q i) v) (ap (λ x. word_in x i) (sym (get_without_freed os m q)) ∙ e)
+freed_values m os h (Word q i) v e =
+    freed_value (is_among os q) (fin.get m.objects q) i v (h (Word q i) v) (ap (λ x. word_in x i) (sym (get_without_freed os m q)) ∙ e)
 freed_values m os h (Head q) v e = absurd (some_none v (sym e))
 freed_values m os h (Local j) v e = h (Local j) v (ap (λ l. slice_get l j) (sym (locals_without_freed os m)) ∙ e)
 
 put_values : (m : Memory) (a : Addr) (v : Val) → IsVal v → HasValues m → HasValues (put m a v)
 put_values m (Word o w) v f h =
     values_of (put m (Word o w) v)
-    (λ q ws e. put_object sizes zero_fits (obj_eq q o) (fin.get m.objects q) w v ws (fine_objects m h q) (fine_val v f) (sym (get_put m o w v q) ∙ e)) (fine_locals m h)
+    (λ q ws e. put_object sizes zero_fits (obj_eq q o) (fin.get m.objects q) w v ws (fine_objects m h q) (fine_val v f) (sym (get_put m o w v q) ∙ e))
+    (fine_locals m h)
 put_values m (Head o) v f h = h
 put_values m (Local j) v f h = values_of (put m (Local j) v) (fine_objects m h) (fine_set sizes m.locals j v (fine_val v f) (fine_locals m h))
 
@@ -111,7 +115,9 @@ sums_fit (v ∷ l) h = (sum_fits v h.0, sums_fit l h.1)
 
 gathered : (r : Finished) (z : Option AccessRecord) → HasValues r.content.memory → AreSums z → GivesValues (outcome_of r z)
 gathered r (Some l) h s = record {
-  writes = λ a v e. h a v (if_some (set.contains l.touched a) (value_at r.content.memory a) v (sym (get_written r.content.memory l.touched a) ∙ sym (fin.get-entries (writes_of r.content.memory l.touched) a) ∙ e));
+  writes =
+      λ a v e. h a v (if_some (set.contains l.touched a) (value_at r.content.memory a) v
+      (sym (get_written r.content.memory l.touched a) ∙ sym (fin.get-entries (writes_of r.content.memory l.touched) a) ∙ e));
   made = λ q ws w v e t.
       h (Word q w) v
       (ap (λ x. word_in x w) (if_some (set.contains l.made q) (fin.get r.content.memory.objects q) ws

@@ -1,6 +1,6 @@
 -- The operations of a memory keep it that all values are fine, those of the accumulators too.
-use Rattle.std.proofs.Common.{◌≡◌, ℕ, zero, suc, ◌+◌, ◌<◌, ◌≤◌, List, [], ◌∷◌, Option, Some, None, Result, Ok, Err, Bool, true, false, cond, refl, sym, ap, subst, ◌∙◌, arith}
-use Rattle.std.specs.Prelude.{ℤ, pos, if◌then◌else◌, nat_lt, slice_get, slice_set, replicate, option_map}
+use Rattle.std.proofs.Common.{◌≡◌, ℕ, zero, suc, ◌+◌, ◌<◌, ◌≤◌, List, [], ◌∷◌, Option, Some, None, Result, Ok, Err, Bool, true, false, cond, refl, sym, subst, ◌∙◌, arith}
+use Rattle.std.specs.Prelude.{pos, if◌then◌else◌, nat_lt, slice_get, slice_set, replicate, option_map}
 use Rattle.std.specs.Ordering.{int_eq}
 use Rattle.std.specs.FinMap as fin
 use Rattle.std.specs.FinSet as set
@@ -17,7 +17,7 @@ use Rattle.al_core.specs.declared.values.Trap.TheVariants as trap
 use Rattle.al_core.specs.Orders.{obj_eq}
 use Rattle.al_core.specs.Values.{of_kind}
 use Rattle.al_core.specs.Memory.{Memory, has_object, word_in, value_at, put, add, remove}
-use Rattle.al_core.specs.Access.{AccessRecord, Content, name_of, word_limit, with_memory, with_accesses, with_read, with_head, record_load, record_store, record_make, record_free, free_recorded, read_as, loaded, store_in, is_own, red_index, load_recorded, store_recorded, load_by, store_by, is_freeable, free_there, free_if, with_object, load, store, make, free, print}
+use Rattle.al_core.specs.Access.{AccessRecord, Content, name_of, word_limit, with_memory, with_accesses, with_read, with_head, record_load, record_store, record_make, record_free, free_recorded, read_as, loaded, store_in, is_own, red_index, load_recorded, store_recorded, load_by, store_by, is_freeable, free_there, free_if, load, store, make, free, print}
 use Rattle.al_core.specs.Action.{or_zero}
 use Rattle.al_laws.proofs.Words.{same_some, some_none}
 use Rattle.al_laws.proofs.Stays.{limited, get_put, get_add, get_remove}

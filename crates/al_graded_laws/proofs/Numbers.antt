@@ -1,6 +1,6 @@
 -- What is computed of numbers of 64 bits has 64 bits.
-use Rattle.std.proofs.Common.{◌≡◌, ℕ, zero, suc, ◌+◌, ◌<◌, ◌≤◌, ◌^◌, ◌%◌, ◌/◌, ◌*◌, ◌-◌, Bool, true, false, refl, sym, ap, subst, ◌∙◌, arith, w64, to_z, of_z, FitsSigned, Ok, Err, List, length}
-use Rattle.std.specs.Prelude.{ℤ, pos, negsuc, ◌+ℤ◌, ◌-ℤ◌, if◌then◌else◌, bit_and, bit_or, bit_xor, nat_lt, int_lt}
+use Rattle.std.proofs.Common.{◌≡◌, ℕ, suc, ◌+◌, ◌<◌, ◌≤◌, ◌^◌, ◌%◌, ◌/◌, ◌*◌, ◌-◌, Bool, true, false, refl, arith, w64, to_z, of_z, FitsSigned, Ok, Err, List, length}
+use Rattle.std.specs.Prelude.{ℤ, pos, negsuc, ◌+ℤ◌, if◌then◌else◌, nat_lt, int_lt}
 use Rattle.std.specs.Int.{int_max}
 use Rattle.std.specs.Ordering.{int_eq}
 use Rattle.std.proofs.Math.Facts.{sfits_to_z, Fits-of_z, Fits-lt-pow}
@@ -13,7 +13,7 @@ use Rattle.al_source.specs.declared.operators.BinOp.{BinOp}
 use Rattle.al_source.specs.declared.operators.BinOp.TheVariants as binary
 use Rattle.al_source.specs.declared.operators.UnOp.{UnOp}
 use Rattle.al_source.specs.declared.operators.UnOp.TheVariants.{Neg, BitNot, Not}
-use Rattle.al_core.specs.Arithmetic.{truth_value, operated, divided, unary}
+use Rattle.al_core.specs.Arithmetic.{truth_value, operated, unary}
 use Rattle.al_core.specs.Values.{trip_count, trips}
 use Rattle.std.specs.Prelude.{int_le, Result}
 use Rattle.al_source.specs.declared.operators.RedOp.TheVariants as red

@@ -1,6 +1,6 @@
 -- Programs in two worlds whose operations answer the same, where what is answered and what frames hold is fine: an
 -- instance of the second abstraction theorem, with calls.
-use Rattle.std.proofs.Common.{◌≡◌, ℕ, zero, suc, ◌+◌, ◌-◌, ◌<◌, ◌^◌, List, [], ◌∷◌, ◌++◌, Option, Some, None, Result, Ok, Err, refl, sym, ap, subst, ◌∙◌, arith}
+use Rattle.std.proofs.Common.{◌≡◌, ℕ, zero, suc, ◌-◌, List, [], ◌∷◌, ◌++◌, Option, Some, None, Result, Ok, Err, refl, sym, ap, subst, ◌∙◌, arith}
 use Rattle.std.specs.Prelude.{ℤ, pos, Bool, true, false, if◌then◌else◌, slice_get, slice_set, length, replicate}
 use Rattle.std.proofs.Math.Bool.{true≢false}
 use Rattle.al_core.specs.declared.values.Obj.{Obj}
@@ -12,12 +12,11 @@ use Rattle.al_core.specs.declared.values.Kind.{Kind}
 use Rattle.al_core.specs.declared.values.Kind.TheVariants as kind
 use Rattle.al_core.specs.declared.values.Trap.{Trap}
 use Rattle.al_core.specs.declared.values.Trap.TheVariants as trap
-use Rattle.al_core.specs.declared.typed_tree.TStmt.{TStmt}
 use Rattle.al_core.specs.declared.typed_tree.TFunc.{TFunc}
-use Rattle.al_core.specs.World.{Pointer, World}
-use Rattle.al_core.specs.Action.{AllPrivate, Private, Frame, State, Answer, Act, after, bind, ◌>>=◌, ◌>>◌, pure, lift, asks, hands_on, at_line, spend, spend_from, get_budget, get_frame, set_frame, or_zero, is_private, with_locals, get_local, set_local, load, store, make, free, print, visit, enter, leave}
+use Rattle.al_core.specs.World.{World}
+use Rattle.al_core.specs.Action.{AllPrivate, Private, Frame, State, Answer, Act, after, bind, ◌>>=◌, pure, lift, asks, at_line, spend, spend_from, get_budget, get_frame, set_frame, or_zero, is_private, with_locals, get_local, set_local, visit, enter, leave}
 use Rattle.al_core.specs.Accepted.{terms_of}
-use Rattle.al_core.specs.Meaning.{Where, Flow, Next, Broke, Continued, Returned, returned, execute_all, frame_of, body_of, call_to}
+use Rattle.al_core.specs.Meaning.{Where, Flow, Next, Broke, Continued, Returned, returned, frame_of, body_of, call_to}
 use Rattle.al_graded_laws.specs.Rules.{Rules, stmts_obey, MayCallIn}
 use Rattle.al_graded_laws.proofs.Graded.{Fineness, Fine, FineAll, FineFlow, FineNumbers, OkIs, Any, Graded, graded_execute_all}
 
@@ -282,7 +281,17 @@ module _ {S T : Type 0} (F : Fineness) (zero_fine : F.num (pos 0)) (R : S → T 
   -- the rules of functions: all locals, and no exemption
   abbrev pub in_functions : (ℕ → Bool) → (ℕ → Bool) → (ℤ → Bool) → (ℕ → Type 0) → Rules
   in_functions global taken literal called =
-      record { local = λ k. true; global = global; taken = taken; literal = literal; called = called; set = λ k e. false; store = λ p e. false; update = λ op k e. false; update_at = λ op p e. false }
+      record {
+        local = λ k. true;
+        global = global;
+        taken = taken;
+        literal = literal;
+        called = called;
+        set = λ k e. false;
+        store = λ p e. false;
+        update = λ op k e. false;
+        update_at = λ op p e. false;
+      }
 
   module _ (v : World S) (w : World T) (global taken : ℕ → Bool) (literal : ℤ → Bool) (called : ℕ → Type 0)
       (h : Worlds v w AllPrivate (in_functions global taken literal called)) (here : Where) (funcs : List TFunc) (input : List ℤ)

@@ -1,23 +1,19 @@
 -- Every value that iterations meet has the sizes of its type.
-use Rattle.std.proofs.Common.{◌≡◌, ℕ, zero, suc, ◌+◌, ◌-◌, ◌^◌, ◌<◌, ◌≤◌, List, [], ◌∷◌, map, length, Option, Some, None, Result, Ok, Err, Bool, true, false, refl, sym, ap, subst, ◌∙◌, arith, w64, FitsSigned}
-use Rattle.std.specs.Prelude.{ℤ, pos, negsuc, ◌+ℤ◌, slice_get, replicate, nat_lt, nat_le}
+use Rattle.std.proofs.Common.{◌≡◌, ℕ, zero, suc, ◌+◌, ◌-◌, ◌^◌, ◌<◌, ◌≤◌, List, [], ◌∷◌, map, length, Option, Some, None, true, false, refl, sym, ap, subst, ◌∙◌, arith, w64, FitsSigned}
+use Rattle.std.specs.Prelude.{ℤ, pos, negsuc, ◌+ℤ◌, slice_get, nat_lt, nat_le}
 use Rattle.std.specs.List.{AllByRecursion}
-use Rattle.std.specs.FinMap as fin
 use Rattle.std.proofs.Math.Bool.{true≢false}
-use Rattle.al_source.specs.declared.limits.TheConstants.{ITERATION_WORDS}
 use Rattle.al_source.specs.declared.operators.RedOp.{RedOp}
 use Rattle.al_source.specs.declared.operators.RedOp.TheVariants as red
 use Rattle.al_core.specs.declared.choices.Red.{Red}
 use Rattle.al_core.specs.declared.reports.Ending.{Ending}
 use Rattle.al_core.specs.declared.reports.Ending.TheVariants as ending
-use Rattle.al_core.specs.declared.values.Obj.{Obj}
-use Rattle.al_core.specs.declared.values.Obj.TheVariants.{Global}
 use Rattle.al_core.specs.declared.values.Val.{Val}
 use Rattle.al_core.specs.declared.values.Val.TheVariants.{Int, Ptr}
 use Rattle.al_core.specs.declared.values.Addr.TheVariants.{Word, Local}
 use Rattle.al_core.specs.Reductions.{red_identity}
 use Rattle.al_core.specs.Values.{input_at, input_number}
-use Rattle.al_core.specs.Memory.{Memory, word_in, value_at}
+use Rattle.al_core.specs.Memory.{Memory, word_in}
 use Rattle.al_core.specs.Access.{AccessRecord, Content, in_iteration}
 use Rattle.al_core.specs.Action.{AllPrivate, Own, Private, Act}
 use Rattle.al_core.specs.Accepted.{terms, terms_of}
@@ -25,13 +21,13 @@ use Rattle.al_core.specs.Meaning.{Where, Inside, Flow, execute, body_of, call_to
 use Rattle.al_core.specs.World.{World}
 use Rattle.al_core.specs.declared.typed_tree.TFunc.{TFunc}
 use Rattle.al_core.specs.declared.typed_tree.TStmt.{TStmt}
-use Rattle.al_core.specs.Iteration.{Execution, Finished, calls_within, iteration, iteration_does, iteration_from, then_by, then_runs, iterations}
+use Rattle.al_core.specs.Iteration.{Execution, Finished, calls_within, iteration, iteration_does, iteration_from, then_by, iterations}
 use Rattle.al_core.specs.Chunk.{chunk_start, chunk_end, chunk_trips, chunk_runs, chunk_from}
 use Rattle.al_core.specs.Readiness.{IsObj, IsVal, HasValues}
 use Rattle.al_core.specs.Serial.{direct, chunks_run, serial, plain_loop}
-use Rattle.al_graded_laws.specs.Rules.{Rules, AnyFunction, stmt_obeys, stmts_obey}
-use Rattle.al_graded_laws.specs.InRange.{has_64_bits, in_range, IsInRange, RunsInRange, AreSums, SeesValues, IterationsKeepValues, ChunksKeepValues, SerialKeepsValues, PlainKeepsValues}
-use Rattle.al_graded_laws.proofs.Graded.{Fineness, Fine, FineAll, FineFlow, FineNumbers, OkIs, Any, Graded, Exempt, may_call_all, graded_execute}
+use Rattle.al_graded_laws.specs.Rules.{AnyFunction, stmt_obeys, stmts_obey}
+use Rattle.al_graded_laws.specs.InRange.{has_64_bits, in_range, RunsInRange, AreSums, SeesValues, IterationsKeepValues, ChunksKeepValues, SerialKeepsValues, PlainKeepsValues}
+use Rattle.al_graded_laws.proofs.Graded.{Fineness, Fine, FineAll, FineFlow, FineNumbers, OkIs, Any, Graded, may_call_all, graded_execute}
 use Rattle.al_graded_laws.proofs.Numbers.{fine_numbers}
 use Rattle.al_graded_laws.proofs.Steady.{fine_replicate, steady_graded, steady_call}
 use Rattle.al_graded_laws.proofs.Alone.{Both, Anything, Does, KeepsWorld, alone_worlds}

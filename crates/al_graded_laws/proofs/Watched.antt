@@ -1,22 +1,21 @@
 -- Programs outside iterations, in two worlds: an instance of the second abstraction theorem. What is known of the
 -- first run alone holds whatever comes; that the second is like it holds where the first ends in a world that is
 -- good.
-use Rattle.std.proofs.Common.{◌≡◌, ℕ, zero, suc, ◌+◌, List, [], ◌∷◌, Option, Some, None, Result, Ok, Err, refl, sym, ap, subst, ◌∙◌, arith}
+use Rattle.std.proofs.Common.{◌≡◌, ℕ, zero, suc, List, Result, Ok, Err, refl, sym, ap, subst, ◌∙◌, arith}
 use Rattle.std.specs.Prelude.{ℤ, pos, Bool, true, false, if◌then◌else◌, slice_get, slice_set}
 use Rattle.std.proofs.Math.Bool.{true≢false}
 use Rattle.al_core.specs.declared.values.Obj.{Obj}
 use Rattle.al_core.specs.declared.values.Obj.TheVariants.{Global}
 use Rattle.al_core.specs.declared.values.Val.{Val}
-use Rattle.al_core.specs.declared.values.Val.TheVariants.{Int, Ptr}
-use Rattle.al_core.specs.declared.values.Addr.TheVariants.{Word, Local}
+use Rattle.al_core.specs.declared.values.Val.TheVariants.{Ptr}
+use Rattle.al_core.specs.declared.values.Addr.TheVariants.{Word}
 use Rattle.al_core.specs.declared.values.Kind.{Kind}
-use Rattle.al_core.specs.declared.values.Kind.TheVariants as kind
 use Rattle.al_core.specs.declared.values.Trap.{Trap}
 use Rattle.al_core.specs.declared.values.Trap.TheVariants as trap
 use Rattle.al_core.specs.declared.typed_tree.TFunc.{TFunc}
-use Rattle.al_core.specs.World.{Pointer, World}
-use Rattle.al_core.specs.Action.{AllPrivate, Private, Frame, State, Answer, Act, after, bind, ◌>>=◌, ◌>>◌, pure, lift, asks, hands_on, at_line, spend, spend_from, get_budget, get_frame, set_frame, or_zero, is_private, with_locals, get_local, set_local, load, store, make, free, print, visit, enter, leave}
-use Rattle.al_core.specs.Accepted.{Terms, terms_of}
+use Rattle.al_core.specs.World.{World}
+use Rattle.al_core.specs.Action.{AllPrivate, Frame, State, Answer, Act, after, bind, ◌>>=◌, pure, lift, asks, hands_on, at_line, spend, spend_from, get_budget, get_frame, set_frame, or_zero, is_private, with_locals, get_local, set_local, visit, enter, leave}
+use Rattle.al_core.specs.Accepted.{terms_of}
 use Rattle.al_core.specs.Meaning.{Where, Flow, returned, frame_of, body_of, call_to}
 use Rattle.al_graded_laws.specs.Rules.{Rules, AnyFunction, stmts_obey}
 use Rattle.al_graded_laws.proofs.Graded.{may_call_all, Fineness, Fine, FineAll, FineFlow, FineNumbers, OkIs, Any, Graded, graded_execute_all}
@@ -25,7 +24,17 @@ use Rattle.al_graded_laws.proofs.Steady.{fine_set, fine_get, fine_frame, fine_re
 -- the rules outside: all locals, and no exemption
 abbrev pub outer_rules : (ℕ → Bool) → (ℤ → Bool) → Rules
 outer_rules taken literal =
-    record { local = λ k. true; global = λ k. true; taken = taken; literal = literal; called = AnyFunction; set = λ k e. false; store = λ p e. false; update = λ op k e. false; update_at = λ op p e. false }
+    record {
+      local = λ k. true;
+      global = λ k. true;
+      taken = taken;
+      literal = literal;
+      called = AnyFunction;
+      set = λ k e. false;
+      store = λ p e. false;
+      update = λ op k e. false;
+      update_at = λ op p e. false;
+    }
 
 module _ {S T : Type 0} (F : Fineness) (zero_fine : F.num (pos 0)) (U : S → Type 0) (R : S → T → Type 0) (Good : S → Type 0) where
   pub record Sane (s : State S) : Type 0 where
@@ -184,7 +193,10 @@ module _ {S T : Type 0} (F : Fineness) (zero_fine : F.num (pos 0)) (U : S → Ty
   follows_hands_on {f = f} {g = g} h = record {
     sane = λ s n. let k = h.sane s.world n.world in handed (f s.world).0 (f s.world).1 s k.0 k.1 n;
     back = λ s n e. h.back s.world n.world e;
-    by = λ s t n b e. let k = h.by s.world t.world n.world b.world e in record { answer = k.0; state = record { frame = b.frame; budget = b.budget; world = k.1 } };
+    by = λ s t n b e. let k = h.by s.world t.world n.world b.world e in record {
+      answer = k.0;
+      state = record { frame = b.frame; budget = b.budget; world = k.1 };
+    };
   }
 
   follows_cond : {A : Type 0} {P : A → Type 0} (b : Bool) {p p' : Act S A} {q q' : Act T A} → b ≡ true → Follows A P p q → (b ≡ false → Follows A P p' q')

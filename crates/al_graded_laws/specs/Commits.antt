@@ -1,5 +1,5 @@
 -- The values of outcomes, and of memories that outcomes are laid over.
-use Rattle.std.specs.Prelude.{◌≡◌, ℕ, List, Some, slice_get, ℤ, FitsSigned}
+use Rattle.std.specs.Prelude.{◌≡◌, ℕ, List, Some, slice_get, FitsSigned}
 use Rattle.std.specs.Int.{w64}
 use Rattle.std.specs.List.{AllByRecursion}
 use Rattle.std.specs.FinMap as map
