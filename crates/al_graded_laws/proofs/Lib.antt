@@ -7,3 +7,5 @@ pub mod Contents
 pub mod Values
 pub mod Committed
 pub mod InAllModes
+pub mod Operators
+pub mod Called
