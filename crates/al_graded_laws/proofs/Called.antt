@@ -1,5 +1,5 @@
 -- Functions that stand in the calls of a statement may be called.
-use Rattle.std.proofs.Common.{ℕ, suc, ◌<◌, List, [], ◌∷◌, ◌++◌, map, length, Contains, refl, arith}
+use Rattle.std.proofs.Common.{ℕ, suc, List, [], ◌∷◌, map, Contains, refl, arith}
 use Rattle.std.specs.List.{AllByRecursion}
 use Rattle.std.proofs.lemmas.List.Elements.{Contains-append_left, Contains-append_right}
 use Rattle.al_core.specs.Accepted.{Terms, calls, calls_at, all_called, calls_of}
@@ -13,9 +13,11 @@ module _ (called : ℕ → Type 0) where
   by_lists : {X : Type 0} (g : X → List ℕ) (xs : List X) → ((f : ℕ) → Contains (all_called (map g xs)) f → called f)
       → AllByRecursion (λ x. AllByRecursion called (g x)) xs
   by_lists g [] h = tt
-  by_lists g (x ∷ xs) h =
-      (each_called (g x) (λ f c. h f (Contains-append_left (g x) (all_called (map g xs)) f c)), by_lists g xs
-          (λ f c. h f (Contains-append_right (g x) (all_called (map g xs)) f c)))
+  by_lists g (x ∷ xs) h = (
+    each_called (g x) (λ f c. h f (Contains-append_left (g x) (all_called (map g xs)) f c)),
+    by_lists g xs
+        (λ f c. h f (Contains-append_right (g x) (all_called (map g xs)) f c)),
+  )
 
   pub may_call_in : (t : Terms) → ((f : ℕ) → Contains (calls_of t) f → called f) → MayCallIn called t
   may_call_in t h = record {

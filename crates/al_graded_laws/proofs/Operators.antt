@@ -1,5 +1,5 @@
 -- What the operators of updates compute.
-use Rattle.std.proofs.Common.{◌≡◌, ℕ, Bool, true, false, Result, Ok, Err, refl, sym}
+use Rattle.std.proofs.Common.{◌≡◌, ℕ, true, Result, Ok, Err, refl, sym}
 use Rattle.std.specs.Prelude.{ℤ}
 use Rattle.std.proofs.Math.Bool.{true≢false}
 use Rattle.al_source.specs.declared.operators.BinOp.{BinOp}
