@@ -1,0 +1,11 @@
+pub mod Graded
+pub mod Numbers
+pub mod Steady
+pub mod Watched
+pub mod Alone
+pub mod Contents
+pub mod Values
+pub mod Committed
+pub mod InAllModes
+pub mod Operators
+pub mod Called
