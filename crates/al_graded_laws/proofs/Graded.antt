@@ -149,14 +149,14 @@ module _ {S T : Type 0} (v : World S) (w : World T) (F : Fineness) (r : Rules) (
   abbrev N : FineNumbers F r input
   N = numbers_fine
 
-  of_cond : {A : Type 0} {P : A → Type 0} (b : Bool) {p p' : Act S A} {q q' : Act T A} → Rel A P p q → Rel A P p' q'
+  pub of_cond : {A : Type 0} {P : A → Type 0} (b : Bool) {p p' : Act S A} {q q' : Act T A} → Rel A P p q → Rel A P p' q'
       → Rel A P (if b then p else p') (if b then q else q')
   of_cond true h k = h
   of_cond false h k = k
 
   -- ---- what is computed of values
 
-  fine_number : (x : Val) → Fine F x → OkIs F.num (number x)
+  pub fine_number : (x : Val) → Fine F x → OkIs F.num (number x)
   fine_number (Int m) h = h
   fine_number (Ptr o i) h = tt
 
@@ -210,16 +210,16 @@ module _ {S T : Type 0} (v : World S) (w : World T) (F : Fineness) (r : Rules) (
   fine_element q (Int n) size t h = fine_offset q.0 (pos q.1 +ℤ (n *ℤ pos size)) t h.0 h.2
   fine_element q (Ptr o i) size t h = tt
 
-  fine_input : (x : Val) → OkIs (Fine F) (and_then (number x) (input_at input))
+  pub fine_input : (x : Val) → OkIs (Fine F) (and_then (number x) (input_at input))
   fine_input (Int n) = N.read n
   fine_input (Ptr o i) = tt
 
-  any_ok : {A : Type 0} (e : Result A Trap) → OkIs Any e
+  pub any_ok : {A : Type 0} (e : Result A Trap) → OkIs Any e
   any_ok (Ok a) = tt
   any_ok (Err t) = tt
 
   -- freeing an object, or nothing
-  of_free_at : (x : Val) (line : ℕ) → Fine F x → Rel Val (Fine F) (free v x line) (free w x line)
+  pub of_free_at : (x : Val) (line : ℕ) → Fine F x → Rel Val (Fine F) (free v x line) (free w x line)
   of_free_at (Int n) line h = c.of_pure (Int (pos 0)) (N.tested false)
   of_free_at (Ptr o i) line h = c.of_bind (c.of_free o i line h.0 h.1) (λ u _. c.of_pure (Int (pos 0)) (N.tested false))
 

@@ -9,3 +9,5 @@ pub mod Committed
 pub mod InAllModes
 pub mod Operators
 pub mod Called
+pub mod Memories
+pub mod ObeyingTerms

@@ -86,17 +86,19 @@ fits_64 n e = grind arith
 below : (k : ℕ) → nat_lt k (2 ^ 32) ≡ true → k < 2 ^ 32
 below k e = grind arith
 
-fine_input_number : (z : Option ℤ) → ((n : ℤ) → z ≡ Some n → FitsSigned w64 n) → OkIs (Fine sizes) (input_number z)
-fine_input_number (Some n) h = h n refl
-fine_input_number None h = tt
+module _ (F : Fineness) (to : (n : ℤ) → FitsSigned w64 n → F.num n) where
+  fine_input_number : (z : Option ℤ) → ((n : ℤ) → z ≡ Some n → FitsSigned w64 n) → OkIs (Fine F) (input_number z)
+  fine_input_number (Some n) h = to n (h n refl)
+  fine_input_number None h = tt
 
-fine_input_at : (input : List ℤ) → ((i : ℕ) (n : ℤ) → slice_get input i ≡ Some n → FitsSigned w64 n) → (i : ℤ) → OkIs (Fine sizes) (input_at input i)
-fine_input_at input h (pos i) = fine_input_number (slice_get input i) (h i)
-fine_input_at input h (negsuc i) = tt
+  -- what is read of an input whose numbers have 64 bits
+  pub fine_input_at : (input : List ℤ) → ((i : ℕ) (n : ℤ) → slice_get input i ≡ Some n → FitsSigned w64 n) → (i : ℤ) → OkIs (Fine F) (input_at input i)
+  fine_input_at input h (pos i) = fine_input_number (slice_get input i) (h i)
+  fine_input_at input h (negsuc i) = tt
 
 module _ (input : List ℤ) (read : (i : ℕ) (n : ℤ) → slice_get input i ≡ Some n → FitsSigned w64 n) (count : FitsSigned w64 (pos (length input))) where
   pub program_numbers : FineNumbers sizes in_range input
-  program_numbers = fine_numbers sizes (λ n f. f) (λ n f. f) in_range input fits_64 (fine_input_at input read) count
+  program_numbers = fine_numbers sizes (λ n f. f) (λ n f. f) in_range input fits_64 (fine_input_at sizes (λ n f. f) input read) count
 
 -- ---- iterations
 

@@ -1,5 +1,5 @@
 -- Two outcomes that write at different addresses may be laid over a memory in either order.
-use Rattle.std.proofs.Common.{◌≡◌, ℕ, List, [], ◌∷◌, length, Option, Some, None, Bool, true, false, refl, sym, ap, ◌∙◌, ◌⊎◌, inl, inr}
+use Rattle.std.proofs.Common.{◌≡◌, ℕ, List, [], length, Option, Some, None, Bool, true, false, refl, sym, ap, ◌∙◌, ◌⊎◌, inl, inr}
 use Rattle.std.specs.Prelude.{if◌then◌else◌, is_some, option_map, slice_get}
 use Rattle.std.specs.FinMap as map
 use Rattle.std.specs.FinSet as set
@@ -15,10 +15,9 @@ use Rattle.al_laws.specs.PrivateMemories.{is_among}
 use Rattle.al_laws.proofs.Orders.{obj_total, obj_apart}
 use Rattle.al_laws.proofs.Words.{some_none, same_list}
 use Rattle.al_laws.proofs.Overlay.{over, written_words, written_locals, get_with_made, locals_with_made, get_without_freed, locals_without_freed}
-use Rattle.al_laws.proofs.Applying.{put_length}
-use Rattle.al_laws.proofs.Untouched.{untouched_unwritten}
+use Rattle.al_laws.proofs.Applying.{written_length}
+use Rattle.al_laws.proofs.Untouched.{false_or, untouched_unwritten}
 use Rattle.al_rounds_laws.specs.Writes.{OutcomesCommute}
-use Rattle.al_rounds_laws.proofs.Sets.{false_or}
 use Rattle.al_rounds_laws.proofs.Names.{IsForeign, made_is_foreign}
 
 -- ---- memories that have the same words and the same locals
@@ -38,19 +37,15 @@ same_memory m n e f g =
 
 -- ---- a memory with an outcome laid over it
 
-written_length : (es : List (Addr × Val)) (m : Memory) (q : Obj) → length_at (with_writes es m) q ≡ length_at m q
-written_length [] m q = refl
-written_length (e ∷ es) m q = written_length es _ q ∙ put_length m e.0 e.1 q
-
-abbrev made_or : Option (List Val) → Option (List Val) → Option (List Val)
+abbrev pub made_or : Option (List Val) → Option (List Val) → Option (List Val)
 made_or None y = y
 made_or (Some ws) y = Some ws
 
-abbrev word_or : Option (List Val) → ℕ → Option Val → Option Val
+abbrev pub word_or : Option (List Val) → ℕ → Option Val → Option Val
 word_or None i v = v
 word_or (Some ws) i v = slice_get ws i
 
-abbrev length_or : Option (List Val) → Option ℕ → Option ℕ
+abbrev pub length_or : Option (List Val) → Option ℕ → Option ℕ
 length_or None l = l
 length_or (Some ws) l = Some (length ws)
 
@@ -59,7 +54,8 @@ by_word true x y i = refl
 by_word false None y i = refl
 by_word false (Some ws) y i = refl
 
-by_length : (b : Bool) (x y : Option (List Val)) → option_map length (if b then None else made_or x y) ≡ (if b then None else length_or x (option_map length y))
+by_length : (b : Bool) (x y : Option (List Val))
+    → option_map length (if b then None else made_or x y) ≡ (if b then None else length_or x (option_map length y))
 by_length true x y = refl
 by_length false None y = refl
 by_length false (Some ws) y = refl
@@ -84,7 +80,7 @@ module _ (n : Memory) (out : Outcome) where
       get_without_freed out.freed (with_made (map.entries out.made) written) q
       ∙ ap (λ x. if is_among out.freed q then None else x) (object_made q)
 
-  word_after : (q : Obj) (i : ℕ) → value_at (applied [] n out) (Word q i)
+  pub word_after : (q : Obj) (i : ℕ) → value_at (applied [] n out) (Word q i)
       ≡ (if is_among out.freed q then None else word_or (map.get out.made q) i (over (map.get out.writes (Word q i)) (value_at n (Word q i))))
   word_after q i =
       ap (λ x. word_in x i) (object_after q)
@@ -93,13 +89,13 @@ module _ (n : Memory) (out : Outcome) where
       (written_words (map.entries out.writes) n q i (map.entries_sorted out.writes)
       ∙ ap (λ x. over x (value_at n (Word q i))) (sym (map.get-entries out.writes (Word q i))))
 
-  length_after : (q : Obj) → length_at (applied [] n out) q ≡ (if is_among out.freed q then None else length_or (map.get out.made q) (length_at n q))
+  pub length_after : (q : Obj) → length_at (applied [] n out) q ≡ (if is_among out.freed q then None else length_or (map.get out.made q) (length_at n q))
   length_after q =
       ap (option_map length) (object_after q)
       ∙ by_length (is_among out.freed q) (map.get out.made q) (map.get written.objects q)
       ∙ ap (λ l. if is_among out.freed q then None else length_or (map.get out.made q) l) (written_length (map.entries out.writes) n q)
 
-  local_after : (k : ℕ) → value_at (applied [] n out) (Local k) ≡ over (map.get out.writes (Local k)) (value_at n (Local k))
+  pub local_after : (k : ℕ) → value_at (applied [] n out) (Local k) ≡ over (map.get out.writes (Local k)) (value_at n (Local k))
   unfolding applied
   local_after k =
       ap (λ l. slice_get l k) (locals_without_freed out.freed (with_made (map.entries out.made) written) ∙ locals_with_made (map.entries out.made) written)
@@ -108,7 +104,7 @@ module _ (n : Memory) (out : Outcome) where
 
 -- ---- two outcomes
 
-abbrev OneIsNone : Option Val → Option Val → Type 0
+abbrev pub OneIsNone : Option Val → Option Val → Type 0
 OneIsNone v w = (v ≡ None) ⊎ (w ≡ None)
 
 no_some : {A P : Type 0} {a : A} → Some a ≡ None → P

@@ -1,12 +1,10 @@
 -- What one chunk made another one knows nothing of.
-use Rattle.std.proofs.Common.{◌≡◌, ◌≢◌, ℕ, ◌+◌, ◌<◌, ◌≤◌, List, Option, Some, None, Bool, true, false, refl, sym, ap, ◌∙◌, arith, inl, inr}
+use Rattle.std.proofs.Common.{◌≡◌, ◌≢◌, ℕ, List, Option, Some, None, Bool, true, false, refl, sym, ap, ◌∙◌}
 use Rattle.std.specs.Prelude.{if◌then◌else◌, is_some}
 use Rattle.std.specs.FinMap as map
 use Rattle.std.specs.FinSet as set
 use Rattle.std.specs.FinSet.{FinSet}
 use Rattle.std.proofs.Math.Bool.{true≢false}
-use Rattle.std.proofs.Math.Nat.{mul-le-mul_right}
-use Rattle.std.proofs.lemmas.Bool.{cases_lt}
 use Rattle.al_core.specs.declared.choices.Red.{Red}
 use Rattle.al_core.specs.declared.values.Val.{Val}
 use Rattle.al_core.specs.declared.values.Addr.TheVariants.{Word}
@@ -18,23 +16,14 @@ use Rattle.al_core.specs.Iteration.{Execution}
 use Rattle.al_core.specs.Chunk.{Outcome, chunk_start, chunk_end, chunk_runs, chunk_from, writes_of, outcome_of, outcome}
 use Rattle.al_core.specs.Readiness.{IsNameFrom, IsFresh}
 use Rattle.al_laws.specs.PrivateMemories.{is_among, SameBut, HasPrivateMemory}
-use Rattle.al_laws.proofs.Naming.{made_are_named, given_is_from}
+use Rattle.al_laws.proofs.Naming.{made_are_named, given_is_from, apart}
 use Rattle.al_laws.proofs.Overlay.{get_written}
 use Rattle.al_laws.proofs.Laid.{none_of}
 use Rattle.al_laws.proofs.DirectRuns.{chunk_keeps}
-use Rattle.al_rounds_laws.proofs.Sets.{false_or}
-
-apart_below : (x : Execution) (c d j : ℕ) → c < d → j < chunk_end x c → chunk_start x d ≤ j → ⊥
-apart_below x c d j l e s = absurd (omega (arith, e, s, mul-le-mul_right {m = c + 1} {n = d} x.factor (omega (arith, l))))
-
-apart : (x : Execution) (c d j : ℕ) → c ≢ d → chunk_start x c ≤ j → j < chunk_end x c → chunk_start x d ≤ j → j < chunk_end x d → ⊥
-apart x c d j n sc ec sd ed = elim (cases_lt c d) as (λ _. ⊥) [
-  | inl l ↦ apart_below x c d j l ec sd
-  | inr l ↦ apart_below x d c j (omega (arith, l, n)) ed sc
-]
+use Rattle.al_laws.proofs.Untouched.{false_or}
 
 -- two chunks have no name in common
-pub names_apart : (x : Execution) (c d : ℕ) → c ≢ d → (o : Obj) → IsNameFrom x.number (chunk_start x c) (chunk_end x c) o
+names_apart : (x : Execution) (c d : ℕ) → c ≢ d → (o : Obj) → IsNameFrom x.number (chunk_start x c) (chunk_end x c) o
     → ¬ (IsNameFrom x.number (chunk_start x d) (chunk_end x d) o)
 names_apart x c d n (Global k) h g = h
 names_apart x c d n (Serial k) h g = h

@@ -1,5 +1,5 @@
 -- What it means for sets of addresses not to meet.
-use Rattle.std.proofs.Common.{◌≡◌, ℕ, List, [], ◌∷◌, Bool, true, false, ◌||◌, refl, sym, ap, ◌∙◌}
+use Rattle.std.proofs.Common.{◌≡◌, ℕ, List, [], ◌∷◌, true, false, ◌||◌, refl, sym, ap, ◌∙◌}
 use Rattle.std.specs.List.{list_any}
 use Rattle.std.specs.FinSet as set
 use Rattle.std.specs.FinSet.{FinSet}
@@ -16,11 +16,8 @@ use Rattle.al_laws.specs.Commits.{IsUntouched}
 use Rattle.al_laws.proofs.Orders.{addr_total, addr_equal}
 use Rattle.al_laws.proofs.Meeting.{words_meet_by_lines}
 use Rattle.al_laws.proofs.Stays.{or_left, or_right}
+use Rattle.al_laws.proofs.Untouched.{false_or}
 use Rattle.al_rounds_laws.specs.Loops.{LooksAtReads, LooksAtWrites}
-
-pub false_or : (b : Bool) → (b ≡ true → ⊥) → b ≡ false
-false_or true n = absurd (n refl)
-false_or false n = refl
 
 contains_any : (b : FinSet addr_cmp) (q : Addr) (items : List Addr) → list_any (addr_eq q) items ≡ true → list_any (set.contains b) items ≡ false
     → set.contains b q ≡ false

@@ -40,7 +40,8 @@ module _ (x : Execution) (choice : Choice) (m : Memory) where
   kept_outcomes (c ∷ cs) earlier =
       let o = outcome x choice.reds m c in
       let later = judged choice earlier o in
-      one_more c (is_committed (verdict_of choice earlier o)) (kept x choice m cs later) (commits (more_verdicts x choice m cs later)) (kept_outcomes cs later)
+      one_more c (is_committed (verdict_of choice earlier o)) (kept x choice m cs later) (commits (more_verdicts x choice m cs later))
+      (kept_outcomes cs later)
 
 pub round_is_laid_over : RoundIsLaidOver
 round_is_laid_over x choice m cs =
@@ -73,7 +74,8 @@ module _ (x : Execution) (choice : Choice) (m : Memory) (looks : LooksAtWrites c
   }
 
   abbrev ApartBy : ℕ → List ℕ → Judging → Verdict → Type 0
-  ApartBy c cs s v = Apart s.written (commits (record { chunk = c; verdict = v } ∷ more_verdicts x choice m cs (after_verdict v s (outcome x choice.reds m c))))
+  ApartBy c cs s v =
+      Apart s.written (commits (record { chunk = c; verdict = v } ∷ more_verdicts x choice m cs (after_verdict v s (outcome x choice.reds m c))))
 
   by_verdict : (c : ℕ) (cs : List ℕ) (s : Judging) (stop clash : Bool) (e : Ending)
       → clashes choice.policy choice.line (outcome x choice.reds m c) s.written ≡ clash

@@ -1,0 +1,11 @@
+pub mod Kinded
+pub mod WholeTerms
+pub mod KindedExpressions
+pub mod KindedStatements
+pub mod Following
+pub mod KeptKinds
+pub mod LoopBodies
+pub mod Taking
+pub mod KindedIterations
+pub mod Numbers
+pub mod NumbersCommitted

@@ -1,0 +1,15 @@
+pub mod Variables
+pub mod Sums
+pub mod Updates
+pub mod Joined
+pub mod ChunkSums
+pub mod SumsSerially
+pub mod BodyRules
+pub mod Exempting
+pub mod Mentions
+pub mod Updating
+pub mod Bodies
+pub mod Reaching
+pub mod AcceptedReds
+pub mod Rounds
+pub mod SumsCommute

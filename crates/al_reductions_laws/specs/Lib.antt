@@ -1,0 +1,3 @@
+pub mod Reducible
+pub mod Serial
+pub mod Writes

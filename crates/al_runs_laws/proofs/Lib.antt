@@ -1,0 +1,11 @@
+pub mod ProgramLoops
+pub mod Events
+pub mod LoopsInRounds
+pub mod Outside
+pub mod WholeRuns
+pub mod Starts
+pub mod InCommitOrder
+pub mod Reporting
+pub mod NumbersKept
+pub mod SmallFacts
+pub mod Sourced

@@ -1,0 +1,7 @@
+pub mod Modes
+pub mod Runs
+pub mod Reports
+pub mod Numbers
+pub mod Small
+pub mod Met
+pub mod Sources
