@@ -1,0 +1,14 @@
+pub mod Leads
+pub mod Steps
+pub mod Args
+pub mod Counting
+pub mod Moves
+pub mod ExprRuns
+pub mod StmtRuns
+pub mod TreeRuns
+pub mod Ends
+pub mod Resumed
+pub mod Carried
+pub mod CallRuns
+pub mod Iterations
+pub mod Standing

@@ -1,0 +1,5 @@
+pub mod Planned
+pub mod Tree
+pub mod Laid
+pub mod Laws
+pub mod Stops

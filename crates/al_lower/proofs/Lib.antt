@@ -1,0 +1,15 @@
+pub mod Backwards
+pub mod CodeOf
+pub mod KindsOf
+pub mod Functions
+pub mod FineTrees
+pub mod FineStatements
+pub mod LoopBodies
+pub mod Assembled
+pub mod EntriesFine
+pub mod Laying
+pub mod SoundPlaces
+pub mod SoundTrees
+pub mod LoopRanges
+pub mod Places
+pub mod Validity

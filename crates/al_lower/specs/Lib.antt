@@ -1,0 +1,4 @@
+pub mod Emits
+pub mod Starts
+pub mod Assembly
+pub mod Fine
