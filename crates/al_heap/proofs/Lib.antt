@@ -1,0 +1,4 @@
+pub mod DerivedOrders
+pub mod Kept
+pub mod SlotLemmas
+pub mod Replaced

@@ -1,0 +1,4 @@
+pub mod Blocks
+pub mod Bits
+pub mod LineBits
+pub mod MaskLines

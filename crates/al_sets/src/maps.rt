@@ -1,0 +1,173 @@
+ghost use Rattle.std.specs.Prelude.{◌≡◌, ℕ, ◌==◌, if◌then◌else◌, [], Some, OnOk, length};
+ghost use Rattle.al_core.specs.declared.values.Addr.{Addr};
+ghost use Rattle.al_core.specs.Orders.{addr_eq};
+ghost use Rattle.al_sets.specs.Places.{place_of, offset_of};
+ghost use Rattle.al_sets.specs.Blocks.{IsAscending, IsAt, IsGapFor};
+ghost use Rattle.al_sets.specs.Rows.{IsSingle, value_in_row, value_in};
+ghost use Rattle.std.specs.FinMap as map;
+
+use crate::blocks::{Block, search, single};
+use crate::places::{offset, place};
+use crate::rows::Row;
+use al_core::Addr;
+use al_planes::{has_bit, set_bit};
+use al_values::PackedValue;
+use std::alloc::{AllocError, Global};
+use std::marker::Model;
+
+/// A map from addresses to values.
+#[derive(Drop)]
+pub struct AddrMap {
+    alloc: Global,
+    blocks: Vec<Block>,
+    rows: Vec<Row>,
+}
+
+impl Model for AddrMap {
+    ghost use Rattle.std.specs.Prelude.{◌≡◌, length};
+    ghost use Rattle.std.specs.FinMap.{FinMap};
+    ghost use Rattle.al_core.specs.declared.values.Val.{Val};
+    ghost use Rattle.al_core.specs.Orders.{addr_cmp};
+    ghost use Rattle.al_sets.specs.Blocks.{IsAscending};
+    ghost use Rattle.al_sets.specs.Rows.{values_of, values_code};
+
+    ghost Value = { FinMap addr_cmp Val };
+
+    ghost coded = { values_code };
+
+    ghost view = { λ m. values_of m.blocks.items m.rows.items };
+
+    ghost invariant = { λ m. IsAscending m.blocks.items × (length m.rows.items ≡ length m.blocks.items) };
+}
+
+/// Puts a value into the block at i, which is that of the address.
+fn put(
+    blocks: &mut Vec<Block>,
+    rows: &mut Vec<Row>,
+    i: usize,
+    at: Addr,
+    value: PackedValue,
+) -> Result<(), AllocError>
+    requires ascending { IsAscending blocks.old.items }
+    requires long { length rows.old.items ≡ length blocks.old.items }
+    requires here { IsAt blocks.old.items (place_of at) i }
+    ensures ascending { IsAscending blocks.new.items }
+    ensures long { length rows.new.items ≡ length blocks.new.items }
+    ensures values { OnOk result
+        ((a : Addr)
+        → value_in blocks.new.items rows.new.items a
+        ≡ (if addr_eq a at then Some value else value_in blocks.old.items rows.old.items a)) }
+{
+    set_bit(&mut blocks[i].masks, offset(at));
+    rows[i].put(offset(at), value)?;
+    Ok(())
+}
+
+/// Makes a block at i, with the row of one value.
+fn add(
+    blocks: &mut Vec<Block>,
+    rows: &mut Vec<Row>,
+    i: usize,
+    at: Addr,
+    row: Row,
+) -> Result<(), AllocError>
+    requires ascending { IsAscending blocks.old.items }
+    requires long { length rows.old.items ≡ length blocks.old.items }
+    requires gap { IsGapFor blocks.old.items (place_of at) i }
+    requires one { IsSingle row (offset_of at) }
+    ensures ascending { IsAscending blocks.new.items }
+    ensures long { length rows.new.items ≡ length blocks.new.items }
+    ensures values { OnOk result
+        ((a : Addr)
+        → value_in blocks.new.items rows.new.items a
+        ≡ (if addr_eq a at then Some (value_in_row row (offset_of at))
+        else value_in blocks.old.items rows.old.items a)) }
+{
+    rows.reserve(1)?;
+    blocks.insert(i, single(at))?;
+    let done = rows.insert(i, row);
+    prove!(done.is_ok());
+    Ok(())
+}
+
+impl AddrMap {
+    /// The empty map. It takes no memory.
+    pub fn new(alloc: Global) -> AddrMap
+        ensures { result ≡ map.empty }
+    {
+        AddrMap {
+            alloc,
+            blocks: Vec::new(alloc),
+            rows: Vec::new(alloc),
+        }
+    }
+
+    /// The value of an address, where it has one.
+    pub fn get(&self, at: Addr) -> Option<PackedValue>
+        ensures { result ≡ map.get self.now at }
+    {
+        match search(self.blocks.as_slice(), place(at)) {
+            Ok(i) => {
+                if has_bit(&self.blocks[i].masks, offset(at)) {
+                    Some(self.rows[i].value(offset(at)))
+                } else {
+                    None
+                }
+            }
+            Err(_) => None,
+        }
+    }
+
+    /// Gives an address a value.
+    pub fn insert(&mut self, at: Addr, value: PackedValue) -> Result<(), AllocError>
+        ensures { OnOk result (self.new ≡ map.insert self.old at value) }
+    {
+        match search(self.blocks.as_slice(), place(at)) {
+            Ok(i) => put(&mut self.blocks, &mut self.rows, i, at, value)?,
+            Err(i) => {
+                let mut row = Row::new(self.alloc);
+                row.put(offset(at), value)?;
+                add(&mut self.blocks, &mut self.rows, i, at, row)?
+            }
+        }
+        Ok(())
+    }
+}
+
+#[cfg(test)]
+mod tests {
+    use super::*;
+    use al_core::Obj;
+    use std::collections::BTreeMap;
+    use std::test::Fail;
+
+    fn int(value: Option<PackedValue>) -> Option<i64> {
+        value?.int()
+    }
+
+    #[test]
+    fn random_maps_are_as_plain_ones(rt: HostRuntime) -> Result<(), Fail> {
+        let mut map = AddrMap::new(rt.alloc());
+        let mut plain = BTreeMap::new(rt.alloc());
+        let mut x = 88_172_645_463_325_252u64;
+        for _ in 0..300 {
+            x ^= x.wrapping_shl(13);
+            x ^= x >> 7;
+            x ^= x.wrapping_shl(17);
+            let obj = Obj::Iter((x / 16 % 2) as u32, 0, 0);
+            let at = match x % 4 {
+                0 => Addr::Local((x / 64 % 600) as u32),
+                _ => Addr::Word(obj, (x / 64 % 1100) as u32),
+            };
+            let n = (x >> 40) as i64;
+            assert_eq!(rt; int(map.get(at)), plain.get(&at).copied());
+            map.insert(at, PackedValue::from_int(n))?;
+            plain.insert(at, n)?;
+            assert_eq!(rt; int(map.get(at)), Some(n));
+        }
+        for (at, n) in &plain {
+            assert_eq!(rt; int(map.get(*at)), Some(*n));
+        }
+        Ok(())
+    }
+}

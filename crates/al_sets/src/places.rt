@@ -1,0 +1,47 @@
+ghost use Rattle.std.specs.Prelude.{◌≡◌, ◌<◌, ◌/◌, ◌%◌};
+ghost use Rattle.al_sets.specs.Places.{number_of, renumbered, place_of, offset_of};
+
+use al_core::{Addr, Obj};
+
+/// The last number of an object's name.
+fn last_number(obj: Obj) -> u32
+    ensures { result ≡ number_of obj }
+{
+    match obj {
+        Obj::Global(k) | Obj::Serial(k) | Obj::Iter(_, _, k) => k,
+    }
+}
+
+/// The object's name with another last number.
+fn renumber(obj: Obj, number: u32) -> Obj
+    ensures { result ≡ renumbered obj number }
+{
+    match obj {
+        Obj::Global(_) => Obj::Global(number),
+        Obj::Serial(_) => Obj::Serial(number),
+        Obj::Iter(e, j, _) => Obj::Iter(e, j, number),
+    }
+}
+
+/// The place of the block that an address is in.
+pub(crate) fn place(at: Addr) -> Addr
+    ensures { result ≡ place_of at }
+{
+    match at {
+        Addr::Word(obj, w) => Addr::Word(obj, w / 512),
+        Addr::Head(obj) => Addr::Head(renumber(obj, last_number(obj) / 512)),
+        Addr::Local(k) => Addr::Local(k / 512),
+    }
+}
+
+/// Where an address is in its block.
+pub(crate) fn offset(at: Addr) -> usize
+    ensures exact { result ≡ offset_of at }
+    ensures within { result < 512 }
+{
+    match at {
+        Addr::Word(_, w) => w as usize % 512,
+        Addr::Head(obj) => last_number(obj) as usize % 512,
+        Addr::Local(k) => k as usize % 512,
+    }
+}

@@ -1,0 +1,256 @@
+ghost use Rattle.std.specs.Prelude.{◌≡◌, ◌≤◌, ◌<◌, ◌+◌, IsOk, OnOk, OnErr};
+ghost use Rattle.std.specs.FinSet as set;
+ghost use Rattle.al_core.specs.Clash as clash;
+ghost use Rattle.al_core.specs.Lines.{IsLineSize};
+ghost use Rattle.al_planes.specs.Lines.{size as line_size};
+
+use crate::blocks::{Block, has, insert, join, meet, meet_by_lines};
+use al_core::Addr;
+use al_planes::Line;
+use std::alloc::{AllocError, Global};
+use std::marker::Model;
+
+/// A set of addresses. Addresses that lie near one another share a block of 512; `size` counts the blocks.
+#[derive(Drop)]
+pub struct AddrSet {
+    blocks: Vec<Block>,
+}
+
+impl Model for AddrSet {
+    ghost use Rattle.std.specs.Prelude.{◌-◌};
+    ghost use Rattle.std.specs.Vec.{vec_len, vec_capacity};
+    ghost use Rattle.al_sets.specs.Blocks.{IsAscending};
+    ghost use Rattle.al_sets.specs.Members.{AddressSet, members, set_code};
+
+    ghost Value = { AddressSet };
+
+    ghost coded = { set_code };
+
+    ghost view = { λ s. record {
+      members = members s.blocks.items;
+      size = vec_len s.blocks;
+      room = vec_capacity s.blocks - vec_len s.blocks;
+    } };
+
+    ghost invariant = { λ s. IsAscending s.blocks.items };
+}
+
+/// The line of so many words.
+fn line_of(words: u32) -> Line
+    requires { IsLineSize words }
+    ensures { line_size result ≡ words }
+{
+    match words {
+        1 => Line::One,
+        2 => Line::Two,
+        4 => Line::Four,
+        8 => Line::Eight,
+        _ => Line::Sixteen,
+    }
+}
+
+impl AddrSet {
+    /// The empty set. It takes no memory.
+    pub fn new(alloc: Global) -> AddrSet
+        ensures { result ≡ record { members = set.empty; size = 0; room = 0 } }
+    {
+        AddrSet {
+            blocks: Vec::new(alloc),
+        }
+    }
+
+    /// How many blocks the set takes.
+    pub fn size(&self) -> usize
+        ensures { result ≡ self.now.size }
+    {
+        self.blocks.len()
+    }
+
+    /// Whether an address is in the set.
+    pub fn has(&self, at: &Addr) -> bool
+        ensures { result ≡ set.contains self.now.members at.now }
+    {
+        has(self.blocks.as_slice(), *at)
+    }
+
+    /// Adds an address. It takes no memory where there is room.
+    pub fn insert(&mut self, at: Addr) -> Result<(), AllocError>
+        ensures ok { OnOk result (self.new.members ≡ set.insert self.old.members at) }
+        ensures err { OnErr result (self.new.members ≡ self.old.members) }
+        ensures enough { 0 < self.old.room → IsOk result }
+        ensures size { self.new.size ≤ self.old.size + 1 }
+        ensures room { self.old.room ≤ self.new.room + 1 }
+    {
+        insert(&mut self.blocks, at)?;
+        Ok(())
+    }
+
+    /// Whether some address is in both sets.
+    pub fn meets(&self, other: &AddrSet) -> bool
+        ensures { result ≡ clash.meets self.now.members other.now.members }
+    {
+        if self.blocks.len() <= other.blocks.len() {
+            meet(self.blocks.as_slice(), other.blocks.as_slice())
+        } else {
+            meet(other.blocks.as_slice(), self.blocks.as_slice())
+        }
+    }
+
+    /// Whether an address of the one and an address of the other are in one line of so many words.
+    pub fn meets_lines(&self, other: &AddrSet, line: u32) -> bool
+        requires { IsLineSize line }
+        ensures { result ≡ clash.meets_lines line self.now.members other.now.members }
+    {
+        let line = line_of(line);
+        if self.blocks.len() <= other.blocks.len() {
+            meet_by_lines(self.blocks.as_slice(), other.blocks.as_slice(), line)
+        } else {
+            meet_by_lines(other.blocks.as_slice(), self.blocks.as_slice(), line)
+        }
+    }
+
+    /// Makes room for so many more blocks.
+    pub fn reserve(&mut self, n: usize) -> Result<(), AllocError>
+        ensures members { self.new.members ≡ self.old.members }
+        ensures size { self.new.size ≡ self.old.size }
+        ensures room { OnOk result (n ≤ self.new.room) }
+        ensures kept { self.old.room ≤ self.new.room }
+        ensures enough { n ≤ self.old.room → IsOk result }
+    {
+        self.blocks.reserve(n)
+    }
+
+    /// Adds the addresses of another set. It takes no memory.
+    pub fn union(&mut self, other: &AddrSet)
+        requires { other.now.size ≤ self.old.room }
+        ensures members { self.new.members ≡ set.union self.old.members other.now.members }
+        ensures size { self.new.size ≤ self.old.size + other.now.size }
+        ensures room { self.old.room ≤ self.new.room + other.now.size }
+    {
+        join(&mut self.blocks, other.blocks.as_slice());
+    }
+}
+
+#[cfg(test)]
+mod tests {
+    use super::*;
+    use al_core::Obj;
+    use std::collections::BTreeSet;
+    use std::test::Fail;
+
+    #[test]
+    fn addresses_at_the_ends_of_blocks(rt: HostRuntime) -> Result<(), Fail> {
+        let objects = [
+            Obj::Global(511),
+            Obj::Serial(512),
+            Obj::Iter(3, 1 << 40, u32::MAX),
+        ];
+        let mut set = AddrSet::new(rt.alloc());
+        for obj in objects {
+            for w in [0, 511, 512, u32::MAX] {
+                assert!(rt; !set.has(&Addr::Word(obj, w)));
+                set.insert(Addr::Word(obj, w))?;
+                assert!(rt; set.has(&Addr::Word(obj, w)));
+            }
+            assert!(rt; !set.has(&Addr::Word(obj, 1)));
+            assert!(rt; !set.has(&Addr::Word(obj, 513)));
+            assert!(rt; !set.has(&Addr::Head(obj)));
+            set.insert(Addr::Head(obj))?;
+            assert!(rt; set.has(&Addr::Head(obj)));
+        }
+        assert!(rt; !set.has(&Addr::Head(Obj::Global(0))));
+        assert!(rt; !set.has(&Addr::Local(0)));
+        set.insert(Addr::Local(512))?;
+        assert!(rt; set.has(&Addr::Local(512)));
+        assert!(rt; !set.has(&Addr::Local(0)));
+        Ok(())
+    }
+
+    /// The next number of a sequence.
+    fn after(x: u64) -> u64 {
+        let y = x ^ x.wrapping_shl(13);
+        let z = y ^ (y >> 7);
+        z ^ z.wrapping_shl(17)
+    }
+
+    fn address(x: u64) -> Addr {
+        let number = (x / 16 % 3) as u32;
+        let word = (x / 64 % 1100) as u32;
+        match x % 8 {
+            0 => Addr::Local(number),
+            1 => Addr::Head(Obj::Global(number)),
+            2 | 3 => Addr::Word(Obj::Global(number), word),
+            4 => Addr::Word(Obj::Serial(number), word),
+            5 => Addr::Head(Obj::Iter(number, 1, 2)),
+            _ => Addr::Word(Obj::Iter(1, x / 16 % 3, number), word),
+        }
+    }
+
+    /// A set and the same addresses in one of std's sets.
+    fn filled(
+        rt: &HostRuntime,
+        seed: u64,
+        count: u64,
+    ) -> Result<(AddrSet, BTreeSet<Addr>), AllocError> {
+        let mut set = AddrSet::new(rt.alloc());
+        let mut plain = BTreeSet::new(rt.alloc());
+        let mut x = seed;
+        for _ in 0..count {
+            x = after(x);
+            set.insert(address(x))?;
+            plain.insert(address(x))?;
+        }
+        Ok((set, plain))
+    }
+
+    fn in_one_line(a: &Addr, b: &Addr, words: u32) -> bool {
+        if words == 0 {
+            return false;
+        }
+        match (*a, *b) {
+            (Addr::Word(o, v), Addr::Word(p, w)) => o == p && v / words == w / words,
+            (x, y) => x == y,
+        }
+    }
+
+    fn common_line(a: &BTreeSet<Addr>, b: &BTreeSet<Addr>, words: u32) -> bool {
+        for x in a {
+            for y in b {
+                if in_one_line(x, y, words) {
+                    return true;
+                }
+            }
+        }
+        false
+    }
+
+    #[test]
+    fn random_sets_are_as_plain_ones(rt: HostRuntime) -> Result<(), Fail> {
+        let mut seed = 88_172_645_463_325_252u64;
+        for _ in 0..20 {
+            seed = after(seed);
+            let (mut a, first) = filled(&rt, seed, 5)?;
+            let (b, second) = filled(&rt, after(seed) ^ 3, 5)?;
+            assert_eq!(rt; a.meets(&b), common_line(&first, &second, 1));
+            for words in [1, 2, 4, 8, 16] {
+                assert_eq!(rt;
+                    a.meets_lines(&b, words),
+                    common_line(&first, &second, words)
+                );
+            }
+            a.reserve(b.size())?;
+            let before = a.size();
+            a.union(&b);
+            assert!(rt; before <= a.size());
+            for at in first.iter().chain(second.iter()) {
+                assert!(rt; a.has(at));
+            }
+            for _ in 0..20 {
+                seed = after(seed);
+                let at = address(seed);
+                assert_eq!(rt; a.has(&at), first.contains(&at) || second.contains(&at));
+            }
+        }
+        Ok(())
+    }
+}

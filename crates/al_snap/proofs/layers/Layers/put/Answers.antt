@@ -1,0 +1,16 @@
+use Rattle.std.proofs.Common.{sym, ap, ◌∙◌}
+use Rattle.al_snap.specs.Layers.{own_has}
+use Rattle.al_snap.proofs.Writing.{made_has}
+use Rattle.al_snap.proofs.Changing.{put_below_seen}
+use Rattle.al_snap.proofs.layers.Layers.put.Goals as goal
+
+pub put_own-requires : goal.put_own-requires
+put_own-requires g c =
+    sym (made_has c.args.self.now.own c.in-Word.obj)
+    ∙ ap (own_has c.args.self.now) (sym c.in-Word.is)
+    ∙ sym c.is_own.ensures
+    ∙ c.if-is_own.true
+
+pub returns-in_ok-insert-clause-seen : goal.returns-in_ok-insert-clause-seen
+returns-in_ok-insert-clause-seen g c =
+    put_below_seen _ c.args.self.now c.self.view_is c.args.at c.args.v c.if-is_own.ensures c.requires _ c.in_ok-insert.ensures

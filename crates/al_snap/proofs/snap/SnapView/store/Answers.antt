@@ -1,0 +1,49 @@
+use Rattle.std.proofs.Common.{◌≡◌, List, None, is_ok, ap, sym, ◌∙◌}
+use Rattle.al_core.specs.declared.choices.Red.{Red}
+use Rattle.al_core.specs.declared.values.Val.{Val}
+use Rattle.al_core.specs.Access.{AccessRecord, red_index}
+use Rattle.al_core.specs.Memory.{put}
+use Rattle.al_snap.specs.declared.marks.Marks.{Marks}
+use Rattle.al_snap.specs.Layers.{Layers, seen}
+use Rattle.al_snap.specs.Marks.{marked, with_stored}
+use Rattle.al_snap.specs.Snaps.{chunk_record}
+use Rattle.al_snap.proofs.Doing.{own_is, same_record, store_missing, store_there}
+use Rattle.al_snap.proofs.snap.SnapView.store.Goals as goal
+
+pub returns-in_ok-put-in-Ok : goal.returns-in_ok-put-in-Ok
+returns-in_ok-put-in-Ok g c =
+    let l : Layers = c.args.self.now.layers in
+    let reds : List Red = c.args.self.now.reds in
+    let accumulators : List Val = c.args.self.now.accumulators in
+    let marks : Marks = c.args.self.now.marks in
+    let rest : AccessRecord = chunk_record l reds accumulators in
+    let x : AccessRecord = marked rest marks in
+    let found : None ≡ red_index reds c.args.at =
+    c.in_default-index_of.ensures ∙ ap (λ r. red_index r c.args.at) c.as_slice.ensures in
+    let none : red_index reds c.args.at ≡ None = sym found in
+    let recorded : marked rest c.store.new.self ≡ with_stored x c.is_own-own.result c.args.at (is_ok c.value-found.result) =
+    c.in_ok-store.ensures rest ∙ ap (with_stored x c.is_own-own.result c.args.at) c.is_ok.ensures.value in
+    store_there (seen l) c.args.self.now.names c.args.self.now.printed x
+    c.args.at c.args.val none c.value-found.result c.value-found.ensures c.is_own-own.result
+    (c.is_own-own.ensures ∙ own_is l reds accumulators marks c.args.at)
+    _ (ap (λ r. marked r c.store.new.self) (same_record c.put.new.self l reds accumulators c.in_ok-put-in-Ok.ensures.made
+    c.in_ok-put-in-Ok.ensures.freed) ∙ recorded) c.in-Ok.field-0 c.in-Ok.is (seen c.put.new.self)
+    (c.in_ok-put-in-Ok.ensures.seen ∙ ap (put (seen l) c.args.at) c.in-Some.ensures.same)
+
+pub returns-in-Err : goal.returns-in-Err
+returns-in-Err g c =
+    let l : Layers = c.args.self.now.layers in
+    let reds : List Red = c.args.self.now.reds in
+    let accumulators : List Val = c.args.self.now.accumulators in
+    let marks : Marks = c.args.self.now.marks in
+    let rest : AccessRecord = chunk_record l reds accumulators in
+    let x : AccessRecord = marked rest marks in
+    let found : None ≡ red_index reds c.args.at =
+    c.in_default-index_of.ensures ∙ ap (λ r. red_index r c.args.at) c.as_slice.ensures in
+    let none : red_index reds c.args.at ≡ None = sym found in
+    let recorded : marked rest c.store.new.self ≡ with_stored x c.is_own-own.result c.args.at (is_ok c.value-found.result) =
+    c.in_ok-store.ensures rest ∙ ap (with_stored x c.is_own-own.result c.args.at) c.is_ok.ensures.value in
+    store_missing (seen l) c.args.self.now.names c.args.self.now.printed x
+    c.args.at c.args.val none c.value-found.result c.value-found.ensures c.is_own-own.result
+    (c.is_own-own.ensures ∙ own_is l reds accumulators marks c.args.at)
+    _ recorded c.in-Err.t c.in-Err.is

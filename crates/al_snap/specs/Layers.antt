@@ -1,0 +1,98 @@
+-- A memory under what a chunk did to it.
+use Rattle.std.specs.Prelude.{ℕ, suc, Bool, false, if◌then◌else◌, List, [], ◌∷◌, ◌++◌, Option, Some, None, unwrap_or, Result, Ok, Err, slice_get, refl}
+use Rattle.std.specs.Coded.{Coded, code_by, coded×, coded_list, coded_option}
+use Rattle.std.specs.List.{list_any}
+use Rattle.std.specs.FinMap as map
+use Rattle.std.specs.FinMap.{FinMap}
+use Rattle.std.specs.FinSet as set
+use Rattle.std.specs.FinSet.{FinSet}
+use Rattle.al_core.specs.declared.values.Obj.{Obj}
+use Rattle.al_core.specs.declared.values.Val.{Val}
+use Rattle.al_core.specs.declared.values.Trap.{Trap}
+use Rattle.al_core.specs.declared.values.Trap.TheVariants as trap
+use Rattle.al_core.specs.declared.values.Addr.{Addr}
+use Rattle.al_core.specs.declared.values.Addr.TheVariants.{Word, Head, Local}
+use Rattle.al_core.specs.contracts.values.Obj as obj
+use Rattle.al_core.specs.contracts.values.Val as val
+use Rattle.al_core.specs.contracts.values.Addr as addr
+use Rattle.al_core.specs.Orders.{obj_cmp, addr_cmp, obj_eq}
+use Rattle.al_core.specs.Memory.{Memory}
+use Rattle.al_heap.specs.Stores.{objects_in}
+
+-- the memory below, what was written over it, which of its objects were freed, and the objects that the chunk made, of
+-- which those that it freed again have none
+pub record Layers : Type 0 where
+  pub base : Memory
+  pub writes : FinMap addr_cmp Val
+  pub freed : List Obj
+  pub own : FinMap obj_cmp (Option (List Val))
+
+-- values with what was written over them; the addresses are at k and the numbers after it
+abbrev pub laid : FinMap addr_cmp Val → (ℕ → Addr) → ℕ → List Val → List Val
+laid writes at k [] = []
+laid writes at k (v ∷ vs) = unwrap_or (map.get writes (at k)) v ∷ laid writes at (suc k) vs
+
+abbrev pub is_among : List Obj → Obj → Bool
+is_among os o = list_any (obj_eq o) os
+
+-- an object of the memory below, where it has these words
+abbrev pub base_object : Layers → Obj → List Val → Option (List Val)
+base_object l o ws = if is_among l.freed o then None else Some (laid l.writes (Word o) 0 ws)
+
+abbrev pub base_slots : Layers → List (Obj × List Val) → List (Obj × Option (List Val))
+base_slots l [] = []
+base_slots l (e ∷ es) = (e.0, base_object l e.0 e.1) ∷ base_slots l es
+
+-- the chunk's own objects hide those of the memory below
+abbrev pub slots_in : Layers → List (Obj × Option (List Val))
+slots_in l = map.entries l.own ++ base_slots l (map.entries l.base.objects)
+
+abbrev pub first_slots : Layers → FinMap obj_cmp (Option (List Val))
+first_slots l = map.from_entries (slots_in l)
+
+-- what the chunk sees
+abbrev pub seen : Layers → Memory
+seen l = record {
+  objects = objects_in (first_slots l);
+  locals = laid l.writes Local 0 l.base.locals;
+}
+
+-- the objects that the chunk made, those too that it freed again
+abbrev pub made_by : FinMap obj_cmp (Option (List Val)) → FinSet obj_cmp
+made_by own = set.from_list (map.keys own)
+
+abbrev pub option_ok_or : {X E : Type 0} → E → Option X → Result X E
+option_ok_or e (Some x) = Ok x
+option_ok_or e None = Err e
+
+-- a word of an object that has these words, or why there is none
+abbrev pub word_or_trap : Option (List Val) → ℕ → Result Val Trap
+word_or_trap (Some ws) w = option_ok_or trap.Bounds (slice_get ws w)
+word_or_trap None w = Err trap.Missing
+
+-- a word of an own object
+abbrev pub own_has : Layers → Addr → Bool
+own_has l (Word o w) = set.contains (made_by l.own) o
+own_has l (Head o) = false
+own_has l (Local k) = false
+
+-- the layers of a chunk that did nothing yet
+abbrev pub over : Memory → Layers
+over m = record { base = m; writes = map.empty; freed = []; own = map.empty }
+
+abbrev pub words_code : Coded (List Val)
+words_code = coded_list val.the_row.coded
+
+abbrev pub memory_code : Coded Memory
+memory_code =
+    code_by (FinMap obj_cmp (List Val) × List Val) (coded× (map.code obj.the_row.coded words_code) words_code)
+    (λ m. (m.objects, m.locals)) (λ p. record { objects = p.0; locals = p.1 }) (λ _. refl)
+
+abbrev pub layers_code : Coded Layers
+layers_code =
+    code_by (Memory × (FinMap addr_cmp Val × (List Obj × FinMap obj_cmp (Option (List Val)))))
+    (coded× memory_code (coded× (map.code addr.the_row.coded val.the_row.coded)
+    (coded× (coded_list obj.the_row.coded) (map.code obj.the_row.coded (coded_option words_code)))))
+    (λ l. (l.base, (l.writes, (l.freed, l.own))))
+    (λ p. record { base = p.0; writes = p.1.0; freed = p.1.1.0; own = p.1.1.1 })
+    (λ _. refl)

@@ -1,0 +1,4 @@
+pub mod Makers
+pub mod Layers
+pub mod Marks
+pub mod Snaps

@@ -1,0 +1,217 @@
+ghost use Rattle.std.specs.Prelude.{◌≡◌, true, false, OnOk, IsSome, [], ◌∷◌, ◌++◌, if◌then◌else◌, option_map, unwrap_or, slice_get};
+ghost use Rattle.al_core.specs.Orders.{obj_eq};
+ghost use Rattle.al_core.specs.Memory.{value_at};
+ghost use Rattle.al_core.specs.declared.values.Addr.TheVariants.{Word};
+ghost use Rattle.std.specs.FinMap as map;
+ghost use Rattle.std.specs.FinSet as set;
+ghost use Rattle.al_core.specs.Memory as spec;
+ghost use Rattle.al_heap.specs.Stores.{value_or_trap, objects_in};
+ghost use Rattle.al_snap.specs.Layers.{is_among, laid, word_or_trap, own_has, made_by, seen, over};
+
+use al_core::{Addr, Obj, Trap};
+use al_heap::{Slots, Store};
+use al_sets::AddrMap;
+use al_values::{PackedValue, Words};
+use sqlite_items::Items;
+use std::alloc::{AllocError, Global};
+use std::marker::Model;
+
+/// A store under what a chunk does to it. The store itself is only read.
+#[derive(Drop)]
+pub(crate) struct Layers<'a, S: Store> {
+    base: &'a S,
+    writes: AddrMap,
+    freed: Items<Obj>,
+    own: Slots,
+}
+
+impl<'a, S: Store> Model for Layers<'a, S> {
+    ghost use Rattle.al_snap.specs.Layers as layers;
+
+    ghost Value = { layers.Layers };
+
+    ghost coded = { layers.layers_code };
+
+    ghost view = { λ l. record { base = S.memory l.base.now; writes = l.writes; freed = l.freed; own = l.own } };
+}
+
+fn is_same(a: Obj, b: Obj) -> bool
+    ensures { result ≡ obj_eq a b }
+{
+    a == b
+}
+
+/// Whether an object is in a list.
+fn is_among_them(objects: &[Obj], obj: Obj) -> bool
+    ensures { result ≡ is_among objects.now obj }
+{
+    for o in objects {
+        if is_same(obj, *o) {
+            return true;
+        }
+    }
+    false
+}
+
+impl<'a, S: Store> Layers<'a, S> {
+    /// Nothing was done to the store yet.
+    pub fn new(alloc: Global, base: &'a S) -> Layers<'a, S>
+        ensures { result ≡ over (S.memory base.now) }
+    {
+        Layers {
+            base,
+            writes: AddrMap::new(alloc),
+            freed: Items::new(alloc),
+            own: Slots::new(alloc),
+        }
+    }
+
+    /// Whether an object of the store was freed.
+    fn is_freed(&self, obj: Obj) -> bool
+        ensures { result ≡ is_among self.now.freed obj }
+    {
+        is_among_them(self.freed.as_slice(), obj)
+    }
+
+    /// A word of an own object.
+    fn own_word(&self, obj: Obj, w: u32) -> Result<PackedValue, Trap>
+        ensures { result ≡ word_or_trap (map.get (objects_in self.now.own) obj) w }
+    {
+        match self.own.get(obj) {
+            Some(words) => words.get(w).ok_or(Trap::Bounds),
+            None => Err(Trap::Missing),
+        }
+    }
+
+    /// A word of an object of the store, with what was written over it.
+    fn below_word(&self, obj: Obj, w: u32) -> Result<PackedValue, Trap>
+        ensures { result
+            ≡ word_or_trap (option_map (laid self.now.writes (Word obj) 0) (map.get self.now.base.objects obj)) w }
+    {
+        match self.base.read(obj, w) {
+            Ok(v) => Ok(self.laid_over(Addr::Word(obj, w), v)),
+            Err(t) => Err(t),
+        }
+    }
+
+    /// What was written at an address, or else a value.
+    fn laid_over(&self, at: Addr, v: PackedValue) -> PackedValue
+        ensures { result ≡ unwrap_or (map.get self.now.writes at) v }
+    {
+        self.writes.get(at).unwrap_or(v)
+    }
+
+    fn word(&self, obj: Obj, w: u32) -> Result<PackedValue, Trap>
+        ensures { result ≡ word_or_trap (map.get (seen self.now).objects obj) w }
+    {
+        if self.own.has(obj) {
+            self.own_word(obj, w)
+        } else if self.is_freed(obj) {
+            Err(Trap::Missing)
+        } else {
+            self.below_word(obj, w)
+        }
+    }
+
+    fn local(&self, k: u32) -> Option<PackedValue>
+        ensures { result ≡ slice_get (seen self.now).locals k }
+    {
+        match self.base.local(k) {
+            Some(v) => Some(self.laid_over(Addr::Local(k), v)),
+            None => None,
+        }
+    }
+
+    /// The value at an address, or why there is none.
+    pub fn value(&self, at: Addr) -> Result<PackedValue, Trap>
+        ensures { result ≡ value_or_trap (seen self.now) at (value_at (seen self.now) at) }
+    {
+        match at {
+            Addr::Word(obj, w) => self.word(obj, w),
+            Addr::Head(_) => Err(Trap::Missing),
+            Addr::Local(k) => self.local(k).ok_or(Trap::Missing),
+        }
+    }
+
+    /// Whether an address is a word of an own object, also of one that was freed again.
+    pub fn is_own(&self, at: Addr) -> bool
+        ensures { result ≡ own_has self.now at }
+    {
+        match at {
+            Addr::Word(obj, _) => self.own.has(obj),
+            Addr::Head(_) | Addr::Local(_) => false,
+        }
+    }
+
+    /// Whether an object is there.
+    pub fn has_object(&self, obj: Obj) -> bool
+        ensures { result ≡ spec.has_object (seen self.now) obj }
+    {
+        if self.own.has(obj) {
+            self.own.get(obj).is_some()
+        } else if self.is_freed(obj) {
+            false
+        } else {
+            self.base.length(obj).is_some()
+        }
+    }
+
+    /// Puts a value in place of a word of an own object.
+    fn put_own(&mut self, obj: Obj, w: u32, v: PackedValue)
+        requires { map.contains_key self.old.own obj ≡ true }
+        ensures seen { seen self.new ≡ spec.put (seen self.old) (Word obj w) v }
+        ensures made { made_by self.new.own ≡ made_by self.old.own }
+        ensures freed { self.new.freed ≡ self.old.freed }
+    {
+        if let Some(mut words) = self.own.replace(obj, None) {
+            words.put(w, v);
+            self.own.set(obj, Some(words));
+        }
+    }
+
+    /// Puts a value in place of the one at an address.
+    pub fn put(&mut self, at: Addr, v: PackedValue) -> Result<(), AllocError>
+        requires { IsSome (value_at (seen self.old) at) }
+        ensures seen { OnOk result (seen self.new ≡ spec.put (seen self.old) at v) }
+        ensures made { OnOk result (made_by self.new.own ≡ made_by self.old.own) }
+        ensures freed { OnOk result (self.new.freed ≡ self.old.freed) }
+    {
+        if self.is_own(at) {
+            if let Addr::Word(obj, w) = at {
+                self.put_own(obj, w, v);
+            }
+            Ok(())
+        } else {
+            self.writes.insert(at, v)?;
+            Ok(())
+        }
+    }
+
+    /// Adds an own object.
+    pub fn add(&mut self, obj: Obj, words: Words) -> Result<(), AllocError>
+        ensures seen { OnOk result (seen self.new ≡ spec.add (seen self.old) obj words) }
+        ensures made { OnOk result (made_by self.new.own ≡ set.insert (made_by self.old.own) obj) }
+        ensures freed { OnOk result (self.new.freed ≡ self.old.freed) }
+    {
+        self.own.make(obj)?;
+        self.own.set(obj, Some(words));
+        Ok(())
+    }
+
+    /// Takes an object out.
+    pub fn remove(&mut self, obj: Obj) -> Result<(), AllocError>
+        ensures seen { OnOk result (seen self.new ≡ spec.remove (seen self.old) obj) }
+        ensures made { OnOk result (made_by self.new.own ≡ made_by self.old.own) }
+        ensures freed { OnOk result
+            (self.new.freed
+            ≡ (if set.contains (made_by self.old.own) obj then self.old.freed else self.old.freed ++ obj ∷ [])) }
+    {
+        if self.own.has(obj) {
+            self.own.set(obj, None);
+            Ok(())
+        } else {
+            self.freed.push(obj)?;
+            Ok(())
+        }
+    }
+}

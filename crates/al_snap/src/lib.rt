@@ -1,0 +1,12 @@
+//! What running code sees of a store: directly, or as a chunk does.
+#![tactic(auto)]
+
+mod direct;
+mod layers;
+mod marks;
+mod names;
+mod snap;
+
+pub use direct::Direct;
+pub use names::Names;
+pub use snap::Snap;

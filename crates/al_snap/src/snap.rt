@@ -1,0 +1,210 @@
+ghost use Rattle.std.specs.Prelude.{◌≡◌, [], Some, None, OnOk, IfOk, IfSome, slice_get};
+ghost use Rattle.al_source.specs.Answers.{Does};
+ghost use Rattle.al_core.specs.Access as spec;
+ghost use Rattle.al_core.specs.Action.{or_zero};
+ghost use Rattle.al_core.specs.Chunk.{fresh_accesses};
+ghost use Rattle.al_core.specs.Orders.{addr_eq};
+ghost use Rattle.al_core.specs.Views.{trapped};
+ghost use Rattle.al_snap.specs.Layers.{seen, made_by};
+ghost use Rattle.al_snap.specs.Marks.{marked};
+ghost use Rattle.al_snap.specs.Snaps.{chunk_record};
+
+use crate::direct::is_freeable;
+use crate::layers::Layers;
+use crate::marks::Marks;
+use crate::names::Names;
+use al_core::{Addr, Kind, Obj, Red, Trap, Val, View, ViewFault, of_kind, red_identity};
+use al_heap::Store;
+use al_sets::AddrSet;
+use al_values::{PackedValue, Words};
+use sqlite_items::{Items, at};
+use std::alloc::{AllocError, Global};
+
+/// What a chunk sees of a store, with what it records.
+#[derive(Drop)]
+pub struct Snap<'a, S: Store> {
+    alloc: Global,
+    layers: Layers<'a, S>,
+    marks: Marks,
+    names: Names,
+    printed: Items<u8>,
+    reds: Items<Red>,
+    accumulators: Items<PackedValue>,
+}
+
+fn is_same(a: Addr, b: Addr) -> bool
+    ensures { result ≡ addr_eq a b }
+{
+    a == b
+}
+
+/// The place of a reduction variable among the reductions.
+#[tactic(auto, using(crate::proofs::Recording::one_later, crate::proofs::Recording::from_none))]
+fn index_of(reds: &[Red], at: Addr) -> Option<usize>
+    ensures { result ≡ spec.red_index reds.now at }
+{
+    for (i, r) in reds.iter().enumerate() {
+        if is_same(r.at, at) {
+            return Some(i);
+        }
+    }
+    None
+}
+
+/// A word is read as a value of a kind. A local holds a value of its own kind.
+fn read_as(at: Addr, want: Kind, v: Val) -> Result<Val, Trap>
+    ensures { result ≡ spec.read_as at want v }
+{
+    match at {
+        Addr::Word(_, _) => of_kind(want, v),
+        Addr::Head(_) | Addr::Local(_) => Ok(v),
+    }
+}
+
+/// An accumulator, and 0 where there is none.
+fn accumulator(accumulators: &[PackedValue], i: usize) -> PackedValue
+    ensures { result ≡ or_zero (slice_get accumulators.now i) }
+{
+    match at(accumulators, i) {
+        Some(v) => *v,
+        None => PackedValue::zero(),
+    }
+}
+
+/// The identity in each accumulator.
+fn identities(alloc: Global, reds: &[Red]) -> Result<Items<PackedValue>, AllocError>
+    ensures { IfOk result (λ all. all ≡ (fresh_accesses reds.now).accumulators) }
+{
+    let mut all = Items::new(alloc);
+    for r in reds {
+        all.push(PackedValue::from_int(red_identity(r.op)))?;
+    }
+    Ok(all)
+}
+
+impl<'a, S: Store> Snap<'a, S> {
+    /// A chunk that did nothing yet. The store is only read.
+    pub fn begin(
+        alloc: Global,
+        base: &'a S,
+        names: Names,
+        reds: &[Red],
+    ) -> Result<Snap<'a, S>, AllocError>
+        ensures { IfOk result
+            (λ s. ⟦<Snap<'a, S> as View>⟧.content s
+            ≡ record {
+              memory = S.memory base.now;
+              allocations = names;
+              printed = [];
+              accesses = Some (fresh_accesses reds.now);
+            }) }
+    {
+        Ok(Snap {
+            alloc,
+            layers: Layers::new(alloc, base),
+            marks: Marks::new(alloc),
+            names,
+            printed: Items::new(alloc),
+            reds: Items::from_slice(alloc, reds)?,
+            accumulators: identities(alloc, reds)?,
+        })
+    }
+
+    /// The addresses that were read before they were written.
+    pub fn reads(&self) -> &AddrSet
+        ensures { IfSome (⟦<Snap<'a, S> as View>⟧.content self.now).accesses (λ x. x.reads ≡ result.now.members) }
+    {
+        &self.marks.reads
+    }
+
+    /// The addresses that were written.
+    pub fn touched(&self) -> &AddrSet
+        ensures { IfSome (⟦<Snap<'a, S> as View>⟧.content self.now).accesses (λ x. x.touched ≡ result.now.members) }
+    {
+        &self.marks.touched
+    }
+
+    /// From now on the next objects have these names.
+    pub fn set_names(&mut self, names: Names)
+        ensures { ⟦<Snap<'a, S> as View>⟧.content self.new
+            ≡ record (⟦<Snap<'a, S> as View>⟧.content self.old) { allocations = names } }
+    {
+        self.names = names;
+    }
+}
+
+impl<'a, S: Store> View for Snap<'a, S> {
+    ghost content = { λ s. record {
+      memory = seen s.layers;
+      allocations = s.names;
+      printed = s.printed;
+      accesses = Some (marked (chunk_record s.layers s.reds s.accumulators) s.marks);
+    } };
+
+    #[tactic(auto, unfolding(al_core::specs::Access::load))]
+    fn load(&mut self, at: Addr, want: Kind) -> Result<Val, ViewFault> {
+        if let Some(i) = index_of(self.reds.as_slice(), at) {
+            let v = accumulator(self.accumulators.as_slice(), i);
+            return read_as(at, want, v.unpack()).map_err(ViewFault::Trap);
+        }
+        let found = self.layers.value(at);
+        if !self.layers.is_own(at) {
+            self.marks.load(at, found.is_ok())?;
+        }
+        match found {
+            Ok(v) => read_as(at, want, v.unpack()).map_err(ViewFault::Trap),
+            Err(t) => Err(ViewFault::Trap(t)),
+        }
+    }
+
+    #[tactic(auto, unfolding(al_core::specs::Access::store))]
+    fn store(&mut self, at: Addr, val: Val) -> Result<(), ViewFault> {
+        let Some(value) = PackedValue::pack(val) else {
+            return Err(ViewFault::Memory);
+        };
+        if let Some(i) = index_of(self.reds.as_slice(), at) {
+            if i < self.accumulators.len() {
+                self.accumulators.set(i, value);
+            }
+            return Ok(());
+        }
+        let found = self.layers.value(at);
+        let own = self.layers.is_own(at);
+        self.marks.store(own, at, found.is_ok())?;
+        match found {
+            Ok(_) => Ok(self.layers.put(at, value)?),
+            Err(t) => Err(ViewFault::Trap(t)),
+        }
+    }
+
+    #[tactic(auto, unfolding(al_core::specs::Access::make))]
+    fn make(&mut self, words: u32) -> Result<Obj, ViewFault> {
+        let obj = match self.names.allocate(words) {
+            Ok(obj) => obj,
+            Err(t) => return Err(ViewFault::Trap(t)),
+        };
+        self.layers.add(obj, Words::zeros(self.alloc, words)?)?;
+        self.marks.touch(Addr::Head(obj))?;
+        Ok(obj)
+    }
+
+    #[tactic(auto, unfolding(al_core::specs::Access::free))]
+    fn free(&mut self, obj: Obj, at: u32) -> Result<(), ViewFault> {
+        if !is_freeable(obj, at) {
+            return Err(ViewFault::Trap(Trap::BadFree));
+        }
+        let there = self.layers.has_object(obj);
+        let own = self.layers.is_own(Addr::Word(obj, 0));
+        self.marks.free(own, obj, there)?;
+        if !there {
+            return Err(ViewFault::Trap(Trap::Freed));
+        }
+        self.layers.remove(obj)?;
+        Ok(())
+    }
+
+    #[tactic(auto, unfolding(al_core::specs::Access::print))]
+    fn print(&mut self, bytes: &[u8]) -> Result<(), AllocError> {
+        self.printed.append(Items::from_slice(self.alloc, bytes)?)
+    }
+}

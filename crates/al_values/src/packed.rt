@@ -1,0 +1,185 @@
+ghost use Rattle.std.specs.Prelude.{◌≡◌, IfSome, is_some, pos};
+ghost use Rattle.al_core.specs.declared.values.Val.TheVariants as value;
+ghost use Rattle.al_values.specs.Packing.{fits, number_of, pointer_of};
+
+use al_core::{Obj, Val};
+use std::marker::Model;
+use std::mem::size_of;
+
+const KIND: u64 = 4_611_686_018_427_387_904;
+
+const HALF: u64 = 4_294_967_296;
+
+const ITERATIONS: u64 = 1_073_741_824;
+
+/// A value in 16 bytes. A contract sees it as the value.
+#[derive(Clone, Copy)]
+pub struct PackedValue {
+    hi: u64,
+    lo: u64,
+}
+
+const _: () = prove!(size_of::<PackedValue>() == 16);
+
+impl Model for PackedValue {
+    ghost use Rattle.al_core.specs.declared.values.Val.{Val};
+    ghost use Rattle.al_core.specs.contracts.values.Val as val;
+    ghost use Rattle.al_values.specs.Packing.{val_of, hi_of, lo_of};
+    ghost use Rattle.std.specs.Prelude.{◌≡◌};
+
+    ghost Value = { Val };
+
+    ghost coded = { val.the_row.coded };
+
+    ghost view = { λ c. val_of c.hi c.lo };
+
+    ghost invariant = { λ c. (hi_of (val_of c.hi c.lo) ≡ c.hi) × (lo_of (val_of c.hi c.lo) ≡ c.lo) };
+
+    ghost inverse = { λ v. record { hi = hi_of v; lo = lo_of v } };
+
+    ghost inverse_ok = { λ c h t. record { hi = h.0 t; lo = h.1 t } };
+}
+
+impl PackedValue {
+    /// The value 0, which is also the null pointer.
+    pub fn zero() -> PackedValue
+        ensures { result ≡ value.Int (pos 0) }
+    {
+        PackedValue { hi: 0, lo: 0 }
+    }
+
+    /// A number.
+    pub fn from_int(n: i64) -> PackedValue
+        ensures { result ≡ value.Int n }
+    {
+        PackedValue {
+            hi: 0,
+            lo: n.cast_unsigned(),
+        }
+    }
+
+    /// A value packed. There is none exactly where it points into an object of an iteration from 1,073,741,824 on, of
+    /// which a loop has fewer.
+    pub fn pack(v: Val) -> Option<PackedValue>
+        ensures same { IfSome result (λ c. c ≡ v) }
+        ensures whole { is_some result ≡ fits v }
+    {
+        match v {
+            Val::Int(n) => Some(PackedValue::from_int(n)),
+            Val::Ptr(obj, at) => PackedValue::point(obj, at),
+        }
+    }
+
+    /// A pointer to a word of an object, packed. There is none exactly where `pack` gives none.
+    pub fn point(obj: Obj, at: u32) -> Option<PackedValue>
+        ensures same { IfSome result (λ c. c ≡ value.Ptr obj at) }
+        ensures whole { is_some result ≡ fits (value.Ptr obj at) }
+    {
+        match obj {
+            Obj::Global(k) => Some(PackedValue {
+                hi: KIND,
+                lo: u64::from(k) * HALF + u64::from(at),
+            }),
+            Obj::Serial(k) => Some(PackedValue {
+                hi: 2 * KIND,
+                lo: u64::from(k) * HALF + u64::from(at),
+            }),
+            Obj::Iter(e, j, k) => {
+                if j < ITERATIONS {
+                    Some(PackedValue {
+                        hi: 3 * KIND + u64::from(e) * ITERATIONS + j,
+                        lo: u64::from(k) * HALF + u64::from(at),
+                    })
+                } else {
+                    None
+                }
+            }
+        }
+    }
+
+    /// The value.
+    pub fn unpack(self) -> Val
+        ensures { result ≡ self }
+    {
+        let first = (self.lo / HALF) as u32;
+        let offset = (self.lo % HALF) as u32;
+        match self.hi / KIND {
+            0 => Val::Int(self.lo.cast_signed()),
+            1 => Val::Ptr(Obj::Global(first), offset),
+            2 => Val::Ptr(Obj::Serial(first), offset),
+            _ => {
+                let execution = (self.hi / ITERATIONS % HALF) as u32;
+                let iteration = self.hi % ITERATIONS;
+                Val::Ptr(Obj::Iter(execution, iteration, first), offset)
+            }
+        }
+    }
+
+    /// The number, where the value is one.
+    pub fn int(self) -> Option<i64>
+        ensures { result ≡ number_of self }
+    {
+        if self.hi == 0 {
+            Some(self.lo.cast_signed())
+        } else {
+            None
+        }
+    }
+
+    /// The object and the offset in words, where the value is a pointer.
+    pub fn pointer(self) -> Option<(Obj, u32)>
+        ensures { result ≡ pointer_of self }
+    {
+        match self.unpack() {
+            Val::Int(_) => None,
+            Val::Ptr(obj, at) => Some((obj, at)),
+        }
+    }
+}
+
+#[cfg(test)]
+mod tests {
+    use super::*;
+
+    #[test]
+    fn values_come_back(rt: HostRuntime) {
+        let most = u32::MAX;
+        let values = [
+            Val::Int(0),
+            Val::Int(-1),
+            Val::Int(i64::MIN),
+            Val::Int(i64::MAX),
+            Val::Ptr(Obj::Global(0), 0),
+            Val::Ptr(Obj::Global(most), most),
+            Val::Ptr(Obj::Serial(0), 1),
+            Val::Ptr(Obj::Serial(most), most),
+            Val::Ptr(Obj::Iter(0, 0, 0), 0),
+            Val::Ptr(Obj::Iter(1, 2, 3), 4),
+            Val::Ptr(Obj::Iter(most, 1_073_741_823, most), most),
+        ];
+        for value in values {
+            let packed = PackedValue::pack(value);
+            assert_eq!(rt; packed.map(|v| v.unpack()), Some(value));
+        }
+    }
+
+    fn number(value: Val) -> Option<i64> {
+        PackedValue::pack(value)?.int()
+    }
+
+    fn pointer(obj: Obj, at: u32) -> Option<(Obj, u32)> {
+        PackedValue::point(obj, at)?.pointer()
+    }
+
+    #[test]
+    fn parts_of_values(rt: HostRuntime) {
+        let obj = Obj::Iter(1, 2, 3);
+        assert_eq!(rt; PackedValue::zero().int(), Some(0));
+        assert_eq!(rt; PackedValue::from_int(-7).int(), Some(-7));
+        assert_eq!(rt; PackedValue::from_int(-7).pointer(), None);
+        assert_eq!(rt; number(Val::Int(9)), Some(9));
+        assert_eq!(rt; number(Val::Ptr(obj, 4)), None);
+        assert_eq!(rt; pointer(obj, 4), Some((obj, 4)));
+        assert_eq!(rt; pointer(Obj::Iter(0, 1_073_741_824, 0), 0), None);
+    }
+}
