@@ -12,8 +12,8 @@ use Rattle.al_grammar.specs.ExpressionParser.{Outcome, Parser, keep, lift, Job, 
 
 -- two continuations that agree at what the first step gives
 pub then_same : {A B : Type 0}
-    → (r r' : Outcome A) (k k' : A → Parser B) → r ≡ r' → ((x : A) (s : State) → r' ≡ Ok (x, s) → k x s ≡ k' x s) → bind r k ≡ bind r' k'
-then_same r r' k k' e h = ap (λ q. bind q k) e ∙ alike r' h
+    → (r r' : Outcome A) (k k' : A → Parser B) → r ≡ r' → ((x : A) (s : State) → r ≡ Ok (x, s) → k x s ≡ k' x s) → bind r k ≡ bind r' k'
+then_same r r' k k' e h = alike r h ∙ ap (λ q. bind q k') e
   where
     alike : (q : Outcome _) → ((x : _) (s : State) → q ≡ Ok (x, s) → k x s ≡ k' x s) → bind q k ≡ bind q k'
     alike (Ok p) g = g p.0 p.1 refl

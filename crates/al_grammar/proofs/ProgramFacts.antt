@@ -1,11 +1,12 @@
 -- The parser of items and programs reads what the grammar has, and nothing else.
-use Rattle.std.proofs.Common.{◌≡◌, ℕ, ◌<◌, ◌≤◌, Bool, true, false, List, [], ◌∷◌, ◌++◌, append_assoc, length, Option, Some, Ok, refl, sym, ap, subst, ◌∙◌, arith}
-use Rattle.std.specs.Prelude.{pos, neg_ℤ, ◌&&◌}
+use Rattle.std.proofs.Common.{◌≡◌, ℕ, ◌<◌, ◌≤◌, Bool, true, false, List, [], ◌∷◌, ◌++◌, append_assoc, length, Option, Some, Ok, Err, refl, sym, ap, subst, ◌∙◌, arith}
+use Rattle.std.specs.Prelude.{pos, neg_ℤ}
 use Rattle.std.proofs.lemmas.List.{append-nil}
 use Rattle.al_source.specs.declared.tokens.TokenKind.{TokenKind}
 use Rattle.al_source.specs.declared.tokens.TokenKind.TheVariants.{Word, Number, Key, Mark}
 use Rattle.al_source.specs.declared.tokens.Mark as the_mark
 use Rattle.al_source.specs.declared.tokens.Mark.TheVariants as m
+use Rattle.al_source.specs.declared.tokens.Key as the_key
 use Rattle.al_source.specs.declared.tokens.Key.TheVariants as key
 use Rattle.al_source.specs.declared.source_tree.CType.{CType}
 use Rattle.al_source.specs.declared.source_tree.CType.TheVariants as type
@@ -15,7 +16,7 @@ use Rattle.al_source.specs.declared.source_tree.Start.TheVariants as start
 use Rattle.al_source.specs.declared.source_tree.Stmt.{Stmt}
 use Rattle.al_source.specs.declared.source_tree.Item.{Item}
 use Rattle.al_source.specs.declared.source_tree.Item.TheVariants as item
-use Rattle.al_source.specs.declared.limits.TheConstants.{DECLARATOR_STARS, STATEMENT_NESTING}
+use Rattle.al_source.specs.declared.limits.TheConstants.{DECLARATOR_STARS, DECLARATOR_DIMENSIONS, STATEMENT_NESTING}
 use Rattle.al_grammar.specs.Phrases.{Tokens, Name, Takes, takes, line_at}
 use Rattle.al_grammar.specs.Types.{Base, Stars, Dimensions, Declarator}
 use Rattle.al_grammar.specs.Types as ty
@@ -23,12 +24,12 @@ use Rattle.al_grammar.specs.Statements.{Inners}
 use Rattle.al_grammar.specs.Programs.{FieldNames, Fields, Starts, global, Globals, ResultBase, Param, ParamList, Params, Items, AllItems}
 use Rattle.al_grammar.specs.Programs as g
 use Rattle.al_source.specs.Steps.{bind, pure}
-use Rattle.al_grammar.specs.Steps.{Read, Step, kind_at, mark_in, mark_at, tail, same_mark, same_key, is_mark_in, is_mark, is_key, expect, expect_key, word, repeat}
-use Rattle.al_grammar.specs.TypeParser.{base, stars, declarator}
+use Rattle.al_grammar.specs.Steps.{Read, Step, kind_at, mark_in, mark_at, key_in, key_at, tail, same_mark, is_mark_in, is_mark, expect, word, after_turn, repeat}
+use Rattle.al_grammar.specs.TypeParser.{base, stars, named, dimensions, declarator}
 use Rattle.al_grammar.specs.StatementParser.{statement, braced}
 use Rattle.al_grammar.specs.ProgramParser as p
-use Rattle.al_grammar.proofs.StepFacts.{bind_ok, yields, takes_kind, takes_tail, takes_shorter, kind_takes, mark_takes, is_mark_takes, is_key_takes, takes_is_mark, takes_is_key, takes_expect, takes_expect_key, expect_takes, expect_key_takes, takes_word, word_takes, repeat_last, repeat_next, repeat_keeps}
-use Rattle.al_grammar.proofs.TypeFacts.{EndsType, not_mark, not_key, sound_base, sound_stars, sound_declarator, complete_base, complete_stars, complete_declarator, ends_stars, ends_declarator, base_shorter, stars_shorter, declarator_shorter}
+use Rattle.al_grammar.proofs.StepFacts.{bind_ok, yields, takes_kind, takes_tail, takes_shorter, kind_takes, mark_takes, key_takes, is_mark_takes, takes_is_mark, takes_expect, expect_takes, takes_word, word_takes, repeat_last, repeat_next, repeat_is, repeat_keeps}
+use Rattle.al_grammar.proofs.TypeFacts.{EndsType, not_mark, sound_base, sound_stars, IsNamed, sound_named, sound_declarator, complete_base, complete_named, complete_stars, complete_declarator, ends_stars, ends_declarator, base_shorter, stars_shorter, declarator_shorter}
 use Rattle.al_grammar.proofs.SoundStatements.{Sep, goes_on, ends, sep_shorter, sound_braced, sound_statement}
 use Rattle.al_grammar.proofs.Shorter.{inners_shorter}
 use Rattle.al_grammar.proofs.CompleteStatements.{complete_inners, FirstBase, by_int, by_long, by_struct, first_base}
@@ -114,39 +115,28 @@ sound_fields ts q e =
 abbrev IsItems : Tokens → List Item × Tokens → Type 0
 IsItems ts q = Items ts q.0 q.1
 
-record IsStructure (ts : Tokens) (q : (Name × List Field) × Tokens) : Type 0 where
-  t₁ : Tokens
-  t₂ : Tokens
-  t₃ : Tokens
-  t₄ : Tokens
-  t₅ : Tokens
-  opens : Takes (Key key.Struct) ts t₁
-  name : Takes (Word q.0.0) t₁ t₂
-  brace : Takes (Mark m.LeftBrace) t₂ t₃
-  fields : Fields t₃ q.0.1 t₄
-  closes : Takes (Mark m.RightBrace) t₄ t₅
-  ends : Takes (Mark m.Semicolon) t₅ q.1
+record IsStructBody (ts : Tokens) (q : List Field × Tokens) : Type 0 where
+  inside : Tokens
+  close : Tokens
+  closed : Tokens
+  brace : Takes (Mark m.LeftBrace) ts inside
+  fields : Fields inside q.0 close
+  closes : Takes (Mark m.RightBrace) close closed
+  ends : Takes (Mark m.Semicolon) closed q.1
 
-sound_body : (ts : Tokens) (q : (Name × List Field) × Tokens) → p.struct_body ts ≡ Ok q → IsStructure ts q
+sound_body : (ts : Tokens) (q : List Field × Tokens) → p.struct_body ts ≡ Ok q → IsStructBody ts q
 sound_body ts q e =
-    let last : Name → List Field → Step (Name × List Field) = λ w fs us. bind (bind (expect m.RightBrace us) (λ _. expect m.Semicolon)) (λ _. pure (w, fs)) in
-    let inside : Name → Step (Name × List Field) = λ w us. bind (bind (expect m.LeftBrace us) (λ _. repeat p.field_turn [])) (last w) in
-    let (w, dw, dk) = bind_ok (bind (expect_key key.Struct ts) (λ _. word)) inside e in
-    let (s, ds, dj) = bind_ok (expect_key key.Struct ts) (λ _. word) dw in
-    let (fs, df, dl) = bind_ok (bind (expect m.LeftBrace w.1) (λ _. repeat p.field_turn [])) (last w.0) dk in
-    let (b, db, dm) = bind_ok (expect m.LeftBrace w.1) (λ _. repeat p.field_turn []) df in
-    let (c, dc, dn) = bind_ok (bind (expect m.RightBrace fs.1) (λ _. expect m.Semicolon)) (λ _. pure (w.0, fs.0)) dl in
+    let last : List Field → Step (List Field) = λ fs us. bind (bind (expect m.RightBrace us) (λ _. expect m.Semicolon)) (λ _. pure fs) in
+    let (fs, df, dl) = bind_ok (bind (expect m.LeftBrace ts) (λ _. repeat p.field_turn [])) last e in
+    let (b, db, dm) = bind_ok (expect m.LeftBrace ts) (λ _. repeat p.field_turn []) df in
+    let (c, dc, dn) = bind_ok (bind (expect m.RightBrace fs.1) (λ _. expect m.Semicolon)) (λ _. pure fs.0) dl in
     let (r, dr, dp) = bind_ok (expect m.RightBrace fs.1) (λ _. expect m.Semicolon) dc in
-    yields (IsStructure ts) ((w.0, fs.0), c.1) q
+    yields (IsStructBody ts) (fs.0, c.1) q
     (record {
-      t₁ = s.1;
-      t₂ = w.1;
-      t₃ = b.1;
-      t₄ = fs.1;
-      t₅ = r.1;
-      opens = expect_key_takes key.Struct ts s ds;
-      name = word_takes s.1 w dj;
-      brace = expect_takes m.LeftBrace w.1 b db;
+      inside = b.1;
+      close = fs.1;
+      closed = r.1;
+      brace = expect_takes m.LeftBrace ts b db;
       fields = sound_fields b.1 fs dm;
       closes = expect_takes m.RightBrace fs.1 r dr;
       ends = expect_takes m.Semicolon r.1 c dp;
@@ -155,13 +145,6 @@ sound_body ts q e =
 -- one item, as a list
 abbrev IsItem : Tokens → Item × Tokens → Type 0
 IsItem ts q = Items ts (q.0 ∷ []) q.1
-
-sound_structure : (ts : Tokens) (q : Item × Tokens) → p.structure ts ≡ Ok q → IsItem ts q
-sound_structure ts q e =
-    let (b, db, dk) = bind_ok (p.struct_body ts) (λ b. pure (item.Struct (record { name = b.0; fields = b.1; line = line_at ts }))) e in
-    let s = sound_body ts b db in
-    yields (IsItem ts) (item.Struct (record { name = b.0.0; fields = b.0.1; line = line_at ts }), b.1) q
-    (g.structure s.opens s.name s.brace s.fields s.closes s.ends) dk
 
 -- ---- globals
 
@@ -265,11 +248,9 @@ sound_globals line a is ts q e =
 
 sound_param : (ts : Tokens) (q : Field × Tokens) → p.param ts ≡ Ok q → Param ts q.0 q.1
 sound_param ts q e =
-    let (a, da, dk) = bind_ok (base ts) (λ a us. bind (stars DECLARATOR_STARS a us) (λ b vs. bind (word vs) (λ w. pure (record { name = w; ty = b })))) e in
-    let (b, db, dl) = bind_ok (stars DECLARATOR_STARS a.0 a.1) (λ b vs. bind (word vs) (λ w. pure (record { name = w; ty = b }))) dk in
-    let (w, dw, dm) = bind_ok (word b.1) (λ w. pure (record { name = w; ty = b.0 })) dl in
-    yields (λ (q : Field × Tokens). Param ts q.0 q.1) (record { name = w.0; ty = b.0 }, w.1) q
-    (g.param (sound_base ts a da) (sound_stars DECLARATOR_STARS a.0 a.1 b db) (word_takes b.1 w dw)) dm
+    let (a, da, dk) = bind_ok (base ts) named e in
+    let n = sound_named a.0 a.1 q dk in
+    g.param (sound_base ts a da) n.stars n.takes
 
 param_sep : (fs : List Field) (ts : Tokens) (q : (List Field × Bool) × Tokens) → p.param_by fs (mark_at ts) ts ≡ Ok q → Sep m.Comma m.RightParen fs ts q
 param_sep fs ts q e = by (mark_at ts) refl e
@@ -336,21 +317,18 @@ sound_function_body ts q e =
     let b = sound_braced STATEMENT_NESTING (statement STATEMENT_NESTING) (sound_statement STATEMENT_NESTING) o.1 q dk in
     record { inside = o.1; close = b.close; opens = expect_takes m.LeftBrace ts o do'; inners = b.inners; closes = b.closes }
 
-sound_function : (ts us : Tokens) (a : CType) (q : Item × Tokens) → ResultBase ts a us → p.function (line_at ts) a us ≡ Ok q → IsItem ts q
-sound_function ts us a q r e =
-    let made : CType → Name → List Field → List Stmt → Item = λ b w fs ss.
-    item.Func (record { name = w; result = b; params = fs; body = ss; line = line_at ts }) in
-    let after_params : CType → Name → List Field → Step Item = λ b w fs vs. bind (p.body vs) (λ ss. pure (made b w fs ss)) in
-    let after_name : CType → Name → Step Item = λ b w vs. bind (bind (expect m.LeftParen vs) (λ _. p.params)) (after_params b w) in
-    let (b, db, dk) = bind_ok (stars DECLARATOR_STARS a us) (λ b vs. bind (word vs) (after_name b)) e in
-    let (w, dw, dl) = bind_ok (word b.1) (after_name b.0) dk in
-    let (fs, df, dm) = bind_ok (bind (expect m.LeftParen w.1) (λ _. p.params)) (after_params b.0 w.0) dl in
-    let (o, do', dn) = bind_ok (expect m.LeftParen w.1) (λ _. p.params) df in
-    let (ss, ds, dp) = bind_ok (p.body fs.1) (λ ss. pure (made b.0 w.0 fs.0 ss)) dm in
+sound_function : (ts us vs : Tokens) (a : CType) (f : Field) (q : Item × Tokens)
+    → ResultBase ts a us → IsNamed a us (f, vs) → p.function (line_at ts) f vs ≡ Ok q → IsItem ts q
+sound_function ts us vs a f q r n e =
+    let made : List Field → List Stmt → Item = λ fs ss.
+    item.Func (record { name = f.name; result = f.ty; params = fs; body = ss; line = line_at ts }) in
+    let after_params : List Field → Step Item = λ fs vs. bind (p.body vs) (λ ss. pure (made fs ss)) in
+    let (fs, df, dm) = bind_ok (bind (expect m.LeftParen vs) (λ _. p.params)) after_params e in
+    let (o, do', dn) = bind_ok (expect m.LeftParen vs) (λ _. p.params) df in
+    let (ss, ds, dp) = bind_ok (p.body fs.1) (λ ss. pure (made fs.0 ss)) dm in
     let body = sound_function_body fs.1 ss ds in
-    yields (IsItem ts) (made b.0 w.0 fs.0 ss.0, ss.1) q
-    (g.function r (sound_stars DECLARATOR_STARS a us b db) (word_takes b.1 w dw) (expect_takes m.LeftParen w.1 o do') (sound_params o.1 fs dn) body.opens
-    body.inners body.closes) dp
+    yields (IsItem ts) (made fs.0 ss.0, ss.1) q
+    (g.function r n.stars n.takes (expect_takes m.LeftParen vs o do') (sound_params o.1 fs dn) body.opens body.inners body.closes) dp
 
 -- ---- programs
 
@@ -364,25 +342,60 @@ one_item is ts o q h e =
     let (i, di, dk) = bind_ok o (λ i. pure (is ++ i ∷ [])) e in
     yields (FoundItems is ts) (is ++ i.0 ∷ [], i.1) q (i.0 ∷ [], h i di, refl) dk
 
+-- The stars and the name of the first global are read once, before it is known to be one.
+regrouped : {A B C : Type 0} (o : Read A) (x : A → B) (k : B → Step C) → bind (bind o (λ a. pure (x a))) k ≡ bind o (λ a. k (x a))
+regrouped (Ok p) x k = refl
+regrouped (Err e) x k = refl
+
+globals_named : (line : ℕ) (a : CType) (f : Field) (is : List Item) (ts us : Tokens)
+    → named a ts ≡ Ok (f, us) → repeat (p.global_name line a) is ts ≡ p.declared_by line a f is false us
+globals_named line a f is ts us n =
+    let typed : CType → Field = λ c. record { name = f.name; ty = c } in
+    let behind : Field → Step (List Item × Bool) = λ f us. bind (p.starts us) (λ s vs. p.global_by (is ++ global line f s ∷ []) (mark_at vs) vs) in
+    repeat_is (p.global_name line a) (global_shorter line a) is ts
+    ∙ ap
+    (λ o. bind (bind (bind o (λ f us. bind (dimensions DECLARATOR_DIMENSIONS f.ty us) (λ c. pure (record { name = f.name; ty = c })))) behind)
+    (λ r. after_turn (repeat (p.global_name line a)) r.0 r.1)) n
+    ∙ ap (λ o. bind o (λ r. after_turn (repeat (p.global_name line a)) r.0 r.1)) (regrouped (dimensions DECLARATOR_DIMENSIONS f.ty us) typed behind)
+
 sound_declared : (is : List Item) (ts us : Tokens) (a : CType) (q : List Item × Tokens)
     → Base ts a us → p.declared (line_at ts) a is us ≡ Ok q → FoundItems is ts q
-sound_declared is ts us a q b e = by (p.function_next us) e
+sound_declared is ts us a q b e =
+    let (f, df, dk) = bind_ok (named a us) (λ f vs. p.declared_by (line_at ts) a f is (is_mark m.LeftParen vs) vs) e in
+    by f.0 f.1 df (is_mark m.LeftParen f.1) dk
   where
-    by : (c : Bool) → p.declared_by (line_at ts) a is c us ≡ Ok q → FoundItems is ts q
-    by true e = one_item is ts (p.function (line_at ts) a us) q (λ r d. sound_function ts us a r (g.base b) d) e
-    by false e = let (js, r, all) = sound_globals (line_at ts) a is us q e in (js, g.globals b r, all)
+    by : (f : Field) (vs : Tokens) → named a us ≡ Ok (f, vs) → (c : Bool) → p.declared_by (line_at ts) a f is c vs ≡ Ok q → FoundItems is ts q
+    by f vs d true e =
+        one_item is ts (p.function (line_at ts) f vs) q (λ r k. sound_function ts us vs a f r (g.base b) (sound_named a us (f, vs) d) k) e
+    by f vs d false e =
+        let (js, r, all) = sound_globals (line_at ts) a is us q (globals_named (line_at ts) a f is us vs d ∙ e) in (js, g.globals b r, all)
+
+sound_struct : (is : List Item) (ts us vs : Tokens) (w : Name) (q : List Item × Tokens) → Takes (Key key.Struct) ts us → Takes (Word w) us vs
+    → (c : Bool) → p.struct_by (line_at ts) w is c vs ≡ Ok q → FoundItems is ts q
+sound_struct is ts us vs w q k t true e =
+    let made : List Field → Item = λ fs. item.Struct (record { name = w; fields = fs; line = line_at ts }) in
+    let (fs, df, dk) = bind_ok (p.struct_body vs) (λ fs. pure (is ++ made fs ∷ [])) e in
+    let s = sound_body vs fs df in
+    yields (FoundItems is ts) (is ++ made fs.0 ∷ [], fs.1) q (made fs.0 ∷ [], g.structure k t s.brace s.fields s.closes s.ends, refl) dk
+sound_struct is ts us vs w q k t false e = sound_declared is ts vs (type.Struct w) q (ty.structure k t) e
 
 sound_item : (is : List Item) (ts : Tokens) (q : List Item × Tokens) → p.items_step is ts ≡ Ok q → FoundItems is ts q
-sound_item is ts q e = by (p.structure_next ts) (is_key key.Void ts) refl e
+sound_item is ts q e = by (key_at ts) refl e
   where
-    by : (b c : Bool) → is_key key.Void ts ≡ c → p.item_by is b c ts ≡ Ok q → FoundItems is ts q
-    by true c d e = one_item is ts (p.structure ts) q (λ r k. sound_structure ts r k) e
-    by false true d e =
-        one_item is ts (p.function (line_at ts) type.Void (tail ts)) q (λ r k. sound_function ts (tail ts) type.Void r (g.void (is_key_takes key.Void ts d)) k)
-        e
-    by false false d e =
+    by_base : bind (base ts) (λ a. p.declared (line_at ts) a is) ≡ Ok q → FoundItems is ts q
+    by_base e =
         let (a, da, dk) = bind_ok (base ts) (λ a. p.declared (line_at ts) a is) e in
         sound_declared is ts a.1 a.0 q (sound_base ts a da) dk
+
+    by : (c : Option the_key.Key) → key_at ts ≡ c → p.item_by (line_at ts) is c ts ≡ Ok q → FoundItems is ts q
+    by (Some key.Struct) d e =
+        let (w, dw, dk) = bind_ok (word (tail ts)) (λ w vs. p.struct_by (line_at ts) w is (is_mark m.LeftBrace vs) vs) e in
+        sound_struct is ts (tail ts) w.1 w.0 q (key_takes ts d) (word_takes (tail ts) w dw) (is_mark m.LeftBrace w.1) dk
+    by (Some key.Void) d e =
+        let (f, df, dk) = bind_ok (named type.Void (tail ts)) (λ f vs. bind (p.function (line_at ts) f vs) (λ i. pure (is ++ i ∷ []))) e in
+        one_item is ts (p.function (line_at ts) f.0 f.1) q
+        (λ r k. sound_function ts (tail ts) f.1 type.Void f.0 r (g.void (key_takes ts d)) (sound_named type.Void (tail ts) f df) k) dk
+    by _ d e = by_base e
 
 pub data ItemTurn (is : List Item) : Tokens → (List Item × Bool) × Tokens → Type 0 where
   over : ItemTurn is [] ((is, true), [])
@@ -468,6 +481,9 @@ sound_program ts q e =
 
 takes_mark : {c : the_mark.Mark} {ts us : Tokens} → Takes (Mark c) ts us → mark_at ts ≡ Some c
 takes_mark t = ap mark_in (takes_kind t)
+
+takes_key : {c : the_key.Key} {ts us : Tokens} → Takes (Key c) ts us → key_at ts ≡ Some c
+takes_key (takes d) = ap (λ k. key_in (Some k)) d
 
 complete_names : {a : CType} {ts us : Tokens} {fs : List Field} (found : List Field)
     → FieldNames a ts fs us → repeat (p.field_name a) found ts ≡ Ok (found ++ fs, us)
@@ -566,30 +582,18 @@ complete_body : {ts us vs ws : Tokens} {ss : List Stmt}
     → Takes (Mark m.LeftBrace) ts us → Inners STATEMENT_NESTING us ss vs → Takes (Mark m.RightBrace) vs ws → p.body ts ≡ Ok (ss, ws)
 complete_body o i c = rw (takes_expect o, complete_inners [] i c, takes_expect c) refl
 
-complete_function : {a b : CType} {w : Name} {t₁ t₂ t₃ t₄ t₅ t₆ t₇ t₈ : Tokens} {fs : List Field} {ss : List Stmt} (line : ℕ)
-    → Stars DECLARATOR_STARS a t₁ b t₂ → Takes (Word w) t₂ t₃ → Takes (Mark m.LeftParen) t₃ t₄ → Params t₄ fs t₅ → Takes (Mark m.LeftBrace) t₅ t₆
+complete_function : {b : CType} {w : Name} {t₃ t₄ t₅ t₆ t₇ t₈ : Tokens} {fs : List Field} {ss : List Stmt} (line : ℕ)
+    → Takes (Mark m.LeftParen) t₃ t₄ → Params t₄ fs t₅ → Takes (Mark m.LeftBrace) t₅ t₆
     → Inners STATEMENT_NESTING t₆ ss t₇ → Takes (Mark m.RightBrace) t₇ t₈
-    → p.function line a t₁ ≡ Ok (item.Func (record { name = w; result = b; params = fs; body = ss; line = line }), t₈)
-complete_function line s t o q b i c = rw (complete_stars s (not_mark m.Star t refl), takes_word t, takes_expect o, complete_params q, complete_body b i c) refl
+    → p.function line (record { name = w; ty = b }) t₃ ≡ Ok (item.Func (record { name = w; result = b; params = fs; body = ss; line = line }), t₈)
+complete_function line o q b i c = rw (takes_expect o, complete_params q, complete_body b i c) refl
 
 -- ---- which item it is
-
-past_takes : {w : Name} {n : ℕ} {a b : CType} {ts us vs : Tokens} → Stars n a ts b us → Takes (Word w) us vs → p.past_stars ts ≡ us
-past_takes ty.none (takes {t = t} {ts = ts} d) = ap (λ b. p.past_by b (p.past_stars ts) (t ∷ ts)) (not_mark {ts = t ∷ ts} m.Star (takes d) refl)
-past_takes (ty.star (takes {t = t} {ts = ts} d) r) t' =
-    ap (λ b. p.past_by b (p.past_stars ts) (t ∷ ts)) (takes_is_mark {ts = t ∷ ts} (takes d)) ∙ past_takes r t'
-
-is_function : {w : Name} {n : ℕ} {a b : CType} {ts us vs ws : Tokens}
-    → Stars n a ts b us → Takes (Word w) us vs → Takes (Mark m.LeftParen) vs ws → p.function_next ts ≡ true
-is_function s t o = rw (past_takes s t, takes_tail t) (takes_is_mark o)
 
 dimensions_no_call : {n : ℕ} {a b : CType} {ts us : Tokens} → Dimensions n a ts b us → is_mark m.LeftParen us ≡ false → is_mark m.LeftParen ts ≡ false
 unfolding same_mark
 dimensions_no_call ty.none h = h
 dimensions_no_call (ty.dimension t v low high u r) h = not_mark m.LeftParen t refl
-
-is_global : {a : CType} {ts us : Tokens} {f : Field} → Declarator a ts f us → is_mark m.LeftParen us ≡ false → p.function_next ts ≡ false
-is_global (ty.declarator s t d) h = rw (past_takes s t, takes_tail t) (dimensions_no_call d h)
 
 starts_no_call : {k : the_mark.Mark} {ts us vs : Tokens} {s : Start}
     → Starts ts s us → Takes (Mark k) us vs → is_mark_in m.LeftParen (Some k) ≡ false → is_mark m.LeftParen ts ≡ false
@@ -599,21 +603,36 @@ starts_no_call (g.number a b) t h = not_mark m.LeftParen a refl
 starts_no_call (g.negative a b c) t h = not_mark m.LeftParen a refl
 starts_no_call (g.null a b) t h = not_mark m.LeftParen a refl
 
-are_globals : {line : ℕ} {a : CType} {ts us : Tokens} {is : List Item} → Globals line a ts is us → p.function_next ts ≡ false
+-- the first name of some globals, which no `(` follows
+record FirstName (a : CType) (ts : Tokens) : Type 0 where
+  name : Name
+  ty : CType
+  at : Tokens
+  behind : Tokens
+  stars : Stars DECLARATOR_STARS a ts ty at
+  takes : Takes (Word name) at behind
+  no_call : is_mark m.LeftParen behind ≡ false
+
+first_name : {a : CType} {ts us : Tokens} {f : Field} → Declarator a ts f us → is_mark m.LeftParen us ≡ false → FirstName a ts
+first_name (ty.declarator {b = b} {w = w} {us = us} {vs = vs} s t d) h =
+    record { name = w; ty = b; at = us; behind = vs; stars = s; takes = t; no_call = dimensions_no_call d h }
+
+first_of : {line : ℕ} {a : CType} {ts us : Tokens} {is : List Item} → Globals line a ts is us → FirstName a ts
 unfolding same_mark
-are_globals (g.last d s t) = is_global d (starts_no_call s t refl)
-are_globals (g.more d s t r) = is_global d (starts_no_call s t refl)
+first_of (g.last d s t) = first_name d (starts_no_call s t refl)
+first_of (g.more d s t r) = first_name d (starts_no_call s t refl)
+
+complete_declared : {line : ℕ} {a : CType} {ts us : Tokens} {js : List Item} (is : List Item)
+    → Globals line a ts js us → FirstName a ts → p.declared line a is ts ≡ Ok (is ++ js, us)
+complete_declared {line} {a} {ts} is r n =
+    ap (λ o. bind o (λ f vs. p.declared_by line a f is (is_mark m.LeftParen vs) vs)) (complete_named n.stars n.takes)
+    ∙ ap (λ c. p.declared_by line a (record { name = n.name; ty = n.ty }) is c n.behind) n.no_call
+    ∙ sym (globals_named line a (record { name = n.name; ty = n.ty }) is ts n.behind (complete_named n.stars n.takes))
+    ∙ complete_globals is r
 
 ends_globals : {line : ℕ} {a : CType} {ts us : Tokens} {is : List Item} → Globals line a ts is us → EndsType ts
 ends_globals (g.last d s t) = ends_declarator d
 ends_globals (g.more d s t r) = ends_declarator d
-
--- what comes behind a type's base is neither a `{` nor a word and a `{`
-no_structure : {ts us : Tokens} {a : CType} → Base ts a us → is_mark m.LeftBrace us ≡ false → p.structure_next ts ≡ false
-unfolding same_key
-no_structure (ty.int t) h = rw (not_key key.Struct t refl) refl
-no_structure (ty.long t u v) h = rw (not_key key.Struct t refl) refl
-no_structure (ty.structure t u) h = rw (takes_is_key t, takes_tail t, takes_tail u, h) refl
 
 stars_no_brace : {w : Name} {n : ℕ} {a b : CType} {ts us vs : Tokens} → Stars n a ts b us → Takes (Word w) us vs → is_mark m.LeftBrace ts ≡ false
 unfolding same_mark
@@ -627,41 +646,43 @@ globals_no_brace : {line : ℕ} {a : CType} {ts us : Tokens} {is : List Item} �
 globals_no_brace (g.last d s t) = declarator_no_brace d
 globals_no_brace (g.more d s t r) = declarator_no_brace d
 
-no_void : {ts us : Tokens} {a : CType} → Base ts a us → is_key key.Void ts ≡ false
-unfolding same_key
-no_void (ty.int t) = not_key key.Void t refl
-no_void (ty.long t u v) = not_key key.Void t refl
-no_void (ty.structure t u) = not_key key.Void t refl
-
+-- what comes behind a type's base is no `{`
 by_base : {ts us : Tokens} {a : CType} (is : List Item)
     → Base ts a us → EndsType us → is_mark m.LeftBrace us ≡ false → p.items_step is ts ≡ p.declared (line_at ts) a is us
-by_base {ts} {us} {a} is b end h =
-    ap (λ c. p.item_by is c (is_key key.Void ts) ts) (no_structure b h)
-    ∙ ap (λ c. p.item_by is false c ts) (no_void b)
-    ∙ ap (λ o. bind o (λ a. p.declared (line_at ts) a is)) (complete_base b end)
+by_base {ts} {us} {a} is (ty.int t) end h = ap (λ c. p.item_by (line_at ts) is c ts) (takes_key t) ∙ rw (complete_base (ty.int t) end) refl
+by_base {ts} {us} {a} is (ty.long t u v) end h =
+    ap (λ c. p.item_by (line_at ts) is c ts) (takes_key t)
+    ∙ ap (λ o. bind o (λ a. p.declared (line_at ts) a is)) (complete_base (ty.long t u v) end)
+by_base {ts} {us} is (ty.structure {w = w} t u) end h =
+    ap (λ c. p.item_by (line_at ts) is c ts) (takes_key t)
+    ∙ ap (λ z. bind (word z) (λ w vs. p.struct_by (line_at ts) w is (is_mark m.LeftBrace vs) vs)) (takes_tail t)
+    ∙ ap (λ o. bind o (λ w vs. p.struct_by (line_at ts) w is (is_mark m.LeftBrace vs) vs)) (takes_word u)
+    ∙ ap (λ c. p.struct_by (line_at ts) w is c us) h
 
-structure_first : {t₀ t₁ t₂ t₃ : Tokens} {w : Name}
-    → Takes (Key key.Struct) t₀ t₁ → Takes (Word w) t₁ t₂ → Takes (Mark m.LeftBrace) t₂ t₃ → p.structure_next t₀ ≡ true
-structure_first a b c = rw (takes_is_key a, takes_tail a, takes_tail b) (takes_is_mark c)
+declared_function : {a b : CType} {w : Name} {ts us vs : Tokens} (line : ℕ) (is : List Item) (q : Item × Tokens)
+    → Stars DECLARATOR_STARS a ts b us → Takes (Word w) us vs → is_mark m.LeftParen vs ≡ true
+    → p.function line (record { name = w; ty = b }) vs ≡ Ok q → p.declared line a is ts ≡ Ok (is ++ q.0 ∷ [], q.1)
+declared_function {a} {b} {w} {vs = vs} line is q s t h e =
+    ap (λ o. bind o (λ f vs. p.declared_by line a f is (is_mark m.LeftParen vs) vs)) (complete_named s t)
+    ∙ ap (λ c. p.declared_by line a (record { name = w; ty = b }) is c vs) h
+    ∙ ap (λ o. bind o (λ i. pure (is ++ i ∷ []))) e
 
 complete_items : {ts us : Tokens} {js : List Item} (is : List Item) → Items ts js us → p.items_step is ts ≡ Ok (is ++ js, us)
-unfolding same_key
-complete_items is (g.structure {t₀ = ts} a b c d e f) =
-    ap (λ q. p.item_by is q (is_key key.Void ts) ts) (structure_first a b c)
-    ∙ rw (takes_expect_key a, takes_word b, takes_expect c, complete_fields [] d e, takes_expect e, takes_expect f) refl
-complete_items is (g.globals {ts = ts} {us = us} {a = a} b r) =
-    by_base is b (ends_globals r) (globals_no_brace r)
-    ∙ ap (λ q. p.declared_by (line_at ts) a is q us) (are_globals r)
-    ∙ complete_globals is r
-complete_items is (g.function {t₀ = ts} {t₁ = us} {a = a} (g.base k) s t o q b i c) =
+complete_items is (g.structure {t₀ = ts} {t₂ = us} {w = w} a b c d e f) =
+    ap (λ c. p.item_by (line_at ts) is c ts) (takes_key a)
+    ∙ ap (λ z. bind (word z) (λ w vs. p.struct_by (line_at ts) w is (is_mark m.LeftBrace vs) vs)) (takes_tail a)
+    ∙ ap (λ o. bind o (λ w vs. p.struct_by (line_at ts) w is (is_mark m.LeftBrace vs) vs)) (takes_word b)
+    ∙ ap (λ c. p.struct_by (line_at ts) w is c us) (takes_is_mark c)
+    ∙ rw (takes_expect c, complete_fields [] d e, takes_expect e, takes_expect f) refl
+complete_items is (g.globals b r) = by_base is b (ends_globals r) (globals_no_brace r) ∙ complete_declared is r (first_of r)
+complete_items is (g.function {t₀ = ts} (g.base k) s t o q b i c) =
     by_base is k (ends_stars s t refl refl) (stars_no_brace s t)
-    ∙ ap (λ z. p.declared_by (line_at ts) a is z us) (is_function s t o)
-    ∙ ap (λ z. bind z (λ i. pure (is ++ i ∷ []))) (complete_function (line_at ts) s t o q b i c)
-complete_items is (g.function {t₀ = ts} {t₁ = us} (g.void k) s t o q b i c) =
-    ap (λ z. p.item_by is (z && is_mark m.LeftBrace (tail (tail ts))) (is_key key.Void ts) ts) (not_key key.Struct k refl)
-    ∙ ap (λ z. p.item_by is false z ts) (takes_is_key k)
-    ∙ ap (λ z. bind (p.function (line_at ts) type.Void z) (λ i. pure (is ++ i ∷ []))) (takes_tail k)
-    ∙ ap (λ z. bind z (λ i. pure (is ++ i ∷ []))) (complete_function (line_at ts) s t o q b i c)
+    ∙ declared_function (line_at ts) is _ s t (takes_is_mark o) (complete_function (line_at ts) o q b i c)
+complete_items is (g.function {t₀ = ts} {t₃ = vs} {b = r} {w = w} (g.void k) s t o q b i c) =
+    ap (λ c. p.item_by (line_at ts) is c ts) (takes_key k)
+    ∙ ap (λ z. bind (named type.Void z) (λ f us. bind (p.function (line_at ts) f us) (λ i. pure (is ++ i ∷ [])))) (takes_tail k)
+    ∙ ap (λ z. bind z (λ f us. bind (p.function (line_at ts) f us) (λ i. pure (is ++ i ∷ [])))) (complete_named s t)
+    ∙ ap (λ z. bind z (λ i. pure (is ++ i ∷ []))) (complete_function (line_at ts) o q b i c)
 
 -- an item takes tokens, so there are some
 some_left : (is : List Item) {ts us : Tokens} {js : List Item} → Items ts js us → p.item_turn is ts ≡ bind (p.items_step is ts) (λ all. pure (all, false))

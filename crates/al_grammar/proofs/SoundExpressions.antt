@@ -73,7 +73,7 @@ infix_level (Mark m.Slash) l op d = let is : 9 ≡ l = same_level d in omega ari
 infix_level (Mark m.Percent) l op d = let is : 9 ≡ l = same_level d in omega arith
 infix_level _ l op d = absurd cc
 
-means_level : {l : ℕ} {op : Joint} {ts us : Tokens} → Means infix_of (l, op) ts us → l < LEVELS
+pub means_level : {l : ℕ} {op : Joint} {ts us : Tokens} → Means infix_of (l, op) ts us → l < LEVELS
 means_level {l} {op} (means {t = t} d) = infix_level t.kind l op d
 
 -- ---- steps without operators

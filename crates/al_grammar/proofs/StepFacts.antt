@@ -136,7 +136,7 @@ word_takes (t ∷ ts) p e = by t.kind refl e
 -- ---- loops
 
 module _ {A : Type 0} (turn : A → Step (A × Bool)) (takes_one : (a b : A) (ts us : Tokens) → turn a ts ≡ Ok ((b, false), us) → length us < length ts) where
-  stable : (f f' : ℕ) (a : A) (ts : Tokens) → length ts < f → length ts < f' → loop turn f a ts ≡ loop turn f' a ts
+  pub stable : (f f' : ℕ) (a : A) (ts : Tokens) → length ts < f → length ts < f' → loop turn f a ts ≡ loop turn f' a ts
   unfolding loop
   stable zero f' a ts h h' = absurd (omega arith)
   stable (suc f) zero a ts h h' = absurd (omega arith)

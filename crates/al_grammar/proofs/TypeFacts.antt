@@ -4,7 +4,7 @@ use Rattle.std.specs.Prelude.{ℤ, pos, ◌&&◌, nat_le, int_le, ◌≤ℤ◌}
 use Rattle.std.proofs.lemmas.Bool.{leb-true, le-leb, and_parts}
 use Rattle.std.proofs.lemmas.Int.{ints}
 use Rattle.al_source.specs.declared.tokens.TokenKind.{TokenKind}
-use Rattle.al_source.specs.declared.tokens.TokenKind.TheVariants.{Number, Key, Mark}
+use Rattle.al_source.specs.declared.tokens.TokenKind.TheVariants.{Word, Number, Key, Mark}
 use Rattle.al_source.specs.declared.tokens.Mark as the_mark
 use Rattle.al_source.specs.declared.tokens.Mark.TheVariants as m
 use Rattle.al_source.specs.declared.tokens.Key as the_key
@@ -19,7 +19,7 @@ use Rattle.al_grammar.specs.Types.{Base, Stars, Dimensions, Declarator, SizeOf}
 use Rattle.al_grammar.specs.Types as g
 use Rattle.al_source.specs.Steps.{bind, pure}
 use Rattle.al_grammar.specs.Steps.{skip_if, key_in, key_at, mark_in, tail, same_mark, same_key, is_mark_in, is_mark, is_key, is_key_in, expect, expect_key, word}
-use Rattle.al_grammar.specs.TypeParser.{optional, base_by, base, star_by, stars, length_by, length_of, take_length_by, take_length, dimension_by, dimensions, declarator, operand_type, size_of}
+use Rattle.al_grammar.specs.TypeParser.{optional, base_by, base, star_by, stars, length_by, length_of, take_length_by, take_length, dimension_by, dimensions, named, declarator, operand_type, size_of}
 use Rattle.al_grammar.proofs.StepFacts.{bind_ok, yields, some_same, takes_kind, takes_tail, takes_shorter, key_takes, is_mark_takes, is_key_takes, takes_is_mark, takes_is_key, takes_expect, takes_expect_key, expect_takes, expect_key_takes, takes_word, word_takes}
 
 -- ---- what the parser reads is in the grammar
@@ -78,12 +78,12 @@ length_is (Number (pos n)) l e = by (nat_le 1 n && int_le (pos n) DIMENSION_LENG
     by false d e = absurd cc
 length_is _ l e = absurd cc
 
-record HasLength (ts : Tokens) (p : ℕ × Tokens) : Type 0 where
-  takes : Takes (Number (pos p.0)) ts p.1
-  above : 1 ≤ p.0
-  below : pos p.0 ≤ℤ DIMENSION_LENGTH
+pub record HasLength (ts : Tokens) (p : ℕ × Tokens) : Type 0 where
+  pub takes : Takes (Number (pos p.0)) ts p.1
+  pub above : 1 ≤ p.0
+  pub below : pos p.0 ≤ℤ DIMENSION_LENGTH
 
-sound_length : (ts : Tokens) (p : ℕ × Tokens) → take_length ts ≡ Ok p → HasLength ts p
+pub sound_length : (ts : Tokens) (p : ℕ × Tokens) → take_length ts ≡ Ok p → HasLength ts p
 sound_length [] p e = absurd cc
 sound_length (t ∷ ts) p e = by (length_of t.kind) refl e
   where
@@ -108,14 +108,26 @@ sound_dimensions (suc n) a ts p e = by (is_mark m.LeftBracket ts) refl e (λ us 
         (g.dimension (is_mark_takes m.LeftBracket ts d) h.takes h.above h.below (expect_takes m.RightBracket l.1 r dr) (ih r.1 q dn)) dm
     by false d e ih = yields (λ p. Dimensions (suc n) a ts p.0 p.1) (a, ts) p g.none e
 
+-- a name behind the stars of its type
+pub record IsNamed (a : CType) (ts : Tokens) (q : Field × Tokens) : Type 0 where
+  pub name : Tokens
+  pub stars : Stars DECLARATOR_STARS a ts q.0.ty name
+  pub takes : Takes (Word q.0.name) name q.1
+
+pub sound_named : (a : CType) (ts : Tokens) (q : Field × Tokens) → named a ts ≡ Ok q → IsNamed a ts q
+sound_named a ts q e =
+    let (b, db, dk) = bind_ok (stars DECLARATOR_STARS a ts) (λ b us. bind (word us) (λ w. pure (record { name = w; ty = b }))) e in
+    let (w, dw, dl) = bind_ok (word b.1) (λ w. pure (record { name = w; ty = b.0 })) dk in
+    yields (IsNamed a ts) (record { name = w.0; ty = b.0 }, w.1) q
+    (record { name = b.1; stars = sound_stars DECLARATOR_STARS a ts b db; takes = word_takes b.1 w dw }) dl
+
 pub sound_declarator : (a : CType) (ts : Tokens) (p : Field × Tokens) → declarator a ts ≡ Ok p → Declarator a ts p.0 p.1
 sound_declarator a ts p e =
-    let (b, db, dk) = bind_ok (stars DECLARATOR_STARS a ts)
-    (λ b us. bind (word us) (λ w vs. bind (dimensions DECLARATOR_DIMENSIONS b vs) (λ c. pure (record { name = w; ty = c })))) e in
-    let (w, dw, dl) = bind_ok (word b.1) (λ w vs. bind (dimensions DECLARATOR_DIMENSIONS b.0 vs) (λ c. pure (record { name = w; ty = c }))) dk in
-    let (c, dc, dm) = bind_ok (dimensions DECLARATOR_DIMENSIONS b.0 w.1) (λ c. pure (record { name = w.0; ty = c })) dl in
-    yields (λ (p : Field × Tokens). Declarator a ts p.0 p.1) (record { name = w.0; ty = c.0 }, c.1) p
-    (g.declarator (sound_stars DECLARATOR_STARS a ts b db) (word_takes b.1 w dw) (sound_dimensions DECLARATOR_DIMENSIONS b.0 w.1 c dc)) dm
+    let (f, df, dk) = bind_ok (named a ts) (λ f us. bind (dimensions DECLARATOR_DIMENSIONS f.ty us) (λ c. pure (record { name = f.name; ty = c }))) e in
+    let (c, dc, dm) = bind_ok (dimensions DECLARATOR_DIMENSIONS f.0.ty f.1) (λ c. pure (record { name = f.0.name; ty = c })) dk in
+    let n = sound_named a ts f df in
+    yields (λ (p : Field × Tokens). Declarator a ts p.0 p.1) (record { name = f.0.name; ty = c.0 }, c.1) p
+    (g.declarator n.stars n.takes (sound_dimensions DECLARATOR_DIMENSIONS f.0.ty f.1 c dc)) dm
 
 -- `( base * )`
 pub record OperandType (ts : Tokens) (p : CType × Tokens) : Type 0 where
@@ -216,6 +228,10 @@ unfolding dimensions
 complete_dimensions (g.none {n = n} {a = a} {ts = ts}) h = dimensions_end n a ts h
 complete_dimensions (g.dimension t v low high u r) h =
     rw (takes_is_mark t, takes_tail t, takes_length v low high, takes_expect u, complete_dimensions r h) refl
+
+pub complete_named : {w : Name} {a b : CType} {ts us vs : Tokens}
+    → Stars DECLARATOR_STARS a ts b us → Takes (Word w) us vs → named a ts ≡ Ok (record { name = w; ty = b }, vs)
+complete_named s t = rw (complete_stars s (not_mark m.Star t refl), takes_word t) refl
 
 pub complete_declarator : {a : CType} {ts us : Tokens} {f : Field} → Declarator a ts f us → is_mark m.LeftBracket us ≡ false → declarator a ts ≡ Ok (f, us)
 complete_declarator (g.declarator s t d) h = rw (complete_stars s (not_mark m.Star t refl), takes_word t, complete_dimensions d h) refl

@@ -11,6 +11,7 @@ pub mod Types
 pub mod Expressions
 pub mod Statements
 pub mod Programs
+pub mod Beginnings
 pub mod TypeParser
 pub mod ExpressionParser
 pub mod StatementParser

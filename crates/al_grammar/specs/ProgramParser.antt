@@ -1,9 +1,10 @@
 -- The parser of items and of programs, as a function on lists.
-use Rattle.std.specs.Prelude.{ℕ, pos, neg_ℤ, Bool, true, false, ◌&&◌, List, [], ◌∷◌, ◌++◌, Option, Some, Ok}
+use Rattle.std.specs.Prelude.{ℕ, pos, neg_ℤ, Bool, true, false, List, [], ◌∷◌, ◌++◌, Option, Some, Ok}
 use Rattle.al_source.specs.declared.tokens.TokenKind.{TokenKind}
 use Rattle.al_source.specs.declared.tokens.TokenKind.TheVariants.{Number, Key, Mark}
 use Rattle.al_source.specs.declared.tokens.Mark as the_mark
 use Rattle.al_source.specs.declared.tokens.Mark.TheVariants as m
+use Rattle.al_source.specs.declared.tokens.Key as the_key
 use Rattle.al_source.specs.declared.tokens.Key.TheVariants as key
 use Rattle.al_source.specs.declared.source_tree.CType.{CType}
 use Rattle.al_source.specs.declared.source_tree.CType.TheVariants as type
@@ -13,12 +14,12 @@ use Rattle.al_source.specs.declared.source_tree.Start.TheVariants as start
 use Rattle.al_source.specs.declared.source_tree.Stmt.{Stmt}
 use Rattle.al_source.specs.declared.source_tree.Item.{Item}
 use Rattle.al_source.specs.declared.source_tree.Item.TheVariants as item
-use Rattle.al_grammar.specs.Phrases.{Tokens, Name, line_at}
-use Rattle.al_source.specs.declared.limits.TheConstants.{DECLARATOR_STARS, STATEMENT_NESTING}
+use Rattle.al_grammar.specs.Phrases.{Name, line_at}
+use Rattle.al_source.specs.declared.limits.TheConstants.{DECLARATOR_DIMENSIONS, STATEMENT_NESTING}
 use Rattle.al_source.specs.Steps.{bind, pure}
 use Rattle.al_grammar.specs.Programs.{global}
-use Rattle.al_grammar.specs.Steps.{Step, ◌>>=◌, ◌>>◌, refuse, skip, kind_at, mark_at, is_mark, is_key, tail, expect, expect_key, word, repeat}
-use Rattle.al_grammar.specs.TypeParser.{base, stars, declarator}
+use Rattle.al_grammar.specs.Steps.{Step, ◌>>=◌, ◌>>◌, refuse, skip, kind_at, mark_at, key_at, is_mark, expect, word, after_turn, repeat}
+use Rattle.al_grammar.specs.TypeParser.{base, named, dimensions, declarator}
 use Rattle.al_grammar.specs.StatementParser.{braced, statement}
 
 -- ---- structs
@@ -39,15 +40,11 @@ field_line fs = base >>= λ a. repeat (field_name a) fs
 abbrev pub field_turn : List Field → Step (List Field × Bool)
 field_turn fs = field_line fs >>= λ all. λ ts. pure (all, is_mark m.RightBrace ts) ts
 
-abbrev pub struct_body : Step (Name × List Field)
+-- from the `{` to the `;`
+abbrev pub struct_body : Step (List Field)
 struct_body =
-    expect_key key.Struct >> word >>= λ w.
     expect m.LeftBrace >> repeat field_turn [] >>= λ fs.
-    expect m.RightBrace >> expect m.Semicolon >> pure (w, fs)
-
-abbrev pub structure : Step Item
-structure =
-    λ ts. bind (struct_body ts) (λ p. pure (item.Struct (record { name = p.0; fields = p.1; line = line_at ts })))
+    expect m.RightBrace >> expect m.Semicolon >> pure fs
 
 -- ---- globals
 
@@ -80,10 +77,17 @@ global_name line a is =
     starts >>= λ s.
     λ ts. global_by (is ++ global line f s ∷ []) (mark_at ts) ts
 
+-- after the first declared name
+abbrev pub first_global : ℕ → Field → List Item → Step (List Item × Bool)
+first_global line f is =
+    dimensions DECLARATOR_DIMENSIONS f.ty >>= λ a.
+    starts >>= λ s.
+    λ ts. global_by (is ++ global line (record { name = f.name; ty = a }) s ∷ []) (mark_at ts) ts
+
 -- ---- functions
 
 abbrev pub param : Step Field
-param = base >>= λ a. stars DECLARATOR_STARS a >>= λ b. word >>= λ w. pure (record { name = w; ty = b })
+param = base >>= named
 
 abbrev pub param_by : List Field → Option the_mark.Mark → Step (List Field × Bool)
 param_by fs (Some m.Comma) = skip >> pure (fs, false)
@@ -104,50 +108,39 @@ params = λ ts. params_by (kind_at ts) ts
 abbrev pub body : Step (List Stmt)
 body = expect m.LeftBrace >> braced STATEMENT_NESTING (statement STATEMENT_NESTING)
 
--- after the result's type without stars
-abbrev pub function : ℕ → CType → Step Item
-function line a =
-    stars DECLARATOR_STARS a >>= λ b.
-    word >>= λ w.
+-- after the name, which has the result's type
+abbrev pub function : ℕ → Field → Step Item
+function line f =
     expect m.LeftParen >> params >>= λ fs.
     body >>= λ ss.
-    pure (item.Func (record { name = w; result = b; params = fs; body = ss; line = line }))
-
-abbrev pub past_by : Bool → Tokens → Tokens → Tokens
-past_by true past here = past
-past_by false past here = here
-
--- the tokens after the stars
-abbrev pub past_stars : Tokens → Tokens
-past_stars [] = []
-past_stars (t ∷ ts) = past_by (is_mark m.Star (t ∷ ts)) (past_stars ts) (t ∷ ts)
-
--- whether a name with a `(` comes after the stars
-abbrev pub function_next : Tokens → Bool
-function_next ts = is_mark m.LeftParen (tail (past_stars ts))
+    pure (item.Func (record { name = f.name; result = f.ty; params = fs; body = ss; line = line }))
 
 -- ---- programs
 
+-- whether a function has the name
+abbrev pub declared_by : ℕ → CType → Field → List Item → Bool → Step (List Item)
+declared_by line a f is true = function line f >>= λ i. pure (is ++ i ∷ [])
+declared_by line a f is false =
+    λ ts. bind (first_global line f is ts) (λ r. after_turn (repeat (global_name line a)) r.0 r.1)
+
 -- after the base, of this line
-abbrev pub declared_by : ℕ → CType → List Item → Bool → Step (List Item)
-declared_by line a is true = function line a >>= λ i. pure (is ++ i ∷ [])
-declared_by line a is false = repeat (global_name line a) is
-
 abbrev pub declared : ℕ → CType → List Item → Step (List Item)
-declared line a is = λ ts. declared_by line a is (function_next ts) ts
+declared line a is = named a >>= λ f. λ ts. declared_by line a f is (is_mark m.LeftParen ts) ts
 
--- whether a struct is defined: its `{` is the third token
-abbrev pub structure_next : Tokens → Bool
-structure_next ts = is_key key.Struct ts && is_mark m.LeftBrace (tail (tail ts))
+-- whether the struct of this name is defined
+abbrev pub struct_by : ℕ → Name → List Item → Bool → Step (List Item)
+struct_by line w is true =
+    struct_body >>= λ fs. pure (is ++ item.Struct (record { name = w; fields = fs; line = line }) ∷ [])
+struct_by line w is false = declared line (type.Struct w) is
 
-abbrev pub item_by : List Item → Bool → Bool → Step (List Item)
-item_by is true _ = structure >>= λ i. pure (is ++ i ∷ [])
-item_by is false true = λ ts. bind (bind (skip ts) (λ _. function (line_at ts) type.Void)) (λ i. pure (is ++ i ∷ []))
-item_by is false false = λ ts. bind (base ts) (λ a. declared (line_at ts) a is)
+abbrev pub item_by : ℕ → List Item → Option the_key.Key → Step (List Item)
+item_by line is (Some key.Struct) = skip >> word >>= λ w. λ ts. struct_by line w is (is_mark m.LeftBrace ts) ts
+item_by line is (Some key.Void) = skip >> named type.Void >>= λ f. function line f >>= λ i. pure (is ++ i ∷ [])
+item_by line is _ = base >>= λ a. declared line a is
 
 -- an item, behind those that were read before
 abbrev pub items_step : List Item → Step (List Item)
-items_step is = λ ts. item_by is (structure_next ts) (is_key key.Void ts) ts
+items_step is = λ ts. item_by (line_at ts) is (key_at ts) ts
 
 abbrev pub item_turn : List Item → Step (List Item × Bool)
 item_turn is [] = Ok ((is, true), [])

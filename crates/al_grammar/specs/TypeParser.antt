@@ -62,12 +62,15 @@ unfoldable pub dimensions : ℕ → CType → Step CType
 dimensions zero a = pure a
 dimensions (suc n) a = λ ts. dimension_by (dimensions n) a (is_mark m.LeftBracket ts) ts
 
+-- a name with the stars of its type, which follow this base
+abbrev pub named : CType → Step Field
+named a = stars DECLARATOR_STARS a >>= λ b. word >>= λ w. pure (record { name = w; ty = b })
+
 abbrev pub declarator : CType → Step Field
 declarator a =
-    stars DECLARATOR_STARS a >>= λ b.
-    word >>= λ w.
-    dimensions DECLARATOR_DIMENSIONS b >>= λ c.
-    pure (record { name = w; ty = c })
+    named a >>= λ f.
+    dimensions DECLARATOR_DIMENSIONS f.ty >>= λ b.
+    pure (record { name = f.name; ty = b })
 
 -- `( base * )`
 abbrev pub operand_type : Step CType

@@ -1,1 +1,2 @@
 pub mod NestsStatement
+pub mod IsParsed

@@ -4,8 +4,8 @@ use denote.Ref.{MutBor}
 use Rattle.al_source.specs.declared.source_tree.Stmt.{Stmt}
 use Rattle.al_source.specs.declared.faults.ParseFault.{ParseFault}
 use Rattle.al_grammar.specs.StatementParser.{statement}
-use Rattle.al_expressions.specs.declared.cursor.Cursor.{Cursor}
-use Rattle.al_expressions.specs.Cursors.{Parses}
+use Rattle.al_parse_expressions.specs.declared.cursor.Cursor.{Cursor}
+use Rattle.al_parse_expressions.specs.Cursors.{Parses}
 
 -- what such a call leaves
 abbrev pub Left : Type 1

@@ -2,13 +2,17 @@
 
 ghost use Rattle.std.specs.Prelude.{◌≡◌, ◌<◌, ◌≤◌, length, OnOk, MatchResult, ◌++◌, ◌∷◌, []};
 ghost use Rattle.al_source.specs.declared.faults.ParseFault.TheVariants.{Memory};
-ghost use Rattle.al_grammar.specs.Steps.{kind_at, repeat};
+ghost use Rattle.al_source.specs.declared.source_tree.CType.TheVariants as type;
+ghost use Rattle.al_source.specs.declared.tokens.Mark.TheVariants as mark;
+ghost use Rattle.al_grammar.specs.Steps.{kind_at, is_mark, repeat};
+ghost use Rattle.al_source.specs.Steps.{bind};
+ghost use Rattle.al_grammar.specs.TypeParser.{named};
 ghost use Rattle.al_grammar.specs.ProgramParser as spec;
-ghost use Rattle.al_expressions.specs.Cursors.{Parses};
+ghost use Rattle.al_parse_expressions.specs.Cursors.{Parses};
 
 use crate::statements::{Body, statement};
-use al_expressions::Cursor;
-use al_source::limits::STATEMENT_NESTING;
+use al_parse_expressions::Cursor;
+use al_source::limits::{DECLARATOR_DIMENSIONS, STATEMENT_NESTING};
 use al_source::{
     CType, Field, Func, GlobalDef, Item, Key, Mark, Name, ParseFault, Start, Stmt, StructDef,
     TokenKind,
@@ -64,24 +68,15 @@ fn fields(cursor: &mut Cursor<'_>) -> Result<Items<Field>, ParseFault>
     }
 }
 
-fn struct_body(cursor: &mut Cursor<'_>) -> Result<(Name, Items<Field>), ParseFault>
+/// From the `{` to the `;`.
+fn struct_body(cursor: &mut Cursor<'_>) -> Result<Items<Field>, ParseFault>
     ensures { Parses spec.struct_body cursor.old result cursor.new }
 {
-    cursor.expect_key(Key::Struct)?;
-    let name = cursor.word()?;
     cursor.expect(Mark::LeftBrace)?;
     let found = fields(cursor)?;
     cursor.expect(Mark::RightBrace)?;
     cursor.expect(Mark::Semicolon)?;
-    Ok((name, found))
-}
-
-fn structure(cursor: &mut Cursor<'_>) -> Result<Item, ParseFault>
-    ensures { Parses spec.structure cursor.old result cursor.new }
-{
-    let line = cursor.line();
-    let (name, fields) = struct_body(cursor)?;
-    Ok(Item::Struct(StructDef { name, fields, line }))
+    Ok(found)
 }
 
 // ---- globals
@@ -169,6 +164,37 @@ fn globals(
     }
 }
 
+/// After the first declared name, and whether it was the last.
+fn first_global(
+    cursor: &mut Cursor<'_>,
+    line: u32,
+    named: Field,
+    found: Items<Item>,
+) -> Result<(Items<Item>, bool), ParseFault>
+    ensures { Parses (spec.first_global line named found) cursor.old result cursor.new }
+{
+    let ty = cursor.dimensions(DECLARATOR_DIMENSIONS, named.ty)?;
+    let start = starts(cursor)?;
+    let mut found = found;
+    found.push(Item::Global(GlobalDef {
+        name: named.name,
+        ty,
+        start,
+        line,
+    }))?;
+    match cursor.mark() {
+        Some(Mark::Comma) => {
+            cursor.advance();
+            Ok((found, false))
+        }
+        Some(Mark::Semicolon) => {
+            cursor.advance();
+            Ok((found, true))
+        }
+        _ => Err(ParseFault::Syntax),
+    }
+}
+
 // ---- functions
 
 fn param(cursor: &mut Cursor<'_>) -> Result<Field, ParseFault>
@@ -176,9 +202,7 @@ fn param(cursor: &mut Cursor<'_>) -> Result<Field, ParseFault>
     ensures shorter { OnOk result (length cursor.new.rest.now < length cursor.old.rest.now) }
 {
     let base = cursor.base()?;
-    let ty = cursor.stars(base)?;
-    let name = cursor.word()?;
-    Ok(Field { name, ty })
+    cursor.named(&base)
 }
 
 /// At least one parameter, to the `)`.
@@ -230,18 +254,16 @@ fn function_body(cursor: &mut Cursor<'_>) -> Result<Items<Stmt>, ParseFault>
     .braced(cursor)
 }
 
-/// After the result's type without stars.
-fn function(cursor: &mut Cursor<'_>, line: u32, base: CType) -> Result<Item, ParseFault>
-    ensures { Parses (spec.function line base) cursor.old result cursor.new }
+/// After the name, which has the result's type.
+fn function(cursor: &mut Cursor<'_>, line: u32, named: Field) -> Result<Item, ParseFault>
+    ensures { Parses (spec.function line named) cursor.old result cursor.new }
 {
-    let result = cursor.stars(base)?;
-    let name = cursor.word()?;
     cursor.expect(Mark::LeftParen)?;
     let params = params(cursor)?;
     let body = function_body(cursor)?;
     Ok(Item::Func(Func {
-        name,
-        result,
+        name: named.name,
+        result: named.ty,
         params,
         body,
         line,
@@ -249,36 +271,6 @@ fn function(cursor: &mut Cursor<'_>, line: u32, base: CType) -> Result<Item, Par
 }
 
 // ---- items
-
-#[tactic(auto, using(crate::proofs::Taken::past_more, crate::proofs::Taken::past_done))]
-fn past_stars<'a>(cursor: &Cursor<'a>) -> Cursor<'a>
-    ensures { result.rest.now ≡ spec.past_stars cursor.now.rest.now }
-{
-    let mut ahead = *cursor;
-    while ahead.is_mark(Mark::Star) {
-        ahead.advance();
-    }
-    ahead
-}
-
-/// Whether a name with a `(` comes after the stars.
-fn function_next(cursor: &Cursor<'_>) -> bool
-    ensures { result ≡ spec.function_next cursor.now.rest.now }
-{
-    let mut ahead = past_stars(cursor);
-    ahead.advance();
-    ahead.is_mark(Mark::LeftParen)
-}
-
-/// Whether a struct is defined: its `{` is the third token.
-fn structure_next(cursor: &Cursor<'_>) -> bool
-    ensures { result ≡ spec.structure_next cursor.now.rest.now }
-{
-    let mut ahead = *cursor;
-    ahead.advance();
-    ahead.advance();
-    cursor.is_key(Key::Struct) && ahead.is_mark(Mark::LeftBrace)
-}
 
 fn with_item(found: Items<Item>, item: Item) -> Result<Items<Item>, ParseFault>
     ensures { MatchResult result (λ all. all ≡ found ++ item ∷ []) (λ e. e ≡ Memory) }
@@ -297,12 +289,43 @@ fn declared(
 ) -> Result<Items<Item>, ParseFault>
     ensures { Parses (spec.declared line base found) cursor.old result cursor.new }
 {
-    if function_next(cursor) {
-        let item = function(cursor, line, base)?;
+    let named = cursor.named(&base)?;
+    if cursor.is_mark(Mark::LeftParen) {
+        let item = function(cursor, line, named)?;
         with_item(found, item)
     } else {
-        globals(cursor, line, &base, found)
+        let (found, last) = first_global(cursor, line, named, found)?;
+        if last {
+            Ok(found)
+        } else {
+            globals(cursor, line, &base, found)
+        }
     }
+}
+
+/// After `struct` and a name: a definition, or what this type declares.
+fn structure(
+    cursor: &mut Cursor<'_>,
+    line: u32,
+    name: Name,
+    found: Items<Item>,
+) -> Result<Items<Item>, ParseFault>
+    ensures { Parses (λ ts. spec.struct_by line name found (is_mark mark.LeftBrace ts) ts) cursor.old result
+        cursor.new }
+{
+    if cursor.is_mark(Mark::LeftBrace) {
+        let fields = struct_body(cursor)?;
+        with_item(found, Item::Struct(StructDef { name, fields, line }))
+    } else {
+        declared(cursor, line, CType::Struct(name), found)
+    }
+}
+
+fn void_function(cursor: &mut Cursor<'_>, line: u32) -> Result<Item, ParseFault>
+    ensures { Parses (λ ts. bind (named type.Void ts) (λ f. spec.function line f)) cursor.old result cursor.new }
+{
+    let named = cursor.named(&CType::Void)?;
+    function(cursor, line, named)
 }
 
 /// An item, behind those that were read before.
@@ -310,15 +333,20 @@ pub fn next_item(cursor: &mut Cursor<'_>, found: Items<Item>) -> Result<Items<It
     ensures { Parses (spec.items_step found) cursor.old result cursor.new }
 {
     let line = cursor.line();
-    if structure_next(cursor) {
-        let item = structure(cursor)?;
-        with_item(found, item)
-    } else if cursor.is_key(Key::Void) {
-        cursor.advance();
-        let item = function(cursor, line, CType::Void)?;
-        with_item(found, item)
-    } else {
-        let base = cursor.base()?;
-        declared(cursor, line, base, found)
+    match cursor.key() {
+        Some(Key::Struct) => {
+            cursor.advance();
+            let name = cursor.word()?;
+            structure(cursor, line, name, found)
+        }
+        Some(Key::Void) => {
+            cursor.advance();
+            let item = void_function(cursor, line)?;
+            with_item(found, item)
+        }
+        _ => {
+            let base = cursor.base()?;
+            declared(cursor, line, base, found)
+        }
     }
 }

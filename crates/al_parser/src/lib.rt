@@ -8,4 +8,4 @@ mod statements;
 mod tests;
 
 pub use al_source::ParseFault;
-pub use program::parse;
+pub use program::{Parsed, first_bad, parse, parse_or_first_bad};

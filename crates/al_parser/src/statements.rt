@@ -6,11 +6,11 @@ ghost use Rattle.al_source.specs.Steps.{bind};
 ghost use Rattle.al_grammar.specs.Steps.{kind_at, repeat};
 ghost use Rattle.al_grammar.specs.Statements.{else_next};
 ghost use Rattle.al_grammar.specs.StatementParser as spec;
-ghost use Rattle.al_expressions.specs.Cursors.{Parses};
+ghost use Rattle.al_parse_expressions.specs.Cursors.{Parses};
 ghost use Rattle.al_parser.specs.NestsStatement.{NestsStatement};
 
-use al_expressions::Cursor;
-use al_phrases::{
+use al_parse_expressions::Cursor;
+use al_parse_phrases::{
     begins_base, declaration, end_note, head, loop_note, maybe, parenthesized, simple_statement,
 };
 use al_source::{Expr, Key, LoopNote, Mark, ParseFault, Stmt, StmtKind, TokenKind};

@@ -1,11 +1,9 @@
-//! Where the parser stops. The places follow the grammar as it is written down, and do not come from the parser.
+//! The first bad tokens. The places follow the grammar as it is written down, and do not come from the parser.
 //!
 //! Tokens are written as words, with a `?` before the first bad one; the tokens of a program have none. `3**-` is
 //! `- - -`, `#note` and `#end` are the ends of an annotation, and `text` is a text.
 
-use crate::ParseFault;
-use crate::program::all_items;
-use al_expressions::Cursor;
+use crate::first_bad;
 use al_grammar::{KEYS, MARKS, key_text, mark_text};
 use al_source::{Token, TokenKind};
 use sqlite_items::Items;
@@ -194,33 +192,19 @@ fn tokens_of(alloc: Global, row: &str) -> Result<Vec<Token>, AllocError> {
     Ok(tokens)
 }
 
-/// How many tokens a row has from its `?` on.
+/// How many tokens a row has before its `?`.
 fn wanted(alloc: Global, row: &str) -> Result<Option<usize>, AllocError> {
     match row.split_once('?') {
-        Some((_, rest)) => Ok(Some(tokens_of(alloc, rest)?.len())),
+        Some((before, _)) => Ok(Some(tokens_of(alloc, before)?.len())),
         None => Ok(None),
     }
 }
 
-/// How many tokens are left at the first bad one. A program has none.
-fn left(alloc: Global, tokens: &[Token]) -> Result<Option<usize>, AllocError> {
-    let mut cursor = Cursor {
-        alloc,
-        rest: tokens,
-        room: 0,
-    };
-    match all_items(&mut cursor) {
-        Ok(_) => Ok(None),
-        Err(ParseFault::Syntax) => Ok(Some(cursor.rest.len())),
-        Err(ParseFault::Memory) => Err(AllocError),
-    }
-}
-
-/// The first row at which the parser stops elsewhere, or does not stop.
+/// The first row whose first bad token is another.
 fn first_wrong<'a>(alloc: Global, rows: &[&'a str]) -> Result<Option<&'a str>, AllocError> {
     for row in rows {
         let tokens = tokens_of(alloc, row)?;
-        if left(alloc, &tokens)? != wanted(alloc, row)? {
+        if first_bad(alloc, &tokens)? != wanted(alloc, row)? {
             return Ok(Some(row));
         }
     }

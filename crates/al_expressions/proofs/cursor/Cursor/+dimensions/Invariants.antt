@@ -1,4 +1,0 @@
-use Rattle.al_expressions.proofs.cursor.Cursor.+dimensions.Given as goal
-
-abbrev pub decreases-dimensions : goal.decreases-dimensions
-decreases-dimensions l = l.left

@@ -1,5 +1,0 @@
-use Rattle.std.proofs.Common.{length}
-use Rattle.al_expressions.proofs.expressions.+whole.Given as goal
-
-abbrev pub decreases-whole : goal.decreases-whole
-decreases-whole l = length l.cursor.now.rest.now

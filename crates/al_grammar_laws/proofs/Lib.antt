@@ -1,0 +1,14 @@
+pub mod Run
+pub mod Local
+pub mod LocalTypes
+pub mod LocalExpressions
+pub mod LocalCalls
+pub mod LocalStatements
+pub mod LocalProgram
+pub mod Completion
+pub mod CompletedTypes
+pub mod CompletedExpressions
+pub mod CompletedSimple
+pub mod CompletedStatements
+pub mod CompletedProgram
+pub mod FirstBad
