@@ -3,12 +3,13 @@ use Rattle.std.proofs.Common.{◌≡◌, ◌≢◌, ◌⊎◌, inl, inr, ℕ, Li
 use Rattle.al_rules.specs.Refusals.{Noted}
 use Rattle.al_io.specs.Contents.{Contents}
 use Rattle.al_io.specs.Counts.{DidNotRise}
-use Rattle.al_serve.specs.declared.answers.Answer.{Answer}
-use Rattle.al_serve.specs.Plans.{Answers, failed}
-use Rattle.al_serve.specs.Seen.{FilesSeen, SinkSeen}
-use Rattle.al_serve.specs.Outcome.{Outcome, IsOneOf, Writes}
-use Rattle.al_serve.proofs.Options.{if_so}
-use Rattle.al_serve.proofs.Outcomes.{is_as_played, only_answer}
+use Rattle.al_answers.specs.declared.answers.Answer.{Answer}
+use Rattle.al_answers.specs.Plans.{Answers, failed}
+use Rattle.al_answers.specs.Seen.{FilesSeen, SinkSeen}
+use Rattle.al_answers.specs.Outcome.{Outcome}
+use Rattle.al_answers.specs.Written.{IsOneOf, Writes}
+use Rattle.al_answers.proofs.Options.{if_so}
+use Rattle.al_answers.proofs.Outcomes.{at, is_as_played, only_answer}
 use Rattle.al_words.specs.declared.command.Command.{Command}
 use Rattle.al_words.specs.declared.command.Command.TheVariants.{Run}
 use Rattle.al_words.specs.declared.command.Job.{Job}
@@ -21,13 +22,15 @@ use Rattle.al_cli.specs.Headline.{Holds, IsValid}
 use Rattle.al_cli.proofs.Valid.{holds_shows, valid_status}
 
 module _ (words : List (List ℕ)) (f g : FilesSeen) (o p e q : SinkSeen) where
-  pub headline : (s : ℕ) → Outcome (plan words) f g o p e q s → (job : Job) → (program : Noted) → (input : List ℤ) → command words ≡ Ok (Run job)
+  pub headline : (s : ℕ) → Outcome (plan words) (at f g o p e q s) → (job : Job) → (program : Noted) → (input : List ℤ) → command words ≡ Ok (Run job)
       → DidNotRise f.faults g.faults → DidNotRise o.faults p.faults → DidNotRise e.faults q.faults → s ≢ 6
-      → IfSome f.contents (λ files. Holds words files job program input → Writes (bytes_of (source_name words job) (lockstep_report program input job.knobs)) s o.written p.written e.written q.written)
+      → IfSome f.contents (λ files. Holds words files job program input → Writes (bytes_of (source_name words job) (lockstep_report program input job.knobs))
+      (at f g o p e q s))
   headline s outcome job program input is still still_out still_err not_six =
-      if_so f.contents _ _ (λ files w h. subst (λ a. Writes a s o.written p.written e.written q.written) (holds_shows words files task.Run job program input is h) w) (is_as_played (plan words) f g o p e q s outcome still still_out still_err not_six)
+      if_so f.contents _ _ (λ files w h. subst (λ a. Writes a (at f g o p e q s)) (holds_shows words files task.Run job program input is h) w)
+      (is_as_played (plan words) f g o p e q s outcome still still_out still_err not_six)
 
-  with_six : (s : ℕ) (a : Answer) → (s ≢ 6 → Writes a s o.written p.written e.written q.written) → IsOneOf (0 ∷ 3 ∷ []) a.status → (s ≡ 6) ⊎ (s ≢ 6) → IsOneOf (0 ∷ 3 ∷ 6 ∷ []) s
+  with_six : (s : ℕ) (a : Answer) → (s ≢ 6 → Writes a (at f g o p e q s)) → IsOneOf (0 ∷ 3 ∷ []) a.status → (s ≡ 6) ⊎ (s ≢ 6) → IsOneOf (0 ∷ 3 ∷ 6 ∷ []) s
   with_six s a w h (inl six) = inr (inr (inl six))
   with_six s a w (inl h) (inr not_six) = inl ((w not_six).ends ∙ h)
   with_six s a w (inr (inl h)) (inr not_six) = inr (inl ((w not_six).ends ∙ h))
@@ -36,20 +39,22 @@ module _ (words : List (List ℕ)) (f g : FilesSeen) (o p e q : SinkSeen) where
   six_or_not : (s : ℕ) → (s ≡ 6) ⊎ (s ≢ 6)
   six_or_not s = grind arith
 
-  pub complete : (s : ℕ) → Outcome (plan words) f g o p e q s → DidNotRise f.faults g.faults → DidNotRise o.faults p.faults → DidNotRise e.faults q.faults
+  pub complete : (s : ℕ) → Outcome (plan words) (at f g o p e q s) → DidNotRise f.faults g.faults → DidNotRise o.faults p.faults → DidNotRise e.faults q.faults
       → IfSome f.contents (λ files. IsValid words files → IsOneOf (0 ∷ 3 ∷ 6 ∷ []) s)
   complete s outcome still still_out still_err = by_six (six_or_not s)
     where
       by_six : (s ≡ 6) ⊎ (s ≢ 6) → IfSome f.contents (λ files. IsValid words files → IsOneOf (0 ∷ 3 ∷ 6 ∷ []) s)
       by_six (inl six) = every f.contents (λ files h. inr (inr (inl six)))
         where
-          every : (r : Option Contents) → ((files : Contents) → IsValid words files → IsOneOf (0 ∷ 3 ∷ 6 ∷ []) s) → IfSome r (λ files. IsValid words files → IsOneOf (0 ∷ 3 ∷ 6 ∷ []) s)
+          every : (r : Option Contents) → ((files : Contents) → IsValid words files → IsOneOf (0 ∷ 3 ∷ 6 ∷ []) s)
+              → IfSome r (λ files. IsValid words files → IsOneOf (0 ∷ 3 ∷ 6 ∷ []) s)
           every None k = tt
           every (Some files) k = k files
-      by_six (inr not_six) = if_so f.contents _ _ (λ files w h. with_six s (shown words files) (λ never. w) (valid_status words files h) (inr not_six)) (is_as_played (plan words) f g o p e q s outcome still still_out still_err not_six)
+      by_six (inr not_six) = if_so f.contents _ _ (λ files w h. with_six s (shown words files) (λ never. w) (valid_status words files h) (inr not_six))
+          (is_as_played (plan words) f g o p e q s outcome still still_out still_err not_six)
 
   -- refused words are answered so, unless a put fails or memory runs out
-  pub words_give : (s : ℕ) → Outcome (plan words) f g o p e q s → IsErr (command words) → IsOneOf (2 ∷ 5 ∷ 6 ∷ []) s
+  pub words_give : (s : ℕ) → Outcome (plan words) (at f g o p e q s) → IsErr (command words) → IsOneOf (2 ∷ 5 ∷ 6 ∷ []) s
   unfolding plan
   words_give s outcome refused = by_command (command words) refl refused
     where

@@ -3,23 +3,20 @@ use Rattle.std.proofs.Common.{◌≡◌, ◌≢◌, ℕ, List, [], Option, None,
 use Rattle.std.specs.declared.alloc.AllocError.{AllocError}
 use Rattle.al_core.specs.declared.choices.Knobs.{Knobs}
 use Rattle.al_rules.specs.Refusals.{Noted, accepted}
-use Rattle.al_report.specs.Faults.{input_text}
+use Rattle.al_report.specs.Faults.{refusal_text, input_cause_text}
 use Rattle.al_rules.specs.declared.faults.Refusal.{Refusal}
-use Rattle.al_serve.specs.declared.answers.Answer.{Answer}
-use Rattle.al_serve.specs.declared.reading.FileRead.{FileRead}
-use Rattle.al_serve.specs.declared.reading.FileRead.TheVariants as file
-use Rattle.al_serve.specs.Plans.{Plan, Reads, Answers, failed}
-use Rattle.al_serve.specs.Seen.{FilesSeen, ReadsOnce, TriesOnce}
-use Rattle.al_serve.specs.Outcome.{IsBeginning, Reading, Came, planned, read_on, Starved, at_once, at_read, later}
-use Rattle.al_text.specs.declared.faults.InputFault.{InputFault}
-use Rattle.al_text.specs.declared.faults.InputFault.TheVariants.{TooLong, NotNumber, OutOfRange, TooMany, Memory}
+use Rattle.al_answers.specs.declared.answers.Answer.{Answer}
+use Rattle.al_answers.specs.declared.reading.FileRead.{FileRead}
+use Rattle.al_answers.specs.declared.reading.FileRead.TheVariants as file
+use Rattle.al_answers.specs.Plans.{Plan, Reads, Answers, failed}
+use Rattle.al_answers.specs.Seen.{FilesSeen, ReadsOnce, TriesOnce}
+use Rattle.al_answers.specs.Outcome.{IsBeginning, Reading, Came, planned, read_on, Starved, at_once, at_read, later}
+use Rattle.al_text.specs.declared.faults.InputCause.{InputCause}
 use Rattle.al_source.specs.Answers.{Fails}
-use Rattle.al_text.specs.Faults.{told}
 use Rattle.al_text.specs.Numbers.{numbers_of}
 use Rattle.al_words.specs.declared.command.Command.{Command}
 use Rattle.al_words.specs.declared.command.WordFault.{WordFault}
 use Rattle.al_words.specs.Words.{command}
-use Rattle.al_cli.specs.Lines.{refusal_line}
 use Rattle.al_cli.specs.Shown.{most_of_source, most_of_input, if_accepted, source_plan, if_numbers, input_plan, task_of, plan_of, plan}
 use Rattle.al_cli.specs.declared.reading.SourceStep.{SourceStep}
 use Rattle.al_cli.specs.declared.reading.SourceStep.TheVariants as source
@@ -41,7 +38,8 @@ on_err (Ok a) P Q f p = tt
 on_err (Err e) P Q f p = f p
 
 -- what a file that was read says
-pub read_bytes : (name : List ℕ) (most : ℕ) (f g : FilesSeen) (r : FileRead) (bytes : List ℕ) → r ≡ file.Bytes bytes → Reading name most f g r → ReadsOnce f g × IsBeginning f name most bytes
+pub read_bytes : (name : List ℕ) (most : ℕ) (f g : FilesSeen) (r : FileRead) (bytes : List ℕ) → r ≡ file.Bytes bytes → Reading name most f g r
+    → ReadsOnce f g × IsBeginning f name most bytes
 read_bytes name most f g r bytes is h = subst (Reading name most f g) is h
 
 pub came_answer : (a b : Answer) (f : FilesSeen) → b ≡ a → Came (Answers a) f f b
@@ -54,7 +52,8 @@ pub plan_is : (words : List (List ℕ)) (r : Result Command WordFault) → r ≡
 unfolding plan
 plan_is words r is = ap (plan_of words) (sym is)
 
-pub task_shown : (t : Task) (knobs : Knobs) (name own : List ℕ) (program : Noted) (ns ms : List ℤ) (a : Answer) → name ≡ own → ns ≡ ms → a ≡ task_of t knobs name program ns → a ≡ task_of t knobs own program ms
+pub task_shown : (t : Task) (knobs : Knobs) (name own : List ℕ) (program : Noted) (ns ms : List ℤ) (a : Answer) → name ≡ own → ns ≡ ms
+    → a ≡ task_of t knobs name program ns → a ≡ task_of t knobs own program ms
 task_shown t knobs name own program ns ms a same numbers is = is ∙ ap (λ n. task_of t knobs n program ns) same ∙ ap (task_of t knobs own program) numbers
 
 -- ---- a source
@@ -65,12 +64,15 @@ module _ (name bytes : List ℕ) (f g : FilesSeen) (r : FileRead) (read : r ≡ 
 
   pub source_goes : (program : Noted) → accepted bytes ≡ Ok program → GoesOn (source_plan name) f g program
   source_goes program is = record {
-    came = λ next last a c. read_on name most_of_source (λ source. if_accepted name next (accepted source)) f g last bytes a source_read.0 source_read.1 (rw is c);
+    came = λ next last a c. read_on name most_of_source (λ source. if_accepted name next (accepted source)) f g last bytes a source_read.0 source_read.1
+        (rw is c);
     starved = λ next last s. later name most_of_source (λ source. if_accepted name next (accepted source)) f g last bytes source_read.0 source_read.1 (rw is s);
   }
 
-  pub source_refused : (cause : Refusal) (a : Answer) → accepted bytes ≡ Err cause → a ≡ failed 1 (refusal_line name cause) → (next : Noted → Plan) → Came (source_plan name next) f g a
-  source_refused cause a is same next = read_on name most_of_source (λ source. if_accepted name next (accepted source)) f g g bytes a source_read.0 source_read.1 (rw is (came_answer _ a g same))
+  pub source_refused : (cause : Refusal) (a : Answer) → accepted bytes ≡ Err cause → a ≡ failed 1 (refusal_text name cause) → (next : Noted → Plan)
+      → Came (source_plan name next) f g a
+  source_refused cause a is same next = read_on name most_of_source (λ source. if_accepted name next (accepted source)) f g g bytes a source_read.0
+      source_read.1 (rw is (came_answer _ a g same))
 
   pub source_starved : (next : Noted → Plan) → Starved (source_plan name next) f g
   source_starved next = later name most_of_source (λ source. if_accepted name next (accepted source)) f g g bytes source_read.0 source_read.1 (at_once _ g)
@@ -79,18 +81,11 @@ pub source_untried : (name : List ℕ) (f g : FilesSeen) → TriesOnce f g → (
 source_untried name f g once next = at_read name most_of_source (λ source. if_accepted name next (accepted source)) f g once
 
 -- the source of this name was accepted
-pub source_accepted : (name own : List ℕ) (f g : FilesSeen) (r : SourceStep) (program : Noted) → name ≡ own → r ≡ source.Accepted program → SourceComes name f g r → GoesOn (source_plan own) f g program
+pub source_accepted : (name own : List ℕ) (f g : FilesSeen) (r : SourceStep) (program : Noted) → name ≡ own → r ≡ source.Accepted program
+    → SourceComes name f g r → GoesOn (source_plan own) f g program
 source_accepted name own f g r program same is comes = subst (λ n. GoesOn (source_plan n) f g program) same (subst (SourceComes name f g) is comes)
 
 -- ---- an input
-
--- a fault that is not want of memory is the one that the definition gives
-pub fails_so : {A : Type 0} (fault : InputFault) (defined : Result A InputFault) → fault ≢ Memory → Fails defined (told fault) → defined ≡ Err fault
-fails_so TooLong defined other h = h
-fails_so (NotNumber line) defined other h = h
-fails_so (OutOfRange line) defined other h = h
-fails_so TooMany defined other h = h
-fails_so Memory defined other h = absurd (other refl)
 
 pub no_input : (f : FilesSeen) → GoesOn (input_plan None) f f []
 no_input f = record { came = λ next last a c. c; starved = λ next last s. s }
@@ -105,14 +100,17 @@ module _ (name bytes : List ℕ) (f g : FilesSeen) (r : FileRead) (read : r ≡ 
     starved = λ next last s. later name most_of_input (λ text. if_numbers name next (numbers_of text)) f g last bytes input_read.0 input_read.1 (rw is s);
   }
 
-  pub input_refused : (fault : InputFault) (a : Answer) → numbers_of bytes ≡ Err fault → a ≡ failed 7 (input_text name fault) → (next : List ℤ → Plan) → Came (input_plan (Some name) next) f g a
-  input_refused fault a is same next = read_on name most_of_input (λ text. if_numbers name next (numbers_of text)) f g g bytes a input_read.0 input_read.1 (rw is (came_answer _ a g same))
+  pub input_refused : (fault : InputCause) (a : Answer) → numbers_of bytes ≡ Err fault → a ≡ failed 7 (input_cause_text name fault) → (next : List ℤ → Plan)
+      → Came (input_plan (Some name) next) f g a
+  input_refused fault a is same next = read_on name most_of_input (λ text. if_numbers name next (numbers_of text)) f g g bytes a input_read.0 input_read.1
+      (rw is (came_answer _ a g same))
 
   pub input_starved : (next : List ℤ → Plan) → Starved (input_plan (Some name) next) f g
   input_starved next = later name most_of_input (λ text. if_numbers name next (numbers_of text)) f g g bytes input_read.0 input_read.1 (at_once _ g)
 
 -- the input of this name, if there is one, is these numbers
-pub input_accepted : (name : Option (List ℕ)) (f g : FilesSeen) (r : InputStep) (ns : List ℤ) → r ≡ input.Numbers ns → InputComes name f g r → GoesOn (input_plan name) f g ns
+pub input_accepted : (name : Option (List ℕ)) (f g : FilesSeen) (r : InputStep) (ns : List ℤ) → r ≡ input.Numbers ns → InputComes name f g r
+    → GoesOn (input_plan name) f g ns
 input_accepted name f g r ns is comes = subst (InputComes name f g) is comes
 
 pub input_untried : (name : List ℕ) (f g : FilesSeen) → TriesOnce f g → (next : List ℤ → Plan) → Starved (input_plan (Some name) next) f g

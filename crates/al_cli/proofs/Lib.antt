@@ -3,3 +3,4 @@ pub mod Valid
 pub mod Comings
 pub mod Clauses
 mod LockstepRounds
+pub mod Promised

@@ -5,12 +5,12 @@ use Rattle.al_core.specs.declared.reports.Ending.{Ending}
 use Rattle.al_core.specs.declared.reports.Ending.TheVariants as ending
 use Rattle.al_rules.specs.Refusals.{Noted, accepted}
 use Rattle.al_gen.specs.Generated.{source as made_source, input as made_input}
-use Rattle.al_report.specs.Faults.{input_text}
+use Rattle.al_report.specs.Faults.{refusal_text, input_cause_text}
 use Rattle.al_rules.specs.declared.faults.Refusal.{Refusal}
-use Rattle.al_serve.specs.declared.answers.Answer.{Answer}
-use Rattle.al_serve.specs.Plans.{Plan, Reads, Answers, failed, ReadsInOrder, AllAnswers}
-use Rattle.al_serve.specs.Outcome.{IsOneOf}
-use Rattle.al_text.specs.declared.faults.InputFault.{InputFault}
+use Rattle.al_answers.specs.declared.answers.Answer.{Answer}
+use Rattle.al_answers.specs.Plans.{Plan, Reads, Answers, failed, ReadsInOrder, AllAnswers}
+use Rattle.al_answers.specs.Written.{IsOneOf}
+use Rattle.al_text.specs.declared.faults.InputCause.{InputCause}
 use Rattle.al_text.specs.Numbers.{numbers_of}
 use Rattle.al_words.specs.declared.command.Command.{Command}
 use Rattle.al_words.specs.declared.command.Command.TheVariants.{Run, Plain, Trace, Check, Demo}
@@ -19,14 +19,14 @@ use Rattle.al_words.specs.declared.command.WordFault.{WordFault}
 use Rattle.al_words.specs.Words.{command}
 use Rattle.al_cli.specs.declared.tasks.Task.{Task}
 use Rattle.al_cli.specs.declared.tasks.Task.TheVariants as task
-use Rattle.al_cli.specs.Lines.{word_line, refusal_line}
+use Rattle.al_cli.specs.Lines.{word_line}
 use Rattle.al_cli.specs.Shown.{lockstep_report, done, ended, totals_of, task_of, if_accepted, source_plan, if_numbers, input_plan, source_name, input_name, after_source, job_plan, check_plan, demo_plan, plan_of, plan, job_names, names_by, names_of}
 use Rattle.al_cli.specs.Why.{asks, ReadsSource, to_run, to_check, to_show, AreNumbers, Why, words_refused, source_refused, input_refused, program_run, program_accepted, program_shown}
 
 -- ---- parts of plans
 
 source_all : (P : Answer → Type 0) (name : List ℕ) (next : Noted → Plan)
-    → ((source : List ℕ) (cause : Refusal) → accepted source ≡ Err cause → P (failed 1 (refusal_line name cause)))
+    → ((source : List ℕ) (cause : Refusal) → accepted source ≡ Err cause → P (failed 1 (refusal_text name cause)))
     → ((source : List ℕ) (program : Noted) → accepted source ≡ Ok program → AllAnswers P (next program))
     → AllAnswers P (source_plan name next)
 source_all P name next refused on = λ source. by_result source (accepted source) refl
@@ -36,13 +36,13 @@ source_all P name next refused on = λ source. by_result source (accepted source
     by_result source (Err cause) e = refused source cause e
 
 input_all : (P : Answer → Type 0) (name : Option (List ℕ)) (next : List ℤ → Plan)
-    → ((n text : List ℕ) (fault : InputFault) → name ≡ Some n → numbers_of text ≡ Err fault → P (failed 7 (input_text n fault)))
+    → ((n text : List ℕ) (fault : InputCause) → name ≡ Some n → numbers_of text ≡ Err fault → P (failed 7 (input_cause_text n fault)))
     → ((input : List ℤ) → AreNumbers name input → AllAnswers P (next input))
     → AllAnswers P (input_plan name next)
 input_all P None next refused on = on [] refl
 input_all P (Some n) next refused on = λ text. by_result text (numbers_of text) refl
   where
-    by_result : (text : List ℕ) (r : Result (List ℤ) InputFault) → numbers_of text ≡ r → AllAnswers P (if_numbers n next r)
+    by_result : (text : List ℕ) (r : Result (List ℤ) InputCause) → numbers_of text ≡ r → AllAnswers P (if_numbers n next r)
     by_result text (Ok input) e = on input (text, e)
     by_result text (Err fault) e = refused n text fault refl e
 
@@ -51,15 +51,19 @@ input_all P (Some n) next refused on = λ text. by_result text (numbers_of text)
 module _ (words : List (List ℕ)) where
   job_why : (t : Task) (job : Job) → command words ≡ Ok (asks t job) → AllAnswers (Why words) (job_plan t words job)
   job_why t job e =
-      source_all (Why words) (source_name words job) (after_source t words job) (λ source cause h. source_refused (source_name words job) source cause (to_run t job e refl) h) (λ source program h.
-      input_all (Why words) (input_name words job) _ (λ n text fault is g. input_refused t job n text fault e is g) (λ input g. program_run t job source program input e h g))
+      source_all (Why words) (source_name words job) (after_source t words job)
+      (λ source cause h. source_refused (source_name words job) source cause (to_run t job e refl) h) (λ source program h.
+      input_all (Why words) (input_name words job) _ (λ n text fault is g. input_refused t job n text fault e is g)
+      (λ input g. program_run t job source program input e h g))
 
   check_why : (job : Job) → command words ≡ Ok (Check job) → AllAnswers (Why words) (check_plan words job)
   check_why job e =
-      source_all (Why words) (source_name words job) _ (λ source cause h. source_refused (source_name words job) source cause (to_check job e refl) h) (λ source program h. program_accepted job source program e h)
+      source_all (Why words) (source_name words job) _ (λ source cause h. source_refused (source_name words job) source cause (to_check job e refl) h)
+      (λ source program h. program_accepted job source program e h)
 
   demo_why : (start size : ℕ) (knobs : Knobs) → command words ≡ Ok (Demo start size knobs) → (r : Result Noted Refusal) → accepted made_source ≡ r
-      → AllAnswers (Why words) (if_accepted (codes "demo") (λ program. Answers (totals_of (codes "demo") (lockstep_report program (made_input start size) knobs))) r)
+      → AllAnswers (Why words)
+      (if_accepted (codes "demo") (λ program. Answers (totals_of (codes "demo") (lockstep_report program (made_input start size) knobs))) r)
   demo_why start size knobs e (Ok program) h = program_shown start size knobs program e h
   demo_why start size knobs e (Err cause) h = source_refused (codes "demo") made_source cause (to_show start size knobs e refl) h
 
@@ -85,12 +89,14 @@ ended_status : (name : List ℕ) (e : Ending) (out : List ℕ) → IsOneOf (0 �
 ended_status name ending.Done out = inl refl
 ended_status name (ending.Trap t line) out = inr (inl refl)
 
-pub task_status : (t : Task) (knobs : Knobs) (name : List ℕ) (program : Noted) (input : List ℤ) → IsOneOf (0 ∷ 3 ∷ []) (task_of t knobs name program input).status
+pub task_status : (t : Task) (knobs : Knobs) (name : List ℕ) (program : Noted) (input : List ℤ)
+    → IsOneOf (0 ∷ 3 ∷ []) (task_of t knobs name program input).status
 task_status task.Run knobs name program input = ended_status name _ _
 task_status task.Plain knobs name program input = ended_status name _ _
 task_status task.Trace knobs name program input = ended_status name _ _
 
-pub totals_status : (name : List ℕ) (program : Noted) (input : List ℤ) (knobs : Knobs) → IsOneOf (0 ∷ 3 ∷ []) (totals_of name (lockstep_report program input knobs)).status
+pub totals_status : (name : List ℕ) (program : Noted) (input : List ℤ) (knobs : Knobs)
+    → IsOneOf (0 ∷ 3 ∷ []) (totals_of name (lockstep_report program input knobs)).status
 totals_status name program input knobs = ended_status name _ _
 
 of_run : (n : ℕ) → IsOneOf (0 ∷ 3 ∷ []) n → IsOneOf (0 ∷ 1 ∷ 2 ∷ 3 ∷ 7 ∷ []) n
@@ -111,27 +117,30 @@ own_statuses words = weaker (Why words) _ (why_status words) (plan words) (every
 
 -- ---- the order of reads
 
-source_order : (name : List ℕ) (names : List (List ℕ)) (next : Noted → Plan) → ((program : Noted) → ReadsInOrder names (next program)) → ReadsInOrder (name ∷ names) (source_plan name next)
+source_order : (name : List ℕ) (names : List (List ℕ)) (next : Noted → Plan) → ((program : Noted) → ReadsInOrder names (next program))
+    → ReadsInOrder (name ∷ names) (source_plan name next)
 source_order name names next on = (refl, λ source. by_result (accepted source))
   where
     by_result : (r : Result Noted Refusal) → ReadsInOrder names (if_accepted name next r)
     by_result (Ok program) = on program
     by_result (Err cause) = none names
       where
-        none : (ns : List (List ℕ)) → ReadsInOrder ns (Answers (failed 1 (refusal_line name cause)))
+        none : (ns : List (List ℕ)) → ReadsInOrder ns (Answers (failed 1 (refusal_text name cause)))
         none [] = tt
         none (n ∷ ns) = tt
 
-input_order : (r : Option (List ℕ)) (f : List ℤ → Answer) → ReadsInOrder (elim r [ Some name ↦ name ∷ [] | None ↦ [] ]) (input_plan r (λ input. Answers (f input)))
+input_order : (r : Option (List ℕ)) (f : List ℤ → Answer)
+    → ReadsInOrder (elim r [ Some name ↦ name ∷ [] | None ↦ [] ]) (input_plan r (λ input. Answers (f input)))
 input_order None f = tt
 input_order (Some name) f = (refl, λ text. by_result (numbers_of text))
   where
-    by_result : (r : Result (List ℤ) InputFault) → ReadsInOrder [] (if_numbers name (λ input. Answers (f input)) r)
+    by_result : (r : Result (List ℤ) InputCause) → ReadsInOrder [] (if_numbers name (λ input. Answers (f input)) r)
     by_result (Ok input) = tt
     by_result (Err fault) = tt
 
 job_order : (t : Task) (words : List (List ℕ)) (job : Job) → ReadsInOrder (job_names words job) (job_plan t words job)
-job_order t words job = source_order (source_name words job) _ (after_source t words job) (λ program. input_order (input_name words job) (task_of t job.knobs (source_name words job) program))
+job_order t words job = source_order (source_name words job) _ (after_source t words job)
+    (λ program. input_order (input_name words job) (task_of t job.knobs (source_name words job) program))
 
 demo_order : (start size : ℕ) (knobs : Knobs) (r : Result Noted Refusal)
     → ReadsInOrder [] (if_accepted (codes "demo") (λ program. Answers (totals_of (codes "demo") (lockstep_report program (made_input start size) knobs))) r)

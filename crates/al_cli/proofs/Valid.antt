@@ -5,11 +5,11 @@ use Rattle.al_source.specs.declared.limits.TheConstants.{SOURCE_BYTES, INPUT_BYT
 use Rattle.al_rules.specs.Refusals.{Noted, accepted}
 use Rattle.al_io.specs.Contents.{Contents, contents_of}
 use Rattle.al_rules.specs.declared.faults.Refusal.TheVariants.{Lexical}
-use Rattle.al_source.specs.declared.faults.LexFault.TheVariants as lex
-use Rattle.al_serve.specs.declared.answers.Answer.{Answer}
-use Rattle.al_serve.specs.Plans.{Plan, Answers, played}
-use Rattle.al_serve.specs.Outcome.{IsOneOf, Writes}
-use Rattle.al_text.specs.declared.faults.InputFault.TheVariants.{TooLong}
+use Rattle.al_rules.specs.declared.faults.LexicalCause.TheVariants as lex
+use Rattle.al_answers.specs.declared.answers.Answer.{Answer}
+use Rattle.al_answers.specs.Plans.{Plan, Answers, played}
+use Rattle.al_answers.specs.Written.{IsOneOf, Writes}
+use Rattle.al_text.specs.declared.faults.InputCause.TheVariants.{TooLong}
 use Rattle.al_text.specs.Numbers.{numbers_of}
 use Rattle.al_words.specs.declared.command.Job.{Job}
 use Rattle.al_words.specs.Words.{command}
@@ -29,7 +29,8 @@ long_source : (source : List ℕ) → SOURCE_BYTES < length source → accepted 
 unfolding accepted
 long_source source h = let long : nat_lt SOURCE_BYTES (length source) ≡ true = search (rules, h) in rw long refl
 
-source_by_length : (source : List ℕ) → (length source ≤ most_of_source) ⊎ (most_of_source < length source) → accepted (take most_of_source source) ≡ accepted source
+source_by_length : (source : List ℕ) → (length source ≤ most_of_source) ⊎ (most_of_source < length source)
+    → accepted (take most_of_source source) ≡ accepted source
 source_by_length source (inl few) = rw (take_all most_of_source source few) refl
 source_by_length source (inr many) =
     let cut : SOURCE_BYTES < length (take most_of_source source) = rw (length-take most_of_source source) (omega arith) in
@@ -52,10 +53,12 @@ same_input text = input_by_length text (le_or_lt (length text) most_of_input)
 
 -- ---- plans over these files
 
-source_played : (files : Contents) (name source : List ℕ) (program : Noted) (next : Noted → Plan) → contents_of files name ≡ Some source → accepted source ≡ Ok program → played files (source_plan name next) ≡ played files (next program)
+source_played : (files : Contents) (name source : List ℕ) (program : Noted) (next : Noted → Plan) → contents_of files name ≡ Some source
+    → accepted source ≡ Ok program → played files (source_plan name next) ≡ played files (next program)
 source_played files name source program next there is = rw (there, same_source source, is) refl
 
-input_played : (files : Contents) (r : Option (List ℕ)) (input : List ℤ) (f : List ℤ → Answer) → HasInput files r input → played files (input_plan r (λ ns. Answers (f ns))) ≡ f input
+input_played : (files : Contents) (r : Option (List ℕ)) (input : List ℤ) (f : List ℤ → Answer) → HasInput files r input
+    → played files (input_plan r (λ ns. Answers (f ns))) ≡ f input
 input_played files None input f h = ap f (sym h)
 input_played files (Some name) input f h = rw (h.1, same_input h.0, h.2) refl
 
@@ -68,7 +71,8 @@ shown_by : (words : List (List ℕ)) (files : Contents) → shown words files �
 unfolding plan
 shown_by words files = refl
 
-pub holds_shows : (words : List (List ℕ)) (files : Contents) (t : Task) (job : Job) (program : Noted) (input : List ℤ) → command words ≡ Ok (asks t job) → Holds words files job program input
+pub holds_shows : (words : List (List ℕ)) (files : Contents) (t : Task) (job : Job) (program : Noted) (input : List ℤ) → command words ≡ Ok (asks t job)
+    → Holds words files job program input
     → shown words files ≡ task_of t job.knobs (source_name words job) program input
 holds_shows words files t job program input e h =
     shown_by words files
@@ -78,7 +82,8 @@ holds_shows words files t job program input e h =
     ∙ input_played files (input_name words job) input (task_of t job.knobs (source_name words job) program) h.has_input
 
 pub valid_status : (words : List (List ℕ)) (files : Contents) → IsValid words files → IsOneOf (0 ∷ 3 ∷ []) (shown words files).status
-valid_status words files (to_run t job program input e h) = subst (λ (a : Answer). IsOneOf (0 ∷ 3 ∷ []) a.status) (sym (holds_shows words files t job program input e h)) (task_status t job.knobs (source_name words job) program input)
+valid_status words files (to_run t job program input e h) = subst (λ (a : Answer). IsOneOf (0 ∷ 3 ∷ []) a.status)
+    (sym (holds_shows words files t job program input e h)) (task_status t job.knobs (source_name words job) program input)
 valid_status words files (to_check job source program e there is) =
     let same = shown_by words files ∙ ap (λ r. played files (plan_of words r)) e ∙ source_played files (source_name words job) source program _ there is in
     inl (ap (λ (a : Answer). a.status) same)

@@ -18,7 +18,8 @@ HasInput files None input = input ≡ []
 HasInput files (Some name) input = (text : List ℕ) × (contents_of files name ≡ Some text) × (numbers_of text ≡ Ok input)
 
 -- The files hold the source of an accepted program, and an input that is a list of numbers.
-pub record Holds (words : List (List ℕ)) (files : Contents) (job : Job) (program : Noted) (input : List ℤ) : Type 0 where
+pub record Holds (words : List (List ℕ)) (files : Contents) (job : Job) (program : Noted)
+    (input : List ℤ) : Type 0 where
   pub source : List ℕ
   pub there : contents_of files (source_name words job) ≡ Some source
   pub is_accepted : accepted source ≡ Ok program
@@ -26,7 +27,10 @@ pub record Holds (words : List (List ℕ)) (files : Contents) (job : Job) (progr
 
 -- Words, source and input are valid: what they ask for is done.
 pub data IsValid (words : List (List ℕ)) (files : Contents) : Type 0 where
-  to_run : (t : Task) (job : Job) (program : Noted) (input : List ℤ) → command words ≡ Ok (asks t job) → Holds words files job program input → IsValid words files
-  to_check : (job : Job) (source : List ℕ) (program : Noted) → command words ≡ Ok (Check job) → contents_of files (source_name words job) ≡ Some source → accepted source ≡ Ok program → IsValid words files
+  to_run : (t : Task) (job : Job) (program : Noted) (input : List ℤ) → command words ≡ Ok (asks t job)
+      → Holds words files job program input → IsValid words files
+  to_check : (job : Job) (source : List ℕ) (program : Noted) → command words ≡ Ok (Check job)
+      → contents_of files (source_name words job) ≡ Some source → accepted source ≡ Ok program → IsValid words files
   -- that the generated program is accepted is a premise
-  to_show : (start size : ℕ) (knobs : Knobs) (program : Noted) → command words ≡ Ok (Demo start size knobs) → accepted made_source ≡ Ok program → IsValid words files
+  to_show : (start size : ℕ) (knobs : Knobs) (program : Noted) → command words ≡ Ok (Demo start size knobs)
+      → accepted made_source ≡ Ok program → IsValid words files

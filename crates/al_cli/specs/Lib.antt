@@ -3,3 +3,5 @@ pub mod Shown
 pub mod Steps
 pub mod Why
 pub mod Headline
+pub mod Promises
+pub mod Endings

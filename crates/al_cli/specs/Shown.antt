@@ -14,11 +14,11 @@ use Rattle.al_core.specs.Report.{report}
 use Rattle.al_gen.specs.Generated.{source as made_source, input as made_input}
 use Rattle.al_io.specs.Contents.{Contents}
 use Rattle.al_report.specs.Traces.{trace_text, totals_text, trap_text}
-use Rattle.al_report.specs.Faults.{input_text}
+use Rattle.al_report.specs.Faults.{refusal_text, input_cause_text}
 use Rattle.al_rules.specs.declared.faults.Refusal.{Refusal}
-use Rattle.al_serve.specs.declared.answers.Answer.{Answer}
-use Rattle.al_serve.specs.Plans.{Plan, Reads, Answers, failed, played}
-use Rattle.al_text.specs.declared.faults.InputFault.{InputFault}
+use Rattle.al_answers.specs.declared.answers.Answer.{Answer}
+use Rattle.al_answers.specs.Plans.{Plan, Reads, Answers, failed, played}
+use Rattle.al_text.specs.declared.faults.InputCause.{InputCause}
 use Rattle.al_text.specs.Numbers.{numbers_of}
 use Rattle.al_words.specs.declared.command.Command.{Command}
 use Rattle.al_words.specs.declared.command.Command.TheVariants.{Run, Plain, Trace, Check, Demo}
@@ -27,7 +27,7 @@ use Rattle.al_words.specs.declared.command.WordFault.{WordFault}
 use Rattle.al_words.specs.Words.{command, word_at, place}
 use Rattle.al_cli.specs.declared.tasks.Task.{Task}
 use Rattle.al_cli.specs.declared.tasks.Task.TheVariants as task
-use Rattle.al_cli.specs.Lines.{word_line, refusal_line}
+use Rattle.al_cli.specs.Lines.{word_line}
 
 -- ---- runs
 
@@ -84,15 +84,15 @@ most_of_input = INPUT_BYTES + 1
 
 abbrev pub if_accepted : List ℕ → (Noted → Plan) → Result Noted Refusal → Plan
 if_accepted name next (Ok program) = next program
-if_accepted name next (Err cause) = Answers (failed 1 (refusal_line name cause))
+if_accepted name next (Err cause) = Answers (failed 1 (refusal_text name cause))
 
 -- A source is read, and refused or gone on with.
 abbrev pub source_plan : List ℕ → (Noted → Plan) → Plan
 source_plan name next = Reads name most_of_source (λ source. if_accepted name next (accepted source))
 
-abbrev pub if_numbers : List ℕ → (List ℤ → Plan) → Result (List ℤ) InputFault → Plan
+abbrev pub if_numbers : List ℕ → (List ℤ → Plan) → Result (List ℤ) InputCause → Plan
 if_numbers name next (Ok input) = next input
-if_numbers name next (Err fault) = Answers (failed 7 (input_text name fault))
+if_numbers name next (Err fault) = Answers (failed 7 (input_cause_text name fault))
 
 -- no input means no numbers
 abbrev pub input_plan : Option (List ℕ) → (List ℤ → Plan) → Plan
@@ -119,7 +119,9 @@ check_plan words job = source_plan (source_name words job) (λ program. Answers 
 -- the generated program, by the name `demo`
 abbrev pub demo_plan : ℕ → ℕ → Knobs → Plan
 demo_plan start size knobs =
-    if_accepted (codes "demo") (λ program. Answers (totals_of (codes "demo") (lockstep_report program (made_input start size) knobs))) (accepted made_source)
+    if_accepted (codes "demo")
+    (λ program. Answers (totals_of (codes "demo") (lockstep_report program (made_input start size) knobs)))
+    (accepted made_source)
 
 abbrev pub plan_of : List (List ℕ) → Result Command WordFault → Plan
 plan_of words (Ok (Run job)) = job_plan task.Run words job

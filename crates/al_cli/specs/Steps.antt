@@ -1,10 +1,10 @@
 -- A part of a plan: what it gives, and that whatever comes next comes of the whole.
 use Rattle.std.specs.Prelude.{ℕ, List, Option, ℤ}
 use Rattle.al_rules.specs.Refusals.{Noted}
-use Rattle.al_serve.specs.declared.answers.Answer.{Answer}
-use Rattle.al_serve.specs.Plans.{Plan}
-use Rattle.al_serve.specs.Seen.{FilesSeen}
-use Rattle.al_serve.specs.Outcome.{Came, Starved}
+use Rattle.al_answers.specs.declared.answers.Answer.{Answer}
+use Rattle.al_answers.specs.Plans.{Plan}
+use Rattle.al_answers.specs.Seen.{FilesSeen}
+use Rattle.al_answers.specs.Outcome.{Came, Starved}
 use Rattle.al_cli.specs.declared.reading.SourceStep.{SourceStep}
 use Rattle.al_cli.specs.declared.reading.SourceStep.TheVariants as source
 use Rattle.al_cli.specs.declared.reading.InputStep.{InputStep}
@@ -12,7 +12,8 @@ use Rattle.al_cli.specs.declared.reading.InputStep.TheVariants as input
 use Rattle.al_cli.specs.Shown.{source_plan, input_plan}
 
 pub record GoesOn {A : Type 0} (whole : (A → Plan) → Plan) (old new : FilesSeen) (a : A) : Type 0 where
-  pub came : (next : A → Plan) (last : FilesSeen) (answer : Answer) → Came (next a) new last answer → Came (whole next) old last answer
+  pub came : (next : A → Plan) (last : FilesSeen) (answer : Answer) → Came (next a) new last answer
+      → Came (whole next) old last answer
   pub starved : (next : A → Plan) (last : FilesSeen) → Starved (next a) new last → Starved (whole next) old last
 
 abbrev pub SourceComes : List ℕ → FilesSeen → FilesSeen → SourceStep → Type 0

@@ -3,11 +3,11 @@ use Rattle.std.specs.Prelude.{◌≡◌, ℕ, List, [], codes, Option, Some, Non
 use Rattle.al_core.specs.declared.choices.Knobs.{Knobs}
 use Rattle.al_rules.specs.Refusals.{Noted, accepted}
 use Rattle.al_gen.specs.Generated.{source as made_source, input as made_input}
-use Rattle.al_report.specs.Faults.{input_text}
+use Rattle.al_report.specs.Faults.{refusal_text, input_cause_text}
 use Rattle.al_rules.specs.declared.faults.Refusal.{Refusal}
-use Rattle.al_serve.specs.declared.answers.Answer.{Answer}
-use Rattle.al_serve.specs.Plans.{failed}
-use Rattle.al_text.specs.declared.faults.InputFault.{InputFault}
+use Rattle.al_answers.specs.declared.answers.Answer.{Answer}
+use Rattle.al_answers.specs.Plans.{failed}
+use Rattle.al_text.specs.declared.faults.InputCause.{InputCause}
 use Rattle.al_text.specs.Numbers.{numbers_of}
 use Rattle.al_words.specs.declared.command.Command.{Command}
 use Rattle.al_words.specs.declared.command.Command.TheVariants.{Run, Plain, Trace, Check, Demo}
@@ -16,7 +16,7 @@ use Rattle.al_words.specs.declared.command.WordFault.{WordFault}
 use Rattle.al_words.specs.Words.{command}
 use Rattle.al_cli.specs.declared.tasks.Task.{Task}
 use Rattle.al_cli.specs.declared.tasks.Task.TheVariants as task
-use Rattle.al_cli.specs.Lines.{word_line, refusal_line}
+use Rattle.al_cli.specs.Lines.{word_line}
 use Rattle.al_cli.specs.Shown.{lockstep_report, done, totals_of, task_of, source_name, input_name}
 
 -- the command of a task
@@ -27,9 +27,11 @@ asks task.Trace job = Trace job
 
 -- a command reads a source of this name
 pub data ReadsSource (words : List (List ℕ)) (name : List ℕ) : Type 0 where
-  to_run : (t : Task) (job : Job) → command words ≡ Ok (asks t job) → name ≡ source_name words job → ReadsSource words name
+  to_run : (t : Task) (job : Job) → command words ≡ Ok (asks t job) → name ≡ source_name words job
+      → ReadsSource words name
   to_check : (job : Job) → command words ≡ Ok (Check job) → name ≡ source_name words job → ReadsSource words name
-  to_show : (start size : ℕ) (knobs : Knobs) → command words ≡ Ok (Demo start size knobs) → name ≡ codes "demo" → ReadsSource words name
+  to_show : (start size : ℕ) (knobs : Knobs) → command words ≡ Ok (Demo start size knobs) → name ≡ codes "demo"
+      → ReadsSource words name
 
 -- the numbers of an input, if there is one
 abbrev pub AreNumbers : Option (List ℕ) → List ℤ → Type 0
@@ -40,15 +42,20 @@ pub data Why (words : List (List ℕ)) : Answer → Type 0 where
   -- status 2: the words are refused
   words_refused : (fault : WordFault) → command words ≡ Err fault → Why words (failed 2 (word_line words fault))
   -- status 1: the source is refused
-  source_refused : (name source : List ℕ) (cause : Refusal) → ReadsSource words name → accepted source ≡ Err cause → Why words (failed 1 (refusal_line name cause))
+  source_refused : (name source : List ℕ) (cause : Refusal) → ReadsSource words name → accepted source ≡ Err cause
+      → Why words (failed 1 (refusal_text name cause))
   -- status 7: the input is refused
-  input_refused : (t : Task) (job : Job) (name text : List ℕ) (fault : InputFault) → command words ≡ Ok (asks t job) → input_name words job ≡ Some name → numbers_of text ≡ Err fault
-      → Why words (failed 7 (input_text name fault))
+  input_refused : (t : Task) (job : Job) (name text : List ℕ) (fault : InputCause) → command words ≡ Ok (asks t job)
+      → input_name words job ≡ Some name → numbers_of text ≡ Err fault
+      → Why words (failed 7 (input_cause_text name fault))
   -- status 0 or 3: the program was run
-  program_run : (t : Task) (job : Job) (source : List ℕ) (program : Noted) (input : List ℤ) → command words ≡ Ok (asks t job) → accepted source ≡ Ok program → AreNumbers (input_name words job) input
+  program_run : (t : Task) (job : Job) (source : List ℕ) (program : Noted) (input : List ℤ)
+      → command words ≡ Ok (asks t job) → accepted source ≡ Ok program → AreNumbers (input_name words job) input
       → Why words (task_of t job.knobs (source_name words job) program input)
   -- status 0: the program is accepted
-  program_accepted : (job : Job) (source : List ℕ) (program : Noted) → command words ≡ Ok (Check job) → accepted source ≡ Ok program → Why words (done (codes "ok\n"))
+  program_accepted : (job : Job) (source : List ℕ) (program : Noted) → command words ≡ Ok (Check job)
+      → accepted source ≡ Ok program → Why words (done (codes "ok\n"))
   -- status 0 or 3: the generated program was run
-  program_shown : (start size : ℕ) (knobs : Knobs) (program : Noted) → command words ≡ Ok (Demo start size knobs) → accepted made_source ≡ Ok program
+  program_shown : (start size : ℕ) (knobs : Knobs) (program : Noted) → command words ≡ Ok (Demo start size knobs)
+      → accepted made_source ≡ Ok program
       → Why words (totals_of (codes "demo") (lockstep_report program (made_input start size) knobs))

@@ -1,6 +1,7 @@
 //! The command line: what words ask for, what is read, and what is written.
 #![tactic(auto)]
 
+mod entry;
 mod lines;
 mod reading;
 mod runs;
@@ -9,6 +10,7 @@ mod tasks;
 mod top_call;
 
 pub use al_words::{Command, Job, WordFault, read_words};
+pub use entry::{NoWords, program, words};
 pub use top_call::alter;
 
 #[cfg(test)]

@@ -1,12 +1,9 @@
 ghost use Rattle.std.specs.Prelude.{◌≡◌, map, string_bytes, IfOk};
 ghost use Rattle.al_cli.specs.Lines as spec;
-ghost use Rattle.al_front.specs.Answers.{IsCause};
 ghost use Rattle.al_words.specs.declared.command.WordFault.TheVariants.{BadValue};
 ghost use Rattle.al_words.specs.Words as words_spec;
 
-use al_report::{layout_text, lex_text, lower_text, note_text, parse_text, type_text};
-use al_rules::Refusal;
-use al_serve::line;
+use al_answers::line;
 use al_words::WordFault;
 use sqlite_items::Items;
 use std::alloc::{AllocError, Global};
@@ -68,20 +65,5 @@ pub fn word_at(words: &[String], at: u64) -> &str
     match words.get(at as usize) {
         Some(word) => word.as_str(),
         None => "",
-    }
-}
-
-/// The line of a refused source.
-pub fn refusal_line(alloc: Global, name: &str, cause: Refusal) -> Result<Items<u8>, AllocError>
-    requires { IsCause cause }
-    ensures { IfOk result (λ l. l ≡ spec.refusal_line name.now cause) }
-{
-    match cause {
-        Refusal::Lexical(fault) => lex_text(alloc, name, &fault),
-        Refusal::Grammar(fault) => parse_text(alloc, name, &fault),
-        Refusal::Layout(fault) => layout_text(alloc, name, &fault),
-        Refusal::Types(fault) => type_text(alloc, name, &fault),
-        Refusal::Notes(fault) => note_text(alloc, name, &fault),
-        Refusal::Lowering(fault) => lower_text(alloc, name, &fault),
     }
 }

@@ -1,16 +1,16 @@
 //! The source and the input of a command: each is read, and refused or gone on with.
 ghost use Rattle.std.specs.Prelude.{◌≡◌, map, string_bytes, IfOk, OnErr};
-ghost use Rattle.al_serve.specs.Seen.{files_seen};
+ghost use Rattle.al_answers.specs.Seen.{files_seen};
 ghost use Rattle.al_cli.specs.Shown as spec;
 ghost use Rattle.al_cli.specs.Steps.{SourceComes, SourceStarved, InputComes, InputStarved};
 
-use crate::lines::{refusal_line, word_at};
+use crate::lines::word_at;
+use al_answers::{Answer, FileRead, Status, failed, read_file};
 use al_front::{FrontFault, Noted, resolve};
 use al_io::Files;
-use al_report::input_text;
-use al_serve::{Answer, FileRead, failed, read_file};
+use al_report::{input_cause_text, refusal_text};
 use al_source::limits::{INPUT_BYTES, SOURCE_BYTES};
-use al_text::{InputFault, read_numbers};
+use al_text::read_numbers;
 use al_words::Job;
 use sqlite_items::Items;
 use std::alloc::{AllocError, Global};
@@ -20,10 +20,6 @@ const MOST_OF_SOURCE: usize = SOURCE_BYTES + 1;
 
 /// One byte more than an input may have.
 const MOST_OF_INPUT: usize = INPUT_BYTES + 1;
-
-const REFUSED: u8 = 1;
-
-const INPUT_REFUSED: u8 = 7;
 
 /// What a source comes to.
 #[derive(Drop)]
@@ -65,8 +61,8 @@ pub fn source_step<F: Files>(
     match resolve(alloc, source.as_slice()) {
         Ok(program) => Ok(SourceStep::Accepted(program)),
         Err(FrontFault::Refused(cause)) => {
-            let line = refusal_line(alloc, name, cause)?;
-            Ok(SourceStep::Answered(failed(alloc, REFUSED, line)))
+            let line = refusal_text(alloc, name, cause)?;
+            Ok(SourceStep::Answered(failed(alloc, Status::ProgramRefused, line)))
         }
         Err(FrontFault::Memory) => Err(AllocError),
     }
@@ -104,10 +100,12 @@ fn numbers_of<F: Files>(alloc: Global, name: &str, files: &mut F) -> Result<Inpu
     };
     match read_numbers(alloc, text.as_slice()) {
         Ok(input) => Ok(InputStep::Numbers(input)),
-        Err(InputFault::Memory) => Err(AllocError),
-        Err(fault) => {
-            let line = input_text(alloc, name, &fault)?;
-            Ok(InputStep::Answered(failed(alloc, INPUT_REFUSED, line)))
-        }
+        Err(fault) => match fault.cause() {
+            Some(cause) => {
+                let line = input_cause_text(alloc, name, cause)?;
+                Ok(InputStep::Answered(failed(alloc, Status::InputRefused, line)))
+            }
+            None => Err(AllocError),
+        },
     }
 }

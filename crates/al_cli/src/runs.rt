@@ -3,26 +3,19 @@ ghost use Rattle.std.specs.Prelude.{◌≡◌, IfOk, codes, false, map};
 ghost use Rattle.al_core.specs.Limits.{AreInRange};
 ghost use Rattle.al_core.specs.Lines.{with_line};
 ghost use Rattle.al_core.specs.Report.{watched};
-ghost use Rattle.al_serve.specs.Plans.{Answers};
+ghost use Rattle.al_answers.specs.Plans.{Answers};
 ghost use Rattle.al_words.specs.Ranges.{IsDemo};
 ghost use Rattle.al_cli.specs.Shown as spec;
 
-use crate::lines::refusal_line;
 use crate::tasks::Task;
+use al_answers::{Answer, Status, failed};
 use al_core::{Choice, Ending, Knobs, Report};
 use al_front::{FrontFault, Noted, resolve};
 use al_gen::make;
 use al_plain::runs::run;
-use al_report::{totals_text, trace_text, trap_text};
-use al_serve::{Answer, failed};
+use al_report::{refusal_text, totals_text, trace_text, trap_text};
 use sqlite_items::Items;
 use std::alloc::{AllocError, Global};
-
-const DONE: u8 = 0;
-
-const REFUSED: u8 = 1;
-
-const TRAPPED: u8 = 3;
 
 /// What is written of a run with these numbers.
 pub fn task_of(
@@ -63,8 +56,8 @@ pub fn demo_of(alloc: Global, start: u32, size: u32, knobs: &Knobs) -> Result<An
     match resolve(alloc, made.source.as_slice()) {
         Ok(program) => shown_of(alloc, &program, made.input.as_slice(), knobs),
         Err(FrontFault::Refused(cause)) => {
-            let line = refusal_line(alloc, "demo", cause)?;
-            Ok(failed(alloc, REFUSED, line))
+            let line = refusal_text(alloc, "demo", cause)?;
+            Ok(failed(alloc, Status::ProgramRefused, line))
         }
         Err(FrontFault::Memory) => Err(AllocError),
     }
@@ -78,7 +71,8 @@ fn shown_of(
     knobs: &Knobs,
 ) -> Result<Answer, AllocError>
     requires { AreInRange knobs.now }
-    ensures { IfOk result (λ a. a ≡ spec.totals_of (codes "demo") (spec.lockstep_report program.now input.now knobs.now)) }
+    ensures { IfOk result
+        (λ a. a ≡ spec.totals_of (codes "demo") (spec.lockstep_report program.now input.now knobs.now)) }
 {
     let report = in_lockstep(alloc, program, input, knobs, false)?;
     let totals = totals_text(alloc, &report)?;
@@ -93,12 +87,12 @@ fn ended(alloc: Global, name: &str, ending: Ending, out: Items<u8>) -> Result<An
 {
     match ending {
         Ending::Done => Ok(Answer {
-            status: DONE,
+            status: Status::Done.code(),
             out,
             err: Items::new(alloc),
         }),
         Ending::Trap(trap, line) => Ok(Answer {
-            status: TRAPPED,
+            status: Status::Trapped.code(),
             out,
             err: trap_text(alloc, name, trap, line)?,
         }),

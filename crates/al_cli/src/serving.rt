@@ -1,10 +1,10 @@
-//! What a call of `alter` does: it reads, gathers what is to be written, and writes it.
+//! All that a call of `alter` does before it writes: it reads, and gathers what is to be written.
 ghost use Rattle.std.specs.Prelude.{◌≡◌, ◌<◌, ◌≤◌, map, string_bytes, IfOk, OnErr, Some, None};
 ghost use Rattle.al_core.specs.Limits.{AreInRange};
 ghost use Rattle.al_rules.specs.Refusals.{accepted};
-ghost use Rattle.al_serve.specs.Plans.{failed as spec_failed};
-ghost use Rattle.al_serve.specs.Outcome.{Came, Starved, Outcome};
-ghost use Rattle.al_serve.specs.Seen.{files_seen, sink_seen};
+ghost use Rattle.al_answers.specs.Plans.{failed as spec_failed};
+ghost use Rattle.al_answers.specs.Outcome.{Came, Starved};
+ghost use Rattle.al_answers.specs.Seen.{files_seen};
 ghost use Rattle.al_words.specs.Ranges.{IsDemo};
 ghost use Rattle.al_cli.specs.Lines as line_spec;
 ghost use Rattle.al_cli.specs.Shown as spec;
@@ -13,40 +13,17 @@ use crate::lines::word_line;
 use crate::reading::{InputStep, SourceStep, input_step, source_name, source_step};
 use crate::runs::{demo_of, task_of};
 use crate::tasks::Task;
+use al_answers::{Answer, Status, failed};
 use al_core::Knobs;
 use al_front::Noted;
-use al_io::{Files, Sink};
-use al_serve::{Answer, deliver, failed};
+use al_io::Files;
 use al_words::{Command, Job, WordFault, read_words};
 use sqlite_items::Items;
 use std::alloc::{AllocError, Global};
 
-const WORDS_REFUSED: u8 = 2;
-
-const NO_MEMORY: u8 = 6;
-
-/// All of `alter`.
-pub fn serve<F: Files, O: Sink, E: Sink>(
-    alloc: Global,
-    words: &[String],
-    files: &mut F,
-    out: &mut O,
-    err: &mut E,
-) -> u8
-    ensures { Outcome (spec.plan (map string_bytes words.now))
-        (files_seen F.contents F.calls F.faults files.old) (files_seen F.contents F.calls F.faults files.new)
-        (sink_seen O.written O.calls O.faults out.old) (sink_seen O.written O.calls O.faults out.new)
-        (sink_seen E.written E.calls E.faults err.old) (sink_seen E.written E.calls E.faults err.new) result }
-{
-    match answer_of(alloc, words, files) {
-        Ok(answer) => deliver(&answer, out, err),
-        Err(_) => NO_MEMORY,
-    }
-}
-
-/// What is to be written for these words.
+/// What is to be written for these words: all that `alter` does before its puts.
 #[tactic(auto, unfolding(crate::specs::Shown::plan))]
-fn answer_of<F: Files>(alloc: Global, words: &[String], files: &mut F) -> Result<Answer, AllocError>
+pub fn serve<F: Files>(alloc: Global, words: &[String], files: &mut F) -> Result<Answer, AllocError>
     ensures ok { IfOk result (Came (spec.plan (map string_bytes words.now))
         (files_seen F.contents F.calls F.faults files.old) (files_seen F.contents F.calls F.faults files.new)) }
     ensures err { OnErr result (Starved (spec.plan (map string_bytes words.now))
@@ -65,7 +42,7 @@ fn answer_of<F: Files>(alloc: Global, words: &[String], files: &mut F) -> Result
 fn words_refused(alloc: Global, words: &[String], fault: WordFault) -> Result<Answer, AllocError>
     ensures { IfOk result (λ a. a ≡ spec_failed 2 (line_spec.word_line (map string_bytes words.now) fault)) }
 {
-    Ok(failed(alloc, WORDS_REFUSED, word_line(alloc, words, fault)?))
+    Ok(failed(alloc, Status::WordsRefused, word_line(alloc, words, fault)?))
 }
 
 /// The answer of a command that runs a program.
@@ -136,7 +113,7 @@ fn done(alloc: Global, out: &[u8]) -> Result<Answer, AllocError>
     ensures { IfOk result (λ a. a ≡ spec.done out.now) }
 {
     Ok(Answer {
-        status: 0,
+        status: Status::Done.code(),
         out: Items::from_slice(alloc, out)?,
         err: Items::new(alloc),
     })

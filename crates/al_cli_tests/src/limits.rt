@@ -95,7 +95,8 @@ fn the_operators_of_an_expression(rt: HostRuntime) -> Result<(), Fail> {
 /// A program whose calls go so deep.
 fn deep(alloc: Global, depth: u32) -> Result<String, AllocError> {
     format!(in alloc;
-        "long f(long n) {{ if (n == 0) return 0; return f(n - 1); }}\nint main(void) {{ printf(\"%ld\\n\", f({depth})); }}\n"
+        "long f(long n) {{ if (n == 0) return 0; return f(n - 1); }}\nint main(void) {{ printf(\"%ld\\n\
+        \", f({depth})); }}\n"
     )
 }
 

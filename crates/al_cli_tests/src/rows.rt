@@ -129,7 +129,8 @@ fn chunks_that_read_what_others_write(rt: HostRuntime) -> Result<(), Fail> {
         (
             "trace p4.c --lanes 2 --chunk 1",
             0,
-            "loop 0 execution 0 line 5 trips 2 chunks 2\nround 0: 0 commit, 1 fail\nround 1: 1 commit\nend done\nloops 1 rounds 2 attempts 3 aborted 1 span 13\n",
+            "loop 0 execution 0 line 5 trips 2 chunks 2\nround 0: 0 commit, 1 fail\nround 1: 1 commit\n\
+            end done\nloops 1 rounds 2 attempts 3 aborted 1 span 13\n",
             "",
         ),
         ("plain p4.c", 0, "1 2\n", ""),
@@ -173,7 +174,8 @@ fn orders_of_commit(rt: HostRuntime) -> Result<(), Fail> {
     let whole: Row = (
         "trace p5.c --chunk 100 --lanes 64",
         0,
-        "loop 0 execution 0 line 5 trips 3 chunks 1\nround 0: 0 commit\nend done\nloops 1 rounds 1 attempts 1 aborted 0 span 21\n",
+        "loop 0 execution 0 line 5 trips 3 chunks 1\nround 0: 0 commit\nend done\n\
+        loops 1 rounds 1 attempts 1 aborted 0 span 21\n",
         "",
     );
     assert_eq!(rt; broken(alloc, "p5.c", P5, &[whole])?, None);
@@ -242,7 +244,10 @@ fn lists_that_grow(rt: HostRuntime) -> Result<(), Fail> {
         (
             "trace p10.c --lanes 4 --chunk 1",
             0,
-            "loop 0 execution 0 line 5 trips 6 chunks 6\nround 0: 0 commit, 1 fail, 2 after, 3 after\nround 1: 1 commit, 2 fail, 3 after, 4 after\nround 2: 2 commit, 3 fail, 4 after, 5 after\nround 3: 3 commit, 4 fail, 5 after\nround 4: 4 commit, 5 fail\nround 5: 5 commit\nend done\nloops 1 rounds 6 attempts 18 aborted 12 span 60\n",
+            "loop 0 execution 0 line 5 trips 6 chunks 6\nround 0: 0 commit, 1 fail, 2 after, 3 after\n\
+            round 1: 1 commit, 2 fail, 3 after, 4 after\nround 2: 2 commit, 3 fail, 4 after, 5 after\n\
+            round 3: 3 commit, 4 fail, 5 after\nround 4: 4 commit, 5 fail\nround 5: 5 commit\nend done\n\
+            loops 1 rounds 6 attempts 18 aborted 12 span 60\n",
             "",
         ),
     ];
@@ -258,7 +263,8 @@ fn a_trap_that_is_committed(rt: HostRuntime) -> Result<(), Fail> {
         (
             "trace p13.c --lanes 4 --chunk 1",
             3,
-            "loop 0 execution 0 line 5 trips 5 chunks 5\nround 0: 0 commit, 1 commit, 2 commit, 3 trap\nend trap 7 out of bounds\nloops 1 rounds 1 attempts 4 aborted 0 span 7\n",
+            "loop 0 execution 0 line 5 trips 5 chunks 5\nround 0: 0 commit, 1 commit, 2 commit, 3 trap\n\
+            end trap 7 out of bounds\nloops 1 rounds 1 attempts 4 aborted 0 span 7\n",
             trap,
         ),
     ];

@@ -4,8 +4,8 @@
 mod arithmetic;
 mod choices;
 mod for_loops;
-pub mod operations;
-pub mod orders;
+mod operations;
+mod orders;
 mod reductions;
 mod reports;
 mod steps;
@@ -17,6 +17,11 @@ pub use al_source::{BinOp, Bytes, CommitOrder, Format, Name, Piece, Policy, RedO
 pub use arithmetic::{binary, unary};
 pub use choices::{Bound, Choice, Knobs, LoopInfo, Red, is_line_size};
 pub use for_loops::{ForLoop, PlacedLoop, program_loops};
+pub use operations::{
+    choose, compare, element, input_at, number, of_kind, of_test, operate, operate_one, point,
+    same, shift, trips, truth, words_of,
+};
+pub use orders::{compare_addresses, compare_objects};
 pub use reductions::{red_apply, red_identity};
 pub use reports::{Ending, Event, Judged, Report, Verdict};
 pub use steps::Budget;

@@ -15,8 +15,7 @@ use crate::machine::Machine;
 use crate::setting::Setting;
 use crate::stage::Stage;
 use crate::walker::Walker;
-use al_core::operations::truth;
-use al_core::{TExpr, TKind, TStmt, Trap, Val};
+use al_core::{TExpr, TKind, TStmt, Trap, Val, truth};
 use sqlite_items::{Boxed, Items};
 use std::alloc::Global;
 

@@ -11,11 +11,10 @@ use crate::ground::Ground;
 use crate::machine::Machine;
 use crate::setting::Setting;
 use crate::walker::Walker;
-use al_core::operations::{
-    choose, compare, element, input_at, number, of_test, operate, operate_one, point, shift, truth,
-    words_of,
+use al_core::{
+    Obj, TExpr, TPlace, Trap, Val, choose, compare, element, input_at, number, of_test, operate,
+    operate_one, point, shift, truth, words_of,
 };
-use al_core::{Obj, TExpr, TPlace, Trap, Val};
 use sqlite_items::{Boxed, Items};
 use std::alloc::Global;
 

@@ -18,8 +18,7 @@ use crate::machine::Machine;
 use crate::parts::{part, start_of};
 use crate::setting::Setting;
 use crate::walker::Walker;
-use al_core::operations::{number, trips, truth};
-use al_core::{TExpr, TStmt, Trap, Val};
+use al_core::{TExpr, TStmt, Trap, Val, number, trips, truth};
 use sqlite_items::{Boxed, Items};
 use std::alloc::Global;
 

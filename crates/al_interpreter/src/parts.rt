@@ -19,8 +19,7 @@ use crate::machine::Machine;
 use crate::printing::{numbers, text};
 use crate::setting::Setting;
 use crate::walker::Walker;
-use al_core::operations::number as of_value;
-use al_core::{Bound, Piece, TExpr, TKind, TStmt, Val};
+use al_core::{Bound, Piece, TExpr, TKind, TStmt, Val, number as of_value};
 use sqlite_items::{Boxed, Items};
 use std::alloc::Global;
 

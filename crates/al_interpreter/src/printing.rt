@@ -3,8 +3,7 @@ ghost use Rattle.al_source.specs.declared.texts.Piece.{Piece};
 ghost use Rattle.al_source.specs.declared.texts.Piece.TheVariants as piece;
 ghost use Rattle.al_core.specs.Values as spec;
 
-use al_core::operations::number;
-use al_core::{Piece, Trap, Val};
+use al_core::{Piece, Trap, Val, number};
 use itoa::Buffer;
 use sqlite_items::Items;
 use std::alloc::{AllocError, Global};

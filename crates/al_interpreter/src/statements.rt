@@ -11,8 +11,7 @@ use crate::ground::Ground;
 use crate::machine::Machine;
 use crate::setting::Setting;
 use crate::walker::Walker;
-use al_core::operations::operate;
-use al_core::{BinOp, Kind, TExpr, TPlace, Val};
+use al_core::{BinOp, Kind, TExpr, TPlace, Val, operate};
 use sqlite_items::Items;
 use std::alloc::Global;
 

@@ -57,7 +57,7 @@ put_locals m (Local k) v = length-set m.locals k v
 
 -- ---- a memory after words were written
 
-written_length : (es : List (Addr × Val)) (m : Memory) (q : Obj) → length_at (with_writes es m) q ≡ length_at m q
+pub written_length : (es : List (Addr × Val)) (m : Memory) (q : Obj) → length_at (with_writes es m) q ≡ length_at m q
 written_length [] m q = refl
 written_length (e ∷ es) m q = written_length es (put m e.0 e.1) q ∙ put_length m e.0 e.1 q
 

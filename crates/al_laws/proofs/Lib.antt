@@ -28,3 +28,4 @@ pub mod Applying
 pub mod Naming
 pub mod Untouched
 pub mod Ends
+pub mod RoundsFitted

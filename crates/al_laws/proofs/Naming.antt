@@ -178,17 +178,17 @@ given_is_from e first last (Iter f j k) h = (h.0, h.1, h.2)
 
 -- ---- the names of other chunks
 
-apart_below : (x : Execution) (c d j : ℕ) → c < d → j < chunk_end x c → chunk_start x d ≤ j → ⊥
+pub apart_below : (x : Execution) (c d j : ℕ) → c < d → j < chunk_end x c → chunk_start x d ≤ j → ⊥
 apart_below x c d j l e s = absurd (omega (arith, e, s, mul-le-mul_right {m = c + 1} {n = d} x.factor (omega (arith, l))))
 
-apart : (x : Execution) (c d j : ℕ) → c ≢ d → chunk_start x c ≤ j → j < chunk_end x c → chunk_start x d ≤ j → j < chunk_end x d → ⊥
+pub apart : (x : Execution) (c d j : ℕ) → c ≢ d → chunk_start x c ≤ j → j < chunk_end x c → chunk_start x d ≤ j → j < chunk_end x d → ⊥
 apart x c d j n sc ec sd ed =
     elim (cases_lt c d) as (λ _. ⊥) [
       | inl l ↦ apart_below x c d j l ec sd
       | inr l ↦ apart_below x d c j (omega (arith, l, n)) ed sc
     ]
 
-names_apart : (x : Execution) (c d : ℕ) → c ≢ d → (o : Obj) → IsGivenName x.number (chunk_start x c) (chunk_end x c) o
+pub names_apart : (x : Execution) (c d : ℕ) → c ≢ d → (o : Obj) → IsGivenName x.number (chunk_start x c) (chunk_end x c) o
     → IsNameFrom x.number (chunk_start x d) (chunk_end x d) o → ⊥
 names_apart x c d n (Global k) h g = h
 names_apart x c d n (Serial k) h g = h

@@ -10,15 +10,16 @@ pub steps_twice : (a b : ℕ) (r : Finished) → add_steps a (add_steps b r) ≡
 steps_twice a b r = ap (λ n. record r { steps = n }) (omega arith)
 
 -- steps before, whatever comes next
-add_then : (n : ℕ) (r : Finished) (g : Content → Finished) (e : Ending) → add_steps n (then_by e r g) ≡ then_by e (add_steps n r) g
+pub add_then : (n : ℕ) (r : Finished) (g : Content → Finished) (e : Ending) → add_steps n (then_by e r g) ≡ then_by e (add_steps n r) g
 add_then n r g ending.Done = steps_twice n r.steps (g r.content)
 add_then n r g (ending.Trap t line) = refl
 
-no_steps : (r : Finished) → add_steps 0 r ≡ r
+pub no_steps : (r : Finished) → add_steps 0 r ≡ r
 no_steps r = ap (λ n. record r { steps = n }) (omega arith)
 
 -- where the first ended so
-then_runs_twice : (r : Finished) (f g : Content → Finished) (e : Ending) → r.ending ≡ e → then_runs (then_by e r f) g ≡ then_by e r (λ c. then_runs (f c) g)
+pub then_runs_twice : (r : Finished) (f g : Content → Finished) (e : Ending) → r.ending ≡ e
+    → then_runs (then_by e r f) g ≡ then_by e r (λ c. then_runs (f c) g)
 then_runs_twice r f g ending.Done is = sym (add_then r.steps (f r.content) g (f r.content).ending)
 then_runs_twice r f g (ending.Trap t line) is = ap (λ e. then_by e r g) is
 

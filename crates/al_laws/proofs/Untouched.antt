@@ -33,7 +33,7 @@ untouched_unwritten x reds m c a f =
     let r = chunk_runs x c (chunk_from x reds m c) in
     unwritten_in r r.content.accesses a f
 
-false_or : (b : Bool) → (b ≡ true → ⊥) → b ≡ false
+pub false_or : (b : Bool) → (b ≡ true → ⊥) → b ≡ false
 false_or true n = absurd (n refl)
 false_or false n = refl
 

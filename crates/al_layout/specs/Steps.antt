@@ -1,12 +1,21 @@
--- What a step of laying a program out ensures, unless memory runs out: a fault, or where there is none a fact of its value.
-use Rattle.std.specs.Prelude.{◌≡◌, ⊤, Result, Ok, Err, Option, Some, None}
-use Rattle.al_rules.specs.declared.faults.LayoutFault.{LayoutFault}
-use Rattle.al_rules.specs.Faults.{laid}
+-- What a step of laying a program out gives: a value, or the item's fault.
+use Rattle.std.specs.Prelude.{ℕ, List, Result, Ok}
+use Rattle.std.specs.List.{sum}
+use Rattle.al_source.specs.declared.source_tree.Item.{Item}
+use Rattle.al_source.specs.declared.source_tree.StructDef.{StructDef}
+use Rattle.al_rules.specs.declared.faults.LayoutCause.{LayoutCause}
+use Rattle.al_rules.specs.declared.layout.Layout.{Layout}
+use Rattle.al_rules.specs.declared.layout.StructLayout.{StructLayout}
+use Rattle.al_rules.specs.Layouts.{words_of_fields, struct_layout, with_item, too_large, layout_fault_at, unless}
 
-abbrev pub IsFault : Option LayoutFault → Option LayoutFault → Type 0
-IsFault fault (Some e) = fault ≡ Some e
-IsFault fault None = ⊤
+-- a struct, where it is not too large
+abbrev pub placed : List StructLayout → StructDef → Result StructLayout LayoutCause
+placed known s = unless (too_large (words_of_fields known s.fields) s.line) (Ok (struct_layout known s))
 
-abbrev pub Finds : {A : Type 0} → Option LayoutFault → (A → Type 0) → Result A LayoutFault → Type 0
-Finds fault Holds (Ok a) = (fault ≡ None) × Holds a
-Finds fault Holds (Err e) = IsFault fault (laid e)
+-- with one item more
+abbrev pub added : Layout → Item → Result Layout LayoutCause
+added l i = unless (layout_fault_at l i) (Ok (with_item l i))
+
+-- the same, with the words of all globals
+abbrev pub summed : Layout → Item → Result (ℕ × Layout) LayoutCause
+summed l i = unless (layout_fault_at l i) (Ok (sum (with_item l i).globals, with_item l i))

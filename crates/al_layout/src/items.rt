@@ -2,9 +2,9 @@ ghost use Rattle.std.specs.Prelude.{◌≡◌, sum};
 ghost use Rattle.std.specs.List.{list_any};
 ghost use Rattle.al_source.specs.declared.source_tree.Item.TheVariants as item;
 ghost use Rattle.al_rules.specs.Layouts as spec;
-ghost use Rattle.al_source.specs.Answers.{Gives};
+ghost use Rattle.al_source.specs.Answers.{Gives, Puts, Walks};
 ghost use Rattle.al_rules.specs.Faults.{laid};
-ghost use Rattle.al_layout.specs.Steps.{Finds};
+ghost use Rattle.al_layout.specs.Steps.{placed, added, summed};
 
 use crate::types::{holds, words};
 use al_rules::{Layout, LayoutFault, StructLayout};
@@ -24,7 +24,7 @@ fn struct_layout(
     structs: &[StructLayout],
     s: &StructDef,
 ) -> Result<StructLayout, LayoutFault>
-    ensures { Finds (spec.too_large (spec.words_of_fields structs.now s.now.fields) s.now.line) (λ l. l ≡ spec.struct_layout structs.now s.now) result }
+    ensures { Gives laid (placed structs.now s.now) result }
 {
     let mut offsets = Items::new(alloc);
     let mut at: u32 = 0;
@@ -45,7 +45,7 @@ fn struct_layout(
 }
 
 fn add_struct(alloc: Global, done: &mut Layout, s: &StructDef) -> Result<(), LayoutFault>
-    ensures { Finds (spec.layout_fault_at done.old (item.Struct s.now)) (λ _. done.new ≡ spec.with_item done.old (item.Struct s.now)) result }
+    ensures { Puts laid (added done.old (item.Struct s.now)) result done.new }
 {
     if any_holds(s.name.as_slice(), s.fields.as_slice()) {
         return Err(LayoutFault::SelfHolding(s.line));
@@ -58,7 +58,7 @@ fn add_struct(alloc: Global, done: &mut Layout, s: &StructDef) -> Result<(), Lay
 /// `total` is the words of all globals so far, and then with this one.
 fn add_global(done: &mut Layout, total: u32, g: &GlobalDef) -> Result<u32, LayoutFault>
     requires { total ≡ sum done.old.globals }
-    ensures { Finds (spec.layout_fault_at done.old (item.Global g.now)) (λ all. (done.new ≡ spec.with_item done.old (item.Global g.now)) × (all ≡ sum done.new.globals)) result }
+    ensures { Walks laid (summed done.old (item.Global g.now)) result done.new }
 {
     let words = words(done.structs.as_slice(), &g.ty);
     let total = total.saturating_add(words);

@@ -1,12 +1,1 @@
-pub mod Lists
-pub mod Induction
-pub mod ExprNodes
-pub mod StmtNodes
-pub mod Terms
-pub mod ParaNodes
-pub mod OnlyUpdates
-pub mod Called
-pub mod Paths
-pub mod Reaching
-pub mod Noted
 pub mod Chosen

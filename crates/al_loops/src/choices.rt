@@ -1,3 +1,5 @@
+//! The choices that are tried for a loop.
+
 ghost use Rattle.std.specs.Prelude.{◌≡◌, ◌∷◌, [], ◌++◌, map, IfOk, OnOk};
 ghost use Rattle.std.specs.List.{flat_map};
 ghost use Rattle.al_core.specs.Lines.{by_words};
@@ -5,6 +7,7 @@ ghost use Rattle.al_rules.specs.Candidates as spec;
 
 use crate::reductions::reductions;
 use al_core::{Choice, CommitOrder, LoopInfo, Policy, Red, Typed, program_loops};
+use al_loop_notes::{Program, program_uses};
 use sqlite_items::Items;
 use std::alloc::{AllocError, Global};
 
@@ -79,6 +82,11 @@ pub fn candidates(
     let Some(l) = loops.get(info.number as usize) else {
         return Ok(Items::new(alloc));
     };
-    let reds = reductions(alloc, typed, info, l.parts.body)?;
+    let uses = program_uses(alloc, typed)?;
+    let program = Program {
+        typed,
+        uses: uses.as_slice(),
+    };
+    let reds = reductions(alloc, &program, info, l.parts.body)?;
     choices(alloc, reds.as_slice())
 }

@@ -2,22 +2,10 @@
 //! one.
 #![tactic(auto)]
 
-mod assigns;
-mod calls;
 mod choices;
-mod entries;
-mod forms;
-mod leaves;
-mod mentions;
-mod names;
-mod reach;
 mod reductions;
-mod takes;
 #[cfg(test)]
 mod tests;
-mod updates;
-mod variables;
 
-pub use al_rules::{NoteFault, NoteKind};
+pub use al_loop_notes::{NoteFault, NoteKind, notes};
 pub use choices::candidates;
-pub use entries::notes;

@@ -1,19 +1,42 @@
-ghost use Rattle.std.specs.Prelude.{◌≡◌, [], take, slice_get, IfOk};
-ghost use Rattle.std.specs.List.{find, filter_map, list_any};
+//! The variables that a loop's body reduces.
+
+ghost use Rattle.std.specs.Prelude.{◌≡◌, [], ◌++◌, take, slice_get, IfOk, OnOk};
+ghost use Rattle.std.specs.List.{find, filter_map, flat_map, list_any};
 ghost use Rattle.al_source.specs.declared.limits.TheConstants.{TRIED_REDUCTIONS};
 ghost use Rattle.al_core.specs.Orders as orders;
 ghost use Rattle.al_rules.specs.Candidates as spec;
-ghost use Rattle.al_loops.specs.Reach.{IsReach};
+ghost use Rattle.al_loop_notes.specs.Reach.{IsReach, IsTold};
+ghost use Rattle.al_loop_notes.specs.Uses.{variable_of};
 
-use crate::forms::is_integer;
-use crate::names;
-use crate::reach::reached;
-use crate::updates::updates;
-use crate::variables::{is_counter_or_bound, is_misused, is_same, is_taken};
 use al_core::{Addr, Kind, LoopInfo, Obj, Red, RedOp, TStmt, Typed};
+use al_loop_notes::{
+    Program, Use, has_update, is_counter_or_bound, is_integer, is_misused, is_same, is_taken,
+    reached, uses_of,
+};
 use al_source::limits::TRIED_REDUCTIONS;
 use sqlite_items::Items;
 use std::alloc::{AllocError, Global};
+
+fn add_variable(u: Use, names: &mut Items<Addr>) -> Result<(), AllocError>
+    ensures { OnOk result (names.new ≡ names.old ++ variable_of u) }
+{
+    match u {
+        Use::Local(k) | Use::Set(k) => names.push(Addr::Local(k)),
+        Use::Global(k) => names.push(Addr::Word(Obj::Global(k), 0)),
+        _ => Ok(()),
+    }
+}
+
+/// The variables that are mentioned or set, in source order.
+fn variables(alloc: Global, uses: &[Use]) -> Result<Items<Addr>, AllocError>
+    ensures { IfOk result (λ names. names ≡ flat_map variable_of uses.now) }
+{
+    let mut names = Items::new(alloc);
+    for u in uses {
+        add_variable(*u, &mut names)?;
+    }
+    Ok(names)
+}
 
 fn is_among(a: Addr, seen: &[Addr]) -> bool
     ensures { result ≡ list_any (orders.addr_eq a) seen.now }
@@ -77,7 +100,7 @@ fn is_variable(typed: &Typed, info: &LoopInfo, a: Addr) -> bool
 /// The body of a loop, with its entry and the functions that it reaches.
 #[derive(Clone, Copy)]
 struct Body<'a> {
-    typed: &'a Typed,
+    program: &'a Program<'a>,
     info: &'a LoopInfo,
     stmt: &'a TStmt,
     marks: &'a [bool],
@@ -86,15 +109,18 @@ struct Body<'a> {
 impl Body<'_> {
     /// Whether the operator would be accepted for the variable, and updates it.
     fn reduces(&self, a: Addr, op: RedOp) -> bool
-        requires { IsReach self.now.typed.now self.now.stmt.now self.now.marks.now }
-        ensures { result ≡ spec.reduces self.now.typed.now self.now.info.now self.now.stmt.now a op }
+        requires told { IsTold self.now.program.now }
+        requires reach { IsReach self.now.program.now.typed.now self.now.stmt.now self.now.marks.now }
+        ensures { result ≡ spec.reduces self.now.program.now.typed.now self.now.info.now self.now.stmt.now a op }
     {
-        updates(op, a, self.stmt) && !is_misused(self.typed, self.stmt, self.marks, op, a)
+        has_update(op, a, self.stmt) && !is_misused(self.program, self.stmt, self.marks, op, a)
     }
 
     fn operator(&self, a: Addr) -> Option<RedOp>
-        requires { IsReach self.now.typed.now self.now.stmt.now self.now.marks.now }
-        ensures { result ≡ find (spec.reduces self.now.typed.now self.now.info.now self.now.stmt.now a) spec.operators }
+        requires told { IsTold self.now.program.now }
+        requires reach { IsReach self.now.program.now.typed.now self.now.stmt.now self.now.marks.now }
+        ensures { result ≡ find
+            (spec.reduces self.now.program.now.typed.now self.now.info.now self.now.stmt.now a) spec.operators }
     {
         if self.reduces(a, RedOp::Add) {
             Some(RedOp::Add)
@@ -116,22 +142,25 @@ impl Body<'_> {
     }
 
     fn reduction(&self, a: Addr) -> Option<Red>
-        requires { IsReach self.now.typed.now self.now.stmt.now self.now.marks.now }
-        ensures { result ≡ spec.reduction_of self.now.typed.now self.now.info.now self.now.stmt.now a }
+        requires told { IsTold self.now.program.now }
+        requires reach { IsReach self.now.program.now.typed.now self.now.stmt.now self.now.marks.now }
+        ensures { result ≡ spec.reduction_of self.now.program.now.typed.now self.now.info.now self.now.stmt.now a }
     {
-        if !is_variable(self.typed, self.info, a) || is_counter_or_bound(self.info, a) {
+        if !is_variable(self.program.typed, self.info, a) || is_counter_or_bound(self.info, a) {
             return None;
         }
         match self.operator(a) {
-            Some(op) if !is_taken(self.typed, a) => Some(Red { op, at: a }),
+            Some(op) if !is_taken(self.program, a) => Some(Red { op, at: a }),
             _ => None,
         }
     }
 
     fn reductions(&self, alloc: Global, names: &[Addr]) -> Result<Items<Red>, AllocError>
-        requires { IsReach self.now.typed.now self.now.stmt.now self.now.marks.now }
+        requires told { IsTold self.now.program.now }
+        requires reach { IsReach self.now.program.now.typed.now self.now.stmt.now self.now.marks.now }
         ensures { IfOk result (λ reds. reds ≡ take TRIED_REDUCTIONS
-            (filter_map (spec.reduction_of self.now.typed.now self.now.info.now self.now.stmt.now) names.now)) }
+            (filter_map
+            (spec.reduction_of self.now.program.now.typed.now self.now.info.now self.now.stmt.now) names.now)) }
     {
         let mut reds = Items::new(alloc);
         for a in names {
@@ -147,20 +176,22 @@ impl Body<'_> {
 
 /// The reducible variables of a loop with this body that count: the first `TRIED_REDUCTIONS`, in order of first
 /// mention.
+#[tactic(auto, using(al_loop_notes::proofs::Statements::uses_are_variables))]
 pub fn reductions(
     alloc: Global,
-    typed: &Typed,
+    program: &Program<'_>,
     info: &LoopInfo,
     stmt: &TStmt,
 ) -> Result<Items<Red>, AllocError>
-    ensures { IfOk result (λ reds. reds ≡ spec.reductions_of typed.now info.now stmt.now) }
+    requires { IsTold program.now }
+    ensures { IfOk result (λ reds. reds ≡ spec.reductions_of program.now.typed.now info.now stmt.now) }
 {
-    let mut mentioned = Items::new(alloc);
-    names::in_stmt(stmt, &mut mentioned)?;
-    let names = firsts(alloc, mentioned.as_slice())?;
-    let marks = reached(alloc, typed, stmt)?;
+    let uses = uses_of(alloc, stmt)?;
+    let variables = variables(alloc, uses.as_slice())?;
+    let names = firsts(alloc, variables.as_slice())?;
+    let marks = reached(alloc, program, stmt, uses.as_slice())?;
     let body = Body {
-        typed,
+        program,
         info,
         stmt,
         marks: marks.as_slice(),

@@ -10,4 +10,3 @@ pub mod Committed
 pub mod RoundsKept
 pub mod Counted
 pub mod Trips
-pub mod RoundsFitted

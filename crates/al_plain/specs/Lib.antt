@@ -7,5 +7,4 @@ pub mod Outcomes
 pub mod Pending
 pub mod Keeping
 pub mod Counting
-pub mod Bounded
 pub mod Told

@@ -6,8 +6,7 @@ ghost use Rattle.al_core.specs.Access as access;
 
 use crate::objects::Objects;
 use crate::words::{get_at, set_at, word_in};
-use al_core::operations::of_kind;
-use al_core::{Addr, Kind, Obj, Trap, Val};
+use al_core::{Addr, Kind, Obj, Trap, Val, of_kind};
 use sqlite_items::Items;
 use std::alloc::{AllocError, Global};
 use std::marker::Model;

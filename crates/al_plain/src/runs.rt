@@ -5,7 +5,7 @@ ghost use Rattle.al_core.specs.Run as spec;
 ghost use Rattle.al_interpreter.specs.Settings.{setting_of};
 ghost use Rattle.al_core.specs.Iteration.{ending_of};
 ghost use Rattle.al_plain.specs.Told.{report_by};
-ghost use Rattle.al_plain.specs.Bounded.{RoundsFit};
+ghost use Rattle.al_laws.specs.Rounds.{RoundsFit};
 
 use crate::content::{Content, Maker, zeros};
 use crate::counts::Counts;
@@ -115,7 +115,6 @@ fn run_program(
     requires { AreInRange knobs }
     ensures exact { let r = report.report program.now input.now (spec.sizes_of knobs) choices.now in
         IfOk result (λ told. told ≡ report.watched watch r) }
-    ensures rounds { IfOk result (λ r. RoundsFit r.events) }
 {
     let on = Setting {
         program,
@@ -129,6 +128,7 @@ fn run_program(
 
 /// Runs a program, plain where an annotated loop has no choice and else in rounds. The report has no events where
 /// nobody watches.
+#[tactic(auto, using(al_laws::proofs::RoundsFitted::rounds_fit))]
 pub fn run(
     alloc: Global,
     typed: &Typed,
@@ -140,7 +140,7 @@ pub fn run(
     requires { AreInRange knobs }
     ensures exact { let r = report.report typed.now input.now (spec.sizes_of knobs) choices.now in
         IfOk result (λ told. told ≡ report.watched watch r) }
-    ensures rounds { IfOk result (λ r. RoundsFit r.events) }
+    ensures rounds { RoundsFit (report.report typed.now input.now (spec.sizes_of knobs) choices.now).events }
 {
     let program = Program::new(alloc, typed)?;
     run_program(alloc, &program, input, knobs, choices, watch)

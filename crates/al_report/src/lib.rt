@@ -8,5 +8,8 @@ mod lines;
 mod tests;
 mod traces;
 
-pub use faults::{input_text, layout_text, lex_text, lower_text, note_text, parse_text, type_text};
+pub use faults::{
+    input_cause_text, input_text, layout_text, lex_text, lower_text, note_text, parse_text,
+    refusal_text, type_text,
+};
 pub use traces::{totals_text, trace_text, trap_text};

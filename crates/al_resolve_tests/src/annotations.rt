@@ -86,12 +86,14 @@ const BODIES: [(&str, NoteKind, u32); 11] = [
     ),
     // Loops come in source order, an outer one before those in it.
     (
-        "int main(void) {\n#pragma alter\n for (int i = 0; i < 9; i++) {\n break;\n#pragma alter\n for (int j = 0; j <= 9; j++) ;\n }\n}",
+        "int main(void) {\n#pragma alter\n for (int i = 0; i < 9; i++) {\n break;\n#pragma alter\n\
+        \x20for (int j = 0; j <= 9; j++) ;\n }\n}",
         NoteKind::Leaves,
         3,
     ),
     (
-        "int main(void) {\n#pragma alter\n for (int i = 0; i < 9; i++)\n#pragma alter\n for (int j = 0; j <= 9; j++) ;\n}",
+        "int main(void) {\n#pragma alter\n for (int i = 0; i < 9; i++)\n#pragma alter\n\
+        \x20for (int j = 0; j <= 9; j++) ;\n}",
         NoteKind::Form,
         5,
     ),
@@ -119,7 +121,8 @@ const REDUCTIONS: [(&str, NoteKind, u32); 9] = [
         4,
     ),
     (
-        "int g; int *p;\nint f(void) {\n p = &g;\n}\nint main(void) {\n#pragma alter reduce(+: g)\n for (int i = 0; i < 9; i++) g += i;\n}",
+        "int g; int *p;\nint f(void) {\n p = &g;\n}\nint main(void) {\n#pragma alter reduce(+: g)\n\
+        \x20for (int i = 0; i < 9; i++) g += i;\n}",
         NoteKind::ReductionAddress,
         7,
     ),
@@ -152,7 +155,8 @@ const REDUCTIONS: [(&str, NoteKind, u32); 9] = [
 
 const USES: [(&str, NoteKind, u32); 9] = [
     (
-        "int main(void) {\n int s;\n#pragma alter reduce(+: s)\n for (int i = 0; i < 9; i++) { s += i; printf(\"%d\", s); }\n}",
+        "int main(void) {\n int s;\n#pragma alter reduce(+: s)\n\
+        \x20for (int i = 0; i < 9; i++) { s += i; printf(\"%d\", s); }\n}",
         NoteKind::ReductionUsed,
         4,
     ),
@@ -172,24 +176,28 @@ const USES: [(&str, NoteKind, u32); 9] = [
         4,
     ),
     (
-        "int g;\nint f(void) { return g; }\nint main(void) {\n#pragma alter reduce(+: g)\n for (int i = 0; i < 9; i++) g += f();\n}",
+        "int g;\nint f(void) { return g; }\nint main(void) {\n#pragma alter reduce(+: g)\n\
+        \x20for (int i = 0; i < 9; i++) g += f();\n}",
         NoteKind::ReductionUsed,
         5,
     ),
     // Reached by calls of calls.
     (
-        "int g;\nint f(void) { return g; }\nint h(void) { return f(); }\nint main(void) {\n#pragma alter reduce(+: g)\n for (int i = 0; i < 9; i++) { g += 1; h(); }\n}",
+        "int g;\nint f(void) { return g; }\nint h(void) { return f(); }\nint main(void) {\n\
+        #pragma alter reduce(+: g)\n for (int i = 0; i < 9; i++) { g += 1; h(); }\n}",
         NoteKind::ReductionUsed,
         6,
     ),
     // A name, then an address, then a use.
     (
-        "int g; int *p;\nint main(void) {\n p = &g;\n#pragma alter reduce(+: g, g)\n for (int i = 0; i < 9; i++) g = 1;\n}",
+        "int g; int *p;\nint main(void) {\n p = &g;\n#pragma alter reduce(+: g, g)\n\
+        \x20for (int i = 0; i < 9; i++) g = 1;\n}",
         NoteKind::ReductionName,
         5,
     ),
     (
-        "int g; int *p;\nint main(void) {\n p = &g;\n#pragma alter reduce(+: g)\n for (int i = 0; i < 9; i++) g = 1;\n}",
+        "int g; int *p;\nint main(void) {\n p = &g;\n#pragma alter reduce(+: g)\n\
+        \x20for (int i = 0; i < 9; i++) g = 1;\n}",
         NoteKind::ReductionAddress,
         5,
     ),

@@ -1,15 +1,15 @@
 //! Why a source is refused. The expected causes follow the table of faults and the order in which they are told.
 
 use al_front::{FrontFault, resolve};
-use al_rules::{NoteFault, NoteKind, Refusal, TypeFault, TypeKind};
+use al_rules::{NoteCause, NoteKind, Refusal, TypeCause, TypeKind};
 use std::alloc::{AllocError, Global};
 
 pub fn at(kind: TypeKind, line: u32) -> Refusal {
-    Refusal::Types(TypeFault::At(kind, line))
+    Refusal::Types(TypeCause { kind, line })
 }
 
 pub fn note(kind: NoteKind, line: u32) -> Refusal {
-    Refusal::Notes(NoteFault::At(kind, line))
+    Refusal::Notes(NoteCause { kind, line })
 }
 
 /// Why a source is refused, or none where it is accepted.

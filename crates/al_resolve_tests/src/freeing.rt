@@ -2,7 +2,6 @@
 
 use crate::causes::{at, refusal};
 use al_rules::{Refusal, TypeKind};
-use al_source::ParseFault;
 use std::test::Fail;
 
 const ACCEPTED: [&str; 6] = [
@@ -57,7 +56,7 @@ fn what_is_no_pointer_is_not_freed(rt: HostRuntime) -> Result<(), Fail> {
 #[test]
 fn the_name_is_reserved(rt: HostRuntime) -> Result<(), Fail> {
     for source in UNDERIVED {
-        let cause = Refusal::Grammar(ParseFault::Syntax);
+        let cause = Refusal::Grammar;
         assert_eq!(rt; refusal(rt.alloc(), source)?, Some(cause));
     }
     Ok(())

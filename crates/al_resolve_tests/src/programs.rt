@@ -7,7 +7,7 @@ use al_layout::layout;
 use al_lexer::lex;
 use al_loops::candidates;
 use al_parser::parse;
-use al_rules::{LowerFault, NoteKind, Refusal};
+use al_rules::{NoteKind, Refusal};
 use al_samples::*;
 use std::alloc::{AllocError, Global};
 use std::test::Fail;
@@ -89,7 +89,7 @@ fn a_source_of_262144_statements_is_accepted(rt: HostRuntime) -> Result<(), Fail
 #[test]
 fn a_source_of_more_statements_is_too_large(rt: HostRuntime) -> Result<(), Fail> {
     let source = statements(rt.alloc(), 262_145)?;
-    let cause = Refusal::Lowering(LowerFault::TooLarge);
+    let cause = Refusal::TooManyNodes;
     assert_eq!(rt; refusal_of(rt.alloc(), &source)?, Some(cause));
     Ok(())
 }

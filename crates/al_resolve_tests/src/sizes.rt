@@ -1,42 +1,42 @@
 //! Sources whose structs or globals have no layout.
 
 use crate::causes::refusal;
-use al_rules::{LayoutFault, Refusal};
+use al_rules::{LayoutCause, Refusal};
 use std::test::Fail;
 
-const LAYOUTS: [(&str, LayoutFault); 9] = [
+const LAYOUTS: [(&str, LayoutCause); 9] = [
     (
         "struct s { int a; struct s b; };",
-        LayoutFault::SelfHolding(1),
+        LayoutCause::SelfHolding(1),
     ),
     (
         "int x;\nstruct s {\n struct s a[2][3]; };",
-        LayoutFault::SelfHolding(2),
+        LayoutCause::SelfHolding(2),
     ),
     // It holds itself by its name, whatever was defined before.
     (
         "struct s { int a; };\nstruct s { struct s b; };",
-        LayoutFault::SelfHolding(2),
+        LayoutCause::SelfHolding(2),
     ),
     (
         "struct s { int a[4194304]; int b; };",
-        LayoutFault::TooLarge(1),
+        LayoutCause::TooLarge(1),
     ),
-    ("int a[4194304];\nint b;", LayoutFault::TooLarge(2)),
-    ("int a[2048][2048][2048][2048];", LayoutFault::TooLarge(1)),
+    ("int a[4194304];\nint b;", LayoutCause::TooLarge(2)),
+    ("int a[2048][2048][2048][2048];", LayoutCause::TooLarge(1)),
     // Both: it holds itself first.
     (
         "struct s { int a[4194304]; int b; struct s c; };",
-        LayoutFault::SelfHolding(1),
+        LayoutCause::SelfHolding(1),
     ),
     // A layout's fault comes before a type's, wherever they stand.
     (
         "int x;\nint x;\nstruct s { struct s a; };",
-        LayoutFault::SelfHolding(3),
+        LayoutCause::SelfHolding(3),
     ),
     (
         "struct s { int a[4194304]; };\nstruct s g;\nint h;",
-        LayoutFault::TooLarge(3),
+        LayoutCause::TooLarge(3),
     ),
 ];
 

@@ -1,5 +1,5 @@
 -- What well-formed means of each node.
-use Rattle.std.proofs.Common.{◌≡◌, ℕ, ◌+◌, max, Bool, true, false, ◌&&◌, List, [], ◌∷◌, map, Option, Some, None, slice_get, ℤ, pos, int_eq, refl, sym, ap, ◌∙◌}
+use Rattle.std.proofs.Common.{◌≡◌, ℕ, ◌+◌, max, Bool, true, false, ◌&&◌, ◌==◌, List, [], ◌∷◌, length, map, Option, Some, None, slice_get, ℤ, pos, int_eq, refl, sym, ap, ◌∙◌}
 use Rattle.std.specs.List.{list_all}
 use Rattle.al_source.specs.declared.operators.UnOp.{UnOp}
 use Rattle.al_source.specs.declared.operators.BinOp.{BinOp}
@@ -20,6 +20,7 @@ use Rattle.al_core.specs.declared.typed_tree.TKind.TheOpen.{TStmt-F, TKind-F}
 use Rattle.al_core.specs.declared.typed_tree.TKind.TheVariants as k
 use Rattle.al_core.specs.declared.typed_tree.TLocal.{TLocal}
 use Rattle.al_core.specs.declared.typed_tree.Typed.{Typed}
+use Rattle.al_rules.specs.Statements.{numbers_in}
 use Rattle.al_rules.specs.WellFormed.{FitsKind, PlaceKind, is_one, is_int_local, local_kind, is_some_kind, may_want, fits_either, fits_want, fit_params, gives, global_kind, operand_fits, expr_fits, place_kind_case, fits, place_kind, call_formed, sets_formed, test_formed, return_formed, simple_kind, is_simple, FormedStmt, FormedKind, all_formed, kind_formed, formed, formed_in, Counted, none_counted, both_counted, if_counted, all_counted, for_counted, kind_counted, counted, counted_in, counted_all}
 
 module _ (typed : Typed) (results : List (Option Kind)) (locals : List TLocal) where
@@ -158,7 +159,7 @@ module _ (typed : Typed) (results : List (Option Kind)) (locals : List TLocal) (
   formed-Call x looped = ap (λ (f : Bool → Bool). f looped) (of_formed (TKind-F.Call x) _ (k.rolls-Call x))
 
   pub formed-Print : (f : List Piece) (xs : List TExpr) (looped : Bool)
-      → formed_in typed results locals result (k.Print f xs) looped ≡ list_all (λ x. fits typed results locals x Int) xs
+      → formed_in typed results locals result (k.Print f xs) looped ≡ ((length xs == numbers_in f) && list_all (λ x. fits typed results locals x Int) xs)
   formed-Print f xs looped = ap (λ (f : Bool → Bool). f looped) (of_formed (TKind-F.Print f xs) _ (k.rolls-Print f xs))
 
   pub formed-If : (x : TExpr) (s : TStmt) (t : Option TStmt) (looped : Bool)

@@ -10,8 +10,8 @@ use Rattle.al_source.specs.declared.source_tree.StructDef.{StructDef}
 use Rattle.al_source.specs.declared.source_tree.Item.{Item}
 use Rattle.al_source.specs.declared.source_tree.Item.TheVariants as item
 use Rattle.al_source.specs.declared.source_tree.Program.{Program}
-use Rattle.al_rules.specs.declared.faults.LayoutFault.{LayoutFault}
-use Rattle.al_rules.specs.declared.faults.LayoutFault.TheVariants.{SelfHolding, TooLarge}
+use Rattle.al_rules.specs.declared.faults.LayoutCause.{LayoutCause}
+use Rattle.al_rules.specs.declared.faults.LayoutCause.TheVariants.{SelfHolding, TooLarge}
 use Rattle.al_rules.specs.declared.layout.Layout.{Layout}
 use Rattle.al_rules.specs.declared.layout.StructLayout.{StructLayout}
 use Rattle.al_rules.specs.Names.{Name}
@@ -84,12 +84,12 @@ sizes p = with_items no_layout p.items
 
 -- ---- faults
 
-abbrev pub too_large : ℕ → ℕ → Option LayoutFault
+abbrev pub too_large : ℕ → ℕ → Option LayoutCause
 too_large words line = if nat_lt OBJECT_WORDS words then Some (TooLarge line) else None
 
 -- an item's fault behind the items before it: a struct holds itself, by name, or is too large; or the globals so far
 -- are
-abbrev pub layout_fault_at : Layout → Item → Option LayoutFault
+abbrev pub layout_fault_at : Layout → Item → Option LayoutCause
 layout_fault_at l (item.Struct s) =
     if list_any (λ f. holds s.name f.ty) s.fields then Some (SelfHolding s.line)
     else too_large (words_of_fields l.structs s.fields) s.line
@@ -100,17 +100,17 @@ abbrev pub unless : {A F : Type 0} → Option F → Result A F → Result A F
 unless (Some fault) r = Err fault
 unless None r = r
 
-abbrev pub laid_out : Layout → List Item → Result Layout LayoutFault
+abbrev pub laid_out : Layout → List Item → Result Layout LayoutCause
 laid_out l [] = Ok l
 laid_out l (i ∷ is) = unless (layout_fault_at l i) (laid_out (with_item l i) is)
 
 -- The layout of a program, or its first layout fault.
-unfoldable pub layout_of : Program → Result Layout LayoutFault
+unfoldable pub layout_of : Program → Result Layout LayoutCause
 layout_of p = laid_out no_layout p.items
 
 abbrev pub fault_of : {A F : Type 0} → Result A F → Option F
 fault_of (Ok a) = None
 fault_of (Err fault) = Some fault
 
-abbrev pub layout_fault : Program → Option LayoutFault
+abbrev pub layout_fault : Program → Option LayoutCause
 layout_fault p = fault_of (layout_of p)

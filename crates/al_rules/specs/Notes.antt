@@ -16,8 +16,7 @@ use Rattle.al_core.specs.Accepted.{is_local, is_bound}
 use Rattle.al_core.specs.Loops.{PlacedLoop, program_loops}
 use Rattle.al_rules.specs.declared.faults.NoteKind.{NoteKind}
 use Rattle.al_rules.specs.declared.faults.NoteKind.TheVariants.{Form, IndexChanges, BoundChanges, Leaves, ReductionName, ReductionAddress, ReductionUsed}
-use Rattle.al_rules.specs.declared.faults.NoteFault.{NoteFault}
-use Rattle.al_rules.specs.declared.faults.NoteFault.TheVariants.{At}
+use Rattle.al_rules.specs.declared.faults.NoteCause.{NoteCause}
 use Rattle.al_rules.specs.Layouts.{fault_of}
 use Rattle.al_rules.specs.ForLoops.{form_of}
 use Rattle.al_rules.specs.Bodies.{assigns, assigns_bound, has_return, has_break, is_taken, is_misused}
@@ -66,33 +65,33 @@ info_of n note form = record {
   own = note.own;
 }
 
-abbrev pub unless_wrong : LoopInfo → Option NoteKind → Result LoopInfo NoteFault
+abbrev pub unless_wrong : LoopInfo → Option NoteKind → Result LoopInfo NoteCause
 unless_wrong info None = Ok info
-unless_wrong info (Some kind) = Err (At kind info.line)
+unless_wrong info (Some kind) = Err (record { kind = kind; line = info.line })
 
-abbrev pub formed : Typed → TStmt → ℕ → TNote → Option (ℕ × Bound) → Result LoopInfo NoteFault
-formed typed body n note None = Err (At Form note.line)
+abbrev pub formed : Typed → TStmt → ℕ → TNote → Option (ℕ × Bound) → Result LoopInfo NoteCause
+formed typed body n note None = Err (record { kind = Form; line = note.line })
 formed typed body n note (Some form) = unless_wrong (info_of n note form) (wrong_in typed (info_of n note form) body)
 
 -- the entry of the loop of this number, with its note
-abbrev pub entry_of : Typed → ℕ → PlacedLoop → TNote → Result LoopInfo NoteFault
+abbrev pub entry_of : Typed → ℕ → PlacedLoop → TNote → Result LoopInfo NoteCause
 entry_of typed n l note = formed typed l.loop.body n note (form_of l.func.locals l.loop)
 
 -- ---- all loops
 
 -- loops from this number on, each with the note at its place
-abbrev pub entries : Typed → ℕ → List PlacedLoop → List TNote → Result (List LoopInfo) NoteFault
+abbrev pub entries : Typed → ℕ → List PlacedLoop → List TNote → Result (List LoopInfo) NoteCause
 entries typed n (l ∷ ls) (note ∷ notes) =
     and_then (entry_of typed n l note) (λ info. and_then (entries typed (n + 1) ls notes) (λ infos. Ok (info ∷ infos)))
 entries typed n _ _ = Ok []
 
-unfoldable pub notes_of : Typed → Result (List LoopInfo) NoteFault
+unfoldable pub notes_of : Typed → Result (List LoopInfo) NoteCause
 notes_of typed = entries typed 0 (program_loops typed) typed.loops
 
-abbrev pub note_fault : Typed → Option NoteFault
+abbrev pub note_fault : Typed → Option NoteCause
 note_fault typed = fault_of (notes_of typed)
 
-abbrev pub or_no_infos : Result (List LoopInfo) NoteFault → List LoopInfo
+abbrev pub or_no_infos : Result (List LoopInfo) NoteCause → List LoopInfo
 or_no_infos (Ok infos) = infos
 or_no_infos (Err fault) = []
 

@@ -20,8 +20,7 @@ use Rattle.al_core.specs.declared.typed_tree.TNote.{TNote}
 use Rattle.al_core.specs.declared.typed_tree.Typed.{Typed}
 use Rattle.al_rules.specs.declared.layout.Layout.{Layout}
 use Rattle.al_rules.specs.declared.faults.TypeKind.TheVariants.{Twice, Shape, Mismatch, Main}
-use Rattle.al_rules.specs.declared.faults.TypeFault.{TypeFault}
-use Rattle.al_rules.specs.declared.faults.TypeFault.TheVariants.{At}
+use Rattle.al_rules.specs.declared.faults.TypeCause.{TypeCause}
 use Rattle.al_rules.specs.Names.{Name, place_named, any_named}
 use Rattle.al_rules.specs.Layouts.{sizes, layout_fault, fault_of}
 use Rattle.al_rules.specs.Checks.{Checked, ensure, ◌>>◌}
@@ -84,28 +83,28 @@ func_checked items before f =
     >> fields_checked items before is_scalar [] f.params
 
 -- an item behind the items before it
-abbrev pub item_checked : List Item → List Item → Item → Result (Unit {0}) TypeFault
+abbrev pub item_checked : List Item → List Item → Item → Result (Unit {0}) TypeCause
 item_checked items before (item.Struct s) = at_line s.line (struct_checked items before s)
 item_checked items before (item.Global g) = at_line g.line (global_checked items before g)
 item_checked items before (item.Func f) = at_line f.line (func_checked items before f)
 
-abbrev pub items_checked : List Item → List Item → List Item → Result (Unit {0}) TypeFault
+abbrev pub items_checked : List Item → List Item → List Item → Result (Unit {0}) TypeCause
 items_checked items before [] = Ok tt
 items_checked items before (i ∷ is) =
     and_then (item_checked items before i) (λ _. items_checked items (before ++ i ∷ []) is)
 
 -- ---- main
 
-abbrev pub main_by : ℕ → Option Func → Result ℕ TypeFault
-main_by k None = Err (At Main 1)
-main_by k (Some f) = if is_empty f.params && is_int f.result then Ok k else Err (At Main f.line)
+abbrev pub main_by : ℕ → Option Func → Result ℕ TypeCause
+main_by k None = Err (record { kind = Main; line = 1 })
+main_by k (Some f) = if is_empty f.params && is_int f.result then Ok k else Err (record { kind = Main; line = f.line })
 
-abbrev pub main_at : List Func → Option ℕ → Result ℕ TypeFault
-main_at fs None = Err (At Main 1)
+abbrev pub main_at : List Func → Option ℕ → Result ℕ TypeCause
+main_at fs None = Err (record { kind = Main; line = 1 })
 main_at fs (Some k) = main_by k (slice_get fs k)
 
 -- the function `main` has no parameters and gives an integer
-abbrev pub main_of : List Func → Result ℕ TypeFault
+abbrev pub main_of : List Func → Result ℕ TypeCause
 main_of fs = main_at fs (place_named (λ f. f.name) (codes "main") fs)
 
 -- ---- functions
@@ -122,13 +121,13 @@ abbrev pub begun : List Field → List TNote → Progress
 begun params loops = with_params (record { scope = no_scope; locals = []; loops = loops }) params
 
 -- the typed function of this number, and the loops of the program so far
-abbrev pub func_typed : Known → ℕ → Func → List TNote → Result (TFunc × List TNote) TypeFault
+abbrev pub func_typed : Known → ℕ → Func → List TNote → Result (TFunc × List TNote) TypeCause
 func_typed known n f loops =
     and_then (statements known n f.result false f.body (begun f.params loops)) (λ r.
     Ok (record { params = length f.params; locals = r.1.locals; body = r.0; line = f.line }, r.1.loops))
 
 -- functions from a number on
-abbrev pub funcs_typed : Known → ℕ → List Func → List TNote → Result (List TFunc × List TNote) TypeFault
+abbrev pub funcs_typed : Known → ℕ → List Func → List TNote → Result (List TFunc × List TNote) TypeCause
 funcs_typed known n [] loops = Ok ([], loops)
 funcs_typed known n (f ∷ fs) loops =
     and_then (func_typed known n f loops) (λ t.
@@ -154,7 +153,7 @@ globals_typed known [] = []
 globals_typed known (g ∷ gs) = global_typed known g ∷ globals_typed known gs
 
 -- with the sizes of a layout
-unfoldable pub typed_with : Layout → Program → Result Typed TypeFault
+unfoldable pub typed_with : Layout → Program → Result Typed TypeCause
 typed_with layout p =
     and_then (items_checked p.items [] p.items) (λ _.
     and_then (main_of (funcs_in p.items)) (λ main.
@@ -167,10 +166,10 @@ typed_with layout p =
       nodes = capped (program_nodes p);
     }))))
 
-abbrev pub typed_of : Program → Result Typed TypeFault
+abbrev pub typed_of : Program → Result Typed TypeCause
 typed_of p = typed_with (sizes p) p
 
-abbrev pub type_fault : Program → Option TypeFault
+abbrev pub type_fault : Program → Option TypeCause
 type_fault p = fault_of (typed_of p)
 
 -- The typed tree of a program that has neither a layout fault nor a type fault.

@@ -1,10 +1,9 @@
 -- The typed tree of a source and the entries of its annotated loops, or why the source is refused: the first cause in
 -- this order.
-use Rattle.std.specs.Prelude.{if◌then◌else◌, nat_lt, List, length, Option, Result, Ok, Err}
+use Rattle.std.specs.Prelude.{if◌then◌else◌, nat_lt, List, length, unwrap_or, Option, Result, Ok, Err}
 use Rattle.al_source.specs.Steps.{and_then}
 use Rattle.al_source.specs.declared.limits.TheConstants.{SOURCE_BYTES, SOURCE_NODES}
-use Rattle.al_source.specs.declared.faults.LexFault.TheVariants.{TooLong}
-use Rattle.al_source.specs.declared.faults.ParseFault.TheVariants.{Syntax}
+use Rattle.al_source.specs.declared.faults.LexFault.{LexFault}
 use Rattle.al_source.specs.declared.source_tree.Item.{Item}
 use Rattle.al_source.specs.declared.source_tree.Program.{Program}
 use Rattle.al_grammar.specs.Characters.{Bytes}
@@ -14,9 +13,11 @@ use Rattle.al_grammar.specs.Steps.{Read}
 use Rattle.al_grammar.specs.ProgramParser.{all_items}
 use Rattle.al_core.specs.declared.choices.LoopInfo.{LoopInfo}
 use Rattle.al_core.specs.declared.typed_tree.Typed.{Typed}
-use Rattle.al_rules.specs.declared.faults.LowerFault.TheVariants.{TooLarge}
+use Rattle.al_rules.specs.declared.faults.LexicalCause.{LexicalCause}
+use Rattle.al_rules.specs.declared.faults.LexicalCause.TheVariants.{TooLong}
 use Rattle.al_rules.specs.declared.faults.Refusal.{Refusal}
-use Rattle.al_rules.specs.declared.faults.Refusal.TheVariants.{Lexical, Grammar, Layout, Types, Notes, Lowering}
+use Rattle.al_rules.specs.declared.faults.Refusal.TheVariants.{Lexical, Grammar, Layout, Types, Notes, TooManyNodes}
+use Rattle.al_rules.specs.Faults.{spelled}
 use Rattle.al_rules.specs.Layouts.{fault_of, layout_of}
 use Rattle.al_rules.specs.Programs.{typed_with}
 use Rattle.al_rules.specs.Notes.{notes_of}
@@ -25,13 +26,18 @@ abbrev pub because : {A F : Type 0} → (F → Refusal) → Result A F → Resul
 because cause (Ok a) = Ok a
 because cause (Err fault) = Err (cause fault)
 
+-- No reading ends in want of memory.
+abbrev pub lexical_cause : LexFault → LexicalCause
+lexical_cause fault = unwrap_or (spelled fault) TooLong
+
 abbrev pub tokens_of : Bytes → Result Tokens Refusal
 tokens_of source =
-    if nat_lt SOURCE_BYTES (length source) then Err (Lexical TooLong) else because Lexical (reading source)
+    if nat_lt SOURCE_BYTES (length source) then Err (Lexical TooLong)
+    else because (λ fault. Lexical (lexical_cause fault)) (reading source)
 
 abbrev pub derived : Read (List Item) → Result Program Refusal
 derived (Ok r) = Ok (record { items = r.0 })
-derived (Err rest) = Err (Grammar Syntax)
+derived (Err rest) = Err Grammar
 
 abbrev pub program_of : Tokens → Result Program Refusal
 program_of tokens = derived (all_items tokens)
@@ -44,7 +50,7 @@ abbrev pub Noted : Type 0
 Noted = Typed × List LoopInfo
 
 abbrev pub small_enough : Noted → Result Noted Refusal
-small_enough t = if nat_lt SOURCE_NODES t.0.nodes then Err (Lowering TooLarge) else Ok t
+small_enough t = if nat_lt SOURCE_NODES t.0.nodes then Err TooManyNodes else Ok t
 
 abbrev pub annotated_well : Typed → Result Noted Refusal
 annotated_well typed = and_then (because Notes (notes_of typed)) (λ infos. small_enough (typed, infos))

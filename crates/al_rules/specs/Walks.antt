@@ -9,8 +9,7 @@ use Rattle.al_core.specs.declared.values.Kind.TheVariants as kind
 use Rattle.al_core.specs.declared.typed_tree.TLocal.{TLocal}
 use Rattle.al_core.specs.declared.typed_tree.TNote.{TNote}
 use Rattle.al_rules.specs.declared.faults.TypeKind.{TypeKind}
-use Rattle.al_rules.specs.declared.faults.TypeFault.{TypeFault}
-use Rattle.al_rules.specs.declared.faults.TypeFault.TheVariants.{At}
+use Rattle.al_rules.specs.declared.faults.TypeCause.{TypeCause}
 use Rattle.al_rules.specs.Names.{Name}
 use Rattle.al_rules.specs.Types.{kind_of}
 use Rattle.al_rules.specs.Scopes.{Scope, with_binding, nested}
@@ -22,12 +21,12 @@ pub record Progress : Type 0 where
   pub locals : List TLocal
   pub loops : List TNote
 
-abbrev pub at_line : {A : Type 0} → ℕ → Checked A → Result A TypeFault
+abbrev pub at_line : {A : Type 0} → ℕ → Checked A → Result A TypeCause
 at_line line (Ok a) = Ok a
-at_line line (Err kind) = Err (At kind line)
+at_line line (Err kind) = Err (record { kind = kind; line = line })
 
 abbrev pub Walk : Type 0 → Type 0
-Walk A = Progress → Result (A × Progress) TypeFault
+Walk A = Progress → Result (A × Progress) TypeCause
 
 -- ---- the words that every step is made of
 

@@ -1,6 +1,6 @@
 -- Which typed trees are well formed: each number is in range, and each value of the kind that is wanted where it
 -- stands.
-use Rattle.std.specs.Prelude.{◌≡◌, ℕ, ◌+◌, ◌≤◌, max, Bool, true, false, ◌&&◌, ◌||◌, List, [], ◌∷◌, ◌++◌, map, length, take, Option, Some, None, slice_get, pos}
+use Rattle.std.specs.Prelude.{◌≡◌, ℕ, ◌+◌, ◌≤◌, max, Bool, true, false, ◌&&◌, ◌||◌, ◌==◌, List, [], ◌∷◌, ◌++◌, map, length, take, Option, Some, None, slice_get, pos}
 use Rattle.std.specs.List.{list_all}
 use Rattle.std.specs.Ordering.{int_eq}
 use Rattle.al_source.specs.declared.operators.UnOp.{UnOp}
@@ -24,6 +24,7 @@ use Rattle.al_core.specs.declared.typed_tree.TFunc.{TFunc}
 use Rattle.al_core.specs.declared.typed_tree.TNote.{TNote}
 use Rattle.al_core.specs.declared.typed_tree.Typed.{Typed}
 use Rattle.al_rules.specs.Names.{AllOf}
+use Rattle.al_rules.specs.Statements.{numbers_in}
 
 -- ---- kinds
 
@@ -188,7 +189,8 @@ module _ (typed : Typed) (results : List (Option Kind)) (locals : List TLocal) w
   kind_formed result (TKind-F.UpdateAt op p x) looped =
       (place_kind p).formed && may_want (place_kind p).wants Int && fits x Int
   kind_formed result (TKind-F.Call x) looped = call_formed (out-TExpr x) x
-  kind_formed result (TKind-F.Print format xs) looped = list_all (λ x. fits x Int) xs
+  kind_formed result (TKind-F.Print format xs) looped =
+      (length xs == numbers_in format) && list_all (λ x. fits x Int) xs
   kind_formed result (TKind-F.If x s t) looped = fits_either (fits x) && s.1 looped && if_formed t looped
   kind_formed result (TKind-F.While x s) looped = fits_either (fits x) && s.1 true
   kind_formed result (TKind-F.For first test third body number) looped =

@@ -1,17 +1,49 @@
-use al_source::{LexFault, ParseFault};
+ghost use Rattle.std.specs.Prelude.{◌≡◌};
+ghost use Rattle.al_rules.specs.Faults as spec;
+
+use al_source::LexFault;
 use std::alloc::AllocError;
 use thiserror::Error;
 
+/// Why a source has no tokens. A number is a line, from 1.
+#[derive(Clone, Copy, Debug, PartialEq, Eq)]
+pub enum LexicalCause {
+    /// It has more than `SOURCE_BYTES` bytes.
+    TooLong,
+    BadByte(u32),
+    BadNumber(u32),
+    BadText(u32),
+    OpenComment(u32),
+}
+
 /// Why the structs and globals of a program have no layout. A number is the line of an item, from 1.
-#[derive(Clone, Copy, Debug, PartialEq, Eq, Error)]
-pub enum LayoutFault {
-    #[error("line {0}: struct holds itself")]
+#[derive(Clone, Copy, Debug, PartialEq, Eq)]
+pub enum LayoutCause {
     SelfHolding(u32),
     /// A struct, or the globals so far, have more than `OBJECT_WORDS` words.
-    #[error("line {0}: too many words")]
     TooLarge(u32),
-    #[error("out of memory")]
+}
+
+/// The cause, or want of memory.
+#[derive(Clone, Copy, Debug, PartialEq, Eq, Error)]
+#[error("the program has no layout")]
+pub enum LayoutFault {
+    SelfHolding(u32),
+    TooLarge(u32),
     Memory,
+}
+
+impl LayoutFault {
+    /// The cause, unless it is want of memory.
+    pub fn cause(self) -> Option<LayoutCause>
+        ensures { result ≡ spec.laid self }
+    {
+        match self {
+            LayoutFault::SelfHolding(line) => Some(LayoutCause::SelfHolding(line)),
+            LayoutFault::TooLarge(line) => Some(LayoutCause::TooLarge(line)),
+            LayoutFault::Memory => None,
+        }
+    }
 }
 
 impl From<AllocError> for LayoutFault {
@@ -49,13 +81,31 @@ pub enum TypeKind {
     Main,
 }
 
-/// Why a program has no types. The number is the line of a statement or item, from 1.
+/// Why a program has no types: what is wrong, and the line of its statement or item, from 1.
+#[derive(Clone, Copy, Debug, PartialEq, Eq)]
+pub struct TypeCause {
+    pub kind: TypeKind,
+    pub line: u32,
+}
+
+/// The cause, or want of memory.
 #[derive(Clone, Copy, Debug, PartialEq, Eq, Error)]
+#[error("the program has no types")]
 pub enum TypeFault {
-    #[error("line {1}: {0:?}")]
     At(TypeKind, u32),
-    #[error("out of memory")]
     Memory,
+}
+
+impl TypeFault {
+    /// The cause, unless it is want of memory.
+    pub fn cause(self) -> Option<TypeCause>
+        ensures { result ≡ spec.typed self }
+    {
+        match self {
+            TypeFault::At(kind, line) => Some(TypeCause { kind, line }),
+            TypeFault::Memory => None,
+        }
+    }
 }
 
 impl From<AllocError> for TypeFault {
@@ -88,13 +138,31 @@ pub enum NoteKind {
     ReductionUsed,
 }
 
-/// Why an annotated loop is refused. The number is the line of its `for`, from 1.
+/// Why an annotated loop is refused: what is wrong with it, and the line of its `for`, from 1.
+#[derive(Clone, Copy, Debug, PartialEq, Eq)]
+pub struct NoteCause {
+    pub kind: NoteKind,
+    pub line: u32,
+}
+
+/// The cause, or want of memory.
 #[derive(Clone, Copy, Debug, PartialEq, Eq, Error)]
+#[error("an annotated loop is refused")]
 pub enum NoteFault {
-    #[error("line {1}: {0:?}")]
     At(NoteKind, u32),
-    #[error("out of memory")]
     Memory,
+}
+
+impl NoteFault {
+    /// The cause, unless it is want of memory.
+    pub fn cause(self) -> Option<NoteCause>
+        ensures { result ≡ spec.noted self }
+    {
+        match self {
+            NoteFault::At(kind, line) => Some(NoteCause { kind, line }),
+            NoteFault::Memory => None,
+        }
+    }
 }
 
 impl From<AllocError> for NoteFault {
@@ -110,11 +178,10 @@ impl From<AllocError> for NoteFault {
 
 /// Why a typed program is not lowered.
 #[derive(Clone, Copy, Debug, PartialEq, Eq, Error)]
+#[error("the program is not lowered")]
 pub enum LowerFault {
     /// Its source has more than `SOURCE_NODES` statements and expressions.
-    #[error("too many nodes")]
     TooLarge,
-    #[error("out of memory")]
     Memory,
 }
 
@@ -129,13 +196,29 @@ impl From<AllocError> for LowerFault {
     }
 }
 
-/// Why a source is refused. No fault in it is want of memory.
+/// Why a source is refused.
 #[derive(Clone, Copy, Debug, PartialEq, Eq)]
 pub enum Refusal {
-    Lexical(LexFault),
-    Grammar(ParseFault),
-    Layout(LayoutFault),
-    Types(TypeFault),
-    Notes(NoteFault),
-    Lowering(LowerFault),
+    Lexical(LexicalCause),
+    /// Its tokens are no program.
+    Grammar,
+    Layout(LayoutCause),
+    Types(TypeCause),
+    Notes(NoteCause),
+    /// It has more than `SOURCE_NODES` statements and expressions.
+    TooManyNodes,
+}
+
+/// The cause of a lexical fault, unless it is want of memory.
+pub fn lexical_cause(fault: LexFault) -> Option<LexicalCause>
+    ensures { result ≡ spec.spelled fault }
+{
+    match fault {
+        LexFault::TooLong => Some(LexicalCause::TooLong),
+        LexFault::BadByte(line) => Some(LexicalCause::BadByte(line)),
+        LexFault::BadNumber(line) => Some(LexicalCause::BadNumber(line)),
+        LexFault::BadText(line) => Some(LexicalCause::BadText(line)),
+        LexFault::OpenComment(line) => Some(LexicalCause::OpenComment(line)),
+        LexFault::Memory => None,
+    }
 }

@@ -5,6 +5,9 @@ mod faults;
 mod layout;
 mod operands;
 
-pub use faults::{LayoutFault, LowerFault, NoteFault, NoteKind, Refusal, TypeFault, TypeKind};
+pub use faults::{
+    LayoutCause, LayoutFault, LexicalCause, LowerFault, NoteCause, NoteFault, NoteKind, Refusal,
+    TypeCause, TypeFault, TypeKind, lexical_cause,
+};
 pub use layout::{Layout, StructLayout};
 pub use operands::{Operand, Value};

@@ -20,8 +20,7 @@ use Rattle.al_core.specs.declared.typed_tree.TStmt.{TStmt}
 use Rattle.al_core.specs.declared.typed_tree.Typed.{Typed}
 use Rattle.al_ast.specs.Nodes.{capped, program_nodes}
 use Rattle.al_rules.specs.declared.faults.TypeKind.TheVariants.{Main}
-use Rattle.al_rules.specs.declared.faults.TypeFault.{TypeFault}
-use Rattle.al_rules.specs.declared.faults.TypeFault.TheVariants.{At}
+use Rattle.al_rules.specs.declared.faults.TypeCause.{TypeCause}
 use Rattle.al_rules.specs.declared.layout.Layout.{Layout}
 use Rattle.al_rules.specs.Names.{Name, AllOf, none, more, place_named}
 use Rattle.al_rules.specs.Layouts.{sizes, layout_of, words_of}
@@ -110,14 +109,14 @@ typings : (known : Known) (n : ℕ) (fs : List Func) (loops : List TNote) (z : L
     → Typings known n fs loops z.0 z.1
 typings known n [] loops z e = subst (λ (z : List TFunc × List TNote). Typings known n [] loops z.0 z.1) (same e) done
   where
-    same : ◌≡◌ {A = Result (List TFunc × List TNote) TypeFault} (Ok ([], loops)) (Ok z) → ◌≡◌ {A = List TFunc × List TNote} ([], loops) z
+    same : ◌≡◌ {A = Result (List TFunc × List TNote) TypeCause} (Ok ([], loops)) (Ok z) → ◌≡◌ {A = List TFunc × List TNote} ([], loops) z
     same e = cc
 typings known n (f ∷ fs) loops z e =
     let a = then_ok (func_typed known n f loops) (λ t. and_then (funcs_typed known (n + 1) fs t.1) (λ ts. Ok (t.0 ∷ ts.0, ts.1))) z e in
     let b = then_ok (funcs_typed known (n + 1) fs a.0.1) (λ ts. Ok (a.0.0 ∷ ts.0, ts.1)) z a.2 in
     subst (λ (z : List TFunc × List TNote). Typings known n (f ∷ fs) loops z.0 z.1) (same a.0 b.0 b.2) (next a.1 (typings known (n + 1) fs a.0.1 b.0 b.1))
   where
-    same : (a : TFunc × List TNote) (b : List TFunc × List TNote) → ◌≡◌ {A = Result (List TFunc × List TNote) TypeFault} (Ok (a.0 ∷ b.0, b.1)) (Ok z)
+    same : (a : TFunc × List TNote) (b : List TFunc × List TNote) → ◌≡◌ {A = Result (List TFunc × List TNote) TypeCause} (Ok (a.0 ∷ b.0, b.1)) (Ok z)
         → ◌≡◌ {A = List TFunc × List TNote} (a.0 ∷ b.0, b.1) z
     same a b e = cc
 
@@ -163,7 +162,7 @@ body_of known n f before t after e =
   where
     same : (r : List TStmt × Progress)
         → ◌≡◌ {A = Result (TFunc
-        × List TNote) TypeFault} (Ok (record { params = length f.params; locals = r.1.locals; body = r.0; line = f.line }, r.1.loops)) (Ok (t, after))
+        × List TNote) TypeCause} (Ok (record { params = length f.params; locals = r.1.locals; body = r.0; line = f.line }, r.1.loops)) (Ok (t, after))
         → ◌≡◌ {A = TFunc × List TNote} (record { params = length f.params; locals = r.1.locals; body = r.0; line = f.line }, r.1.loops) (t, after)
     same r e = cc
 
@@ -390,18 +389,21 @@ pub record MainIs (fs : List Func) (k : ℕ) : Type 0 where
   pub no_params : func.params ≡ []
   pub gives_int : func.result ≡ t.Int
 
+abbrev no_main : Func → Result ℕ TypeCause
+no_main f = Err (record { kind = Main; line = f.line })
+
 main_is : (fs : List Func) (o : Option ℕ) (k : ℕ) → main_at fs o ≡ Ok k → MainIs fs k
 main_is fs None k e = absurd cc
 main_is fs (Some n) k e = by (slice_get fs n) refl e
   where
-    same : ◌≡◌ {A = Result ℕ TypeFault} (Ok n) (Ok k) → n ≡ k
+    same : ◌≡◌ {A = Result ℕ TypeCause} (Ok n) (Ok k) → n ≡ k
     same e = cc
 
     empty : (hs : List Field) → is_empty hs ≡ true → hs ≡ []
     empty [] e = refl
     empty (h ∷ hs) e = absurd cc
 
-    of : (f : Func) → slice_get fs n ≡ Some f → (b : Bool) → (is_empty f.params && is_int f.result) ≡ b → (if b then Ok n else Err (At Main f.line)) ≡ Ok k
+    of : (f : Func) → slice_get fs n ≡ Some f → (b : Bool) → (is_empty f.params && is_int f.result) ≡ b → (if b then Ok n else no_main f) ≡ Ok k
         → MainIs fs k
     of f s true both e =
         let q = and_parts (is_empty f.params) (is_int f.result) both in
@@ -457,7 +459,7 @@ resolved_formed q l typed laid e =
     (tree_formed q b.0 c.0 (well_typed q l typed laid e) (main_is (funcs_in q.items) (place_named (λ f. f.name) (codes "main") (funcs_in q.items)) b.0 b.1)
     (typings known 0 (funcs_in q.items) [] c.0 c.1))
   where
-    same : (u : Typed) → ◌≡◌ {A = Result Typed TypeFault} (Ok u) (Ok typed) → u ≡ typed
+    same : (u : Typed) → ◌≡◌ {A = Result Typed TypeCause} (Ok u) (Ok typed) → u ≡ typed
     same u e = cc
 
 pub resolved_is_well_formed : (q : Program) (typed : Typed) → Resolved q typed → IsWellFormed typed

@@ -1,5 +1,5 @@
 -- What the walk makes of a statement is well formed.
-use Rattle.std.proofs.Common.{◌≡◌, ℕ, ◌+◌, ◌≤◌, ◌<◌, find, bytes_eq, option_map, option_and_then, ◌==◌, Bool, true, false, not, ◌||◌, List, [], ◌∷◌, ◌++◌, length, if◌then◌else◌, Option, Some, None, Ok, slice_get, pos, refl, sym, ap, ◌∙◌, subst, arith}
+use Rattle.std.proofs.Common.{◌≡◌, ℕ, suc, ◌+◌, ◌≤◌, ◌<◌, find, bytes_eq, option_map, option_and_then, ◌==◌, Bool, true, false, not, ◌||◌, List, [], ◌∷◌, ◌++◌, length, if◌then◌else◌, Option, Some, None, Ok, slice_get, pos, refl, sym, ap, ◌∙◌, subst, arith}
 use Rattle.std.specs.List.{list_all}
 use Rattle.std.proofs.lemmas.Option.{slice_get_within}
 use Rattle.al_source.specs.Steps.{and_then}
@@ -531,6 +531,13 @@ module _ (typed : Typed) (results : List (Option Kind)) (known : Known) (n : ℕ
       subst (λ vs. list_all (λ v. fits typed results L v kind.Int) vs ≡ true) (ok_is us.2)
       (and_both (fe.integer_fits typed results L known (in_scope s.scope) cx placed p v.0 d v.1) (integers_fit s placed us.0 ds us.1))
 
+  as_many_integers : (ps : List Operand) (vs : List TExpr) → each o.integer ps ≡ Ok vs → length vs ≡ length ps
+  as_many_integers [] vs is = ap length (sym (ok_is is))
+  as_many_integers (p ∷ ps) vs is =
+      let v = then_ok (o.integer p) (λ b. and_then (each o.integer ps) (λ bs. Ok (b ∷ bs))) vs is in
+      let us = then_ok (each o.integer ps) (λ bs. Ok (v.0 ∷ bs)) vs v.2 in
+      ap length (sym (ok_is us.2)) ∙ ap suc (as_many_integers ps us.0 us.1)
+
   print_formed : (format : List Piece) (xs : List Expr) → KindFormed (k.Print format xs)
   print_formed format xs line looped s z e =
       let d = by_walk (nodes.walks-Print known n rty format xs line looped) s z e in
@@ -543,7 +550,8 @@ module _ (typed : Typed) (results : List (Option Kind)) (known : Known) (n : ℕ
       made line looped (tk.Print format v.0, s) z (pure_is (tk.Print format v.0) s z v.2)
       (step_as typed L (sym (wf.counted-Print n format v.0 line)) (step_here typed L (λ ok pre.
       wf.formed-Print typed results L (kind_of rty) format v.0 looped
-      ∙ integers_fit s (placed_grows pre ok) v.0 (fe.operands_good typed results L known (in_scope s.scope) cx (placed_grows pre ok) xs p.0 p.1) v.1)))
+      ∙ and_both (ap (λ m. m == w.numbers_in format) (as_many_integers p.0 v.0 v.1) ∙ ensure_ok (length p.0 == w.numbers_in format) Count u.0 u.1)
+      (integers_fit s (placed_grows pre ok) v.0 (fe.operands_good typed results L known (in_scope s.scope) cx (placed_grows pre ok) xs p.0 p.1) v.1))))
       (λ first. ap simple_kind (tk.outs-Print format v.0))
 
   choice_formed : (c : Expr) (a : Stmt) (b : Option Stmt) → Formed a → IfAny Formed b → KindFormed (k.If c a b)

@@ -21,3 +21,4 @@ pub mod LoopEntries
 pub mod AcceptedReductions
 pub mod IllFormedTrees
 pub mod NumbersInRange
+pub mod AcceptedSources

@@ -21,7 +21,7 @@ use Rattle.al_core.specs.declared.typed_tree.Typed.{Typed}
 use Rattle.al_core.specs.Loops.{ForLoop, for_loops_in, PlacedLoop, program_loops, Start, start_of, Loop, started_loop, noted_loop, loop_at}
 use Rattle.al_core.specs.Loops as meaning
 use Rattle.al_rules.specs.declared.faults.NoteKind.{NoteKind}
-use Rattle.al_rules.specs.declared.faults.NoteFault.{NoteFault}
+use Rattle.al_rules.specs.declared.faults.NoteCause.{NoteCause}
 use Rattle.al_rules.specs.Names.{AllOf, none, more}
 use Rattle.al_rules.specs.ForLoops.{is_integer, form_by, form_of, counter_in, counter_of, counts, is_local, bound_in, bound_by, bound_of}
 use Rattle.al_rules.specs.Notes.{wrong_in, info_of, unless_wrong, formed, entry_of, entries, notes_of}
@@ -101,7 +101,7 @@ module _ (typed : Typed) where
 
 -- ---- the notes of loops
 
-abbrev Told : Typed → Standing → Type 0
+abbrev pub Told : Typed → Standing → Type 0
 Told typed st = (note : TNote) × (slice_get typed.loops st.number ≡ Some note) × (note.func ≡ st.func)
 
 notes_told : (typed : Typed) (n : ℕ) (notes : List TNote) → ((k : ℕ) (x : TNote) → slice_get notes k ≡ Some x → slice_get typed.loops (n + k) ≡ Some x)
@@ -112,7 +112,7 @@ notes_told typed n (note ∷ notes) h =
     (notes_told typed (n + 1) notes (λ k x e. ap (slice_get typed.loops) (omega arith) ∙ h (suc k) x e))
 
 -- each loop of a function has its note
-told_at : (typed : Typed) (n k : ℕ) (fs : List TFunc) (f : TFunc) → slice_get fs k ≡ Some f → AllOf (Told typed) (loops_from n fs)
+pub told_at : (typed : Typed) (n k : ℕ) (fs : List TFunc) (f : TFunc) → slice_get fs k ≡ Some f → AllOf (Told typed) (loops_from n fs)
     → AllOf (Told typed) ((counted_all (n + k) f.body).loops f.params)
 told_at typed n k [] f at t = absurd cc
 told_at typed n zero (g ∷ fs) f at t =
@@ -132,7 +132,7 @@ within typed tree.none none = none
 within typed (tree.more {l = l} same f p) (more h hs) =
     more (subst (λ n. n < length typed.loops) same (slice_get_within typed.loops _ h.0 h.1)) (within typed p hs)
 
-all_loops_told : (typed : Typed) → loops_from 0 typed.funcs ≡ notes_from 0 typed.loops → AllOf (Told typed) (loops_from 0 typed.funcs)
+pub all_loops_told : (typed : Typed) → loops_from 0 typed.funcs ≡ notes_from 0 typed.loops → AllOf (Told typed) (loops_from 0 typed.funcs)
 all_loops_told typed loops = subst (AllOf (Told typed)) (sym loops) (notes_told typed 0 typed.loops (λ k x e. ap (slice_get typed.loops) (omega arith) ∙ e))
 
 pub loops_told : (typed : Typed) → loops_from 0 typed.funcs ≡ notes_from 0 typed.loops → (k : ℕ) (f : TFunc) → slice_get typed.funcs k ≡ Some f
@@ -185,7 +185,7 @@ module _ (typed : Typed) where
       right form is (Some kind) w e = absurd cc
       right form is None w e = subst (EntryHere n) (same e) (entry_at n l note at form is w, refl)
         where
-          same : ◌≡◌ {A = Result LoopInfo NoteFault} (Ok (info_of n note form)) (Ok info) → info_of n note form ≡ info
+          same : ◌≡◌ {A = Result LoopInfo NoteCause} (Ok (info_of n note form)) (Ok info) → info_of n note form ≡ info
           same e = cc
 
       by : (m : Option (ℕ × Bound)) → form_of l.func.locals l.loop ≡ m → formed typed l.loop.body n note m ≡ Ok info → EntryHere n info
@@ -203,7 +203,7 @@ module _ (typed : Typed) where
   all_entries n [] _ infos nothing h g e =
       subst (EntriesOf n (n + 0)) (same e) (record { each = none; numbered = subst (λ m. Numbered entry_number n [] m) (sym (add-zero n)) done })
     where
-      same : ◌≡◌ {A = Result (List LoopInfo) NoteFault} (Ok []) (Ok infos) → [] ≡ infos
+      same : ◌≡◌ {A = Result (List LoopInfo) NoteCause} (Ok []) (Ok infos) → [] ≡ infos
       same e = cc
   all_entries n (note ∷ notes) _ infos (one {l = l} {ls = ls} numbered stands p) h g e =
       let a = then_ok (entry_of typed n l note) (λ info. and_then (entries typed (n + 1) ls notes) (λ infos. Ok (info ∷ infos))) infos e in
@@ -224,7 +224,7 @@ module _ (typed : Typed) where
       later : (n k : ℕ) → n + 1 + k ≡ n + suc k
       later n k = omega arith
 
-      same : (us : List LoopInfo) → ◌≡◌ {A = Result (List LoopInfo) NoteFault} (Ok us) (Ok infos) → us ≡ infos
+      same : (us : List LoopInfo) → ◌≡◌ {A = Result (List LoopInfo) NoteCause} (Ok us) (Ok infos) → us ≡ infos
       same us e = cc
 
   pub entries_are : (infos : List LoopInfo) → loops_from 0 typed.funcs ≡ notes_from 0 typed.loops → notes_of typed ≡ Ok infos
@@ -240,11 +240,11 @@ module _ (typed : Typed) where
 -- ---- the loop of an entry
 
 -- what its form says of a loop
-record Formed (locals : List TLocal) (l : ForLoop) (form : ℕ × Bound) : Type 0 where
-  counter : counter_of locals l.first ≡ Some form.0
-  bound : bound_of locals form.0 l.test ≡ Some form.1
+pub record Formed (locals : List TLocal) (l : ForLoop) (form : ℕ × Bound) : Type 0 where
+  pub counter : counter_of locals l.first ≡ Some form.0
+  pub bound : bound_of locals form.0 l.test ≡ Some form.1
 
-form_parts : (locals : List TLocal) (l : ForLoop) (form : ℕ × Bound) → form_of locals l ≡ Some form → Formed locals l form
+pub form_parts : (locals : List TLocal) (l : ForLoop) (form : ℕ × Bound) → form_of locals l ≡ Some form → Formed locals l form
 form_parts locals l form e = by (counter_of locals l.first) refl e
   where
     in_third : (counter : ℕ) (b : Bound) → counter_of locals l.first ≡ Some counter → bound_of locals counter l.test ≡ Some b → (c : Bool)
@@ -282,7 +282,7 @@ bound_inside locals counter (TExpr-F.Choose o x y) b e = absurd cc
 bound_inside locals counter (TExpr-F.Calloc x size) b e = absurd cc
 bound_inside locals counter (TExpr-F.Free x) b e = absurd cc
 
-bound_less : (locals : List TLocal) (counter : ℕ) (o : BinOp) (x y : TExpr) (b : Bound) → bound_by locals counter (TExpr-F.Binary o x y) ≡ Some b
+pub bound_less : (locals : List TLocal) (counter : ℕ) (o : BinOp) (x y : TExpr) (b : Bound) → bound_by locals counter (TExpr-F.Binary o x y) ≡ Some b
     → bound_in locals counter (out-TExpr y) ≡ Some b
 bound_less locals counter op.Lt x y b e = by (is_local counter (out-TExpr x)) e
   where

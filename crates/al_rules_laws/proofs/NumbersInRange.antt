@@ -1,5 +1,5 @@
 -- What a well-formed function mentions is there.
-use Rattle.std.proofs.Common.{◌≡◌, ℕ, suc, ◌<◌, ◌&&◌, Bool, true, false, List, [], ◌∷◌, ◌++◌, map, length, Option, Some, None, slice_get, All, flat_map, refl, sym, ap, ◌∙◌, subst, ⊎_elim}
+use Rattle.std.proofs.Common.{◌≡◌, ℕ, suc, ◌<◌, ◌&&◌, ◌==◌, Bool, true, false, List, [], ◌∷◌, ◌++◌, map, length, Option, Some, None, slice_get, All, flat_map, refl, sym, ap, ◌∙◌, subst, ⊎_elim}
 use Rattle.std.specs.List.{list_all}
 use Rattle.std.proofs.lemmas.Option.{slice_get_within}
 use Rattle.al_source.specs.declared.source_tree.Program.{Program}
@@ -26,6 +26,7 @@ use Rattle.al_laws.proofs.Induction.{With, expr_induct, place_induct, stmt_induc
 use Rattle.al_rules.specs.Names.{AllOf, none, more}
 use Rattle.al_rules.specs.Candidates.{all_of, expr_names, place_names, names, names_at, any_names, kind_names, variables, variables_in}
 use Rattle.al_rules.specs.Programs.{Resolved}
+use Rattle.al_rules.specs.Statements.{numbers_in}
 use Rattle.al_rules.specs.WellFormed.{FitsKind, PlaceKind, local_kind, is_some_kind, is_one, may_want, fits_either, fits_want, fit_all, param_kinds, fit_params, gives, global_kind, operand_fits, expr_fits, place_kind_case, fits, place_kind, is_int_local, call_formed, sets_formed, test_formed, return_formed, FormedStmt, FormedKind, is_simple, all_formed, kind_formed, formed, formed_in, IsFormedFunc}
 use Rattle.al_rules_laws.specs.FormedLaws.{AreInPlace, IsThere, IsInRange}
 use Rattle.al_rules_laws.proofs.Logic.{and_parts, or_parts}
@@ -350,7 +351,8 @@ module _ (typed : Typed) (results : List (Option Kind)) (f : TFunc) where
         let h = and_parts (Formed q && may_want (place_kind typed results f.locals q).wants Int) (Fits x Int) e in
         of_place q x (place_ranged q (and_parts (Formed q) (may_want (place_kind typed results f.locals q).wants Int) h.0).0) (expr_ranged x Int h.1)
     layer_spoken (TKind-F.Call x) looped e = of_expr x (statement_ranged x (out-TExpr x) refl e)
-    layer_spoken (TKind-F.Print format xs) looped e = all_spoken xs e
+    layer_spoken (TKind-F.Print format xs) looped e =
+        all_spoken xs (and_parts (length xs == numbers_in format) (list_all (λ x. Fits x Int) xs) e).1
     layer_spoken (TKind-F.If x a None) looped e =
         let h = and_parts (fits_either (Fits x) && is_formed a.0 looped) true e in
         let k = and_parts (fits_either (Fits x)) (is_formed a.0 looped) h.0 in

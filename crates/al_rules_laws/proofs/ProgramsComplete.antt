@@ -16,8 +16,8 @@ use Rattle.al_core.specs.declared.typed_tree.TNote.{TNote}
 use Rattle.al_core.specs.declared.typed_tree.TFunc.{TFunc}
 use Rattle.al_core.specs.declared.typed_tree.Typed.{Typed}
 use Rattle.al_ast.specs.Nodes.{capped, program_nodes}
-use Rattle.al_rules.specs.declared.faults.TypeFault.{TypeFault}
-use Rattle.al_rules.specs.declared.faults.LayoutFault.TheVariants.{SelfHolding, TooLarge}
+use Rattle.al_rules.specs.declared.faults.TypeCause.{TypeCause}
+use Rattle.al_rules.specs.declared.faults.LayoutCause.TheVariants.{SelfHolding, TooLarge}
 use Rattle.al_rules.specs.declared.layout.Layout.{Layout}
 use Rattle.al_rules.specs.Names.{Name, AllOf, none, more, any_named}
 use Rattle.al_rules.specs.Layouts.{too_large, holds, words_of, words_of_fields, no_layout, with_item, with_items, layout_fault_at, unless, laid_out, layout_of, sizes}
@@ -176,7 +176,7 @@ body_ok items layout n f loops d =
     (params_are f.params (record { scope = no_scope; locals = []; loops = loops })) in
     let z : TFunc × List TNote = (record { params = length f.params; locals = h.end.1.locals; body = h.end.0; line = f.line }, h.end.1.loops) in (
       z,
-      ap (λ (q : Result _ TypeFault). and_then q
+      ap (λ (q : Result _ TypeCause). and_then q
           (λ r. Ok (record { params = length f.params; locals = r.1.locals; body = r.0; line = f.line }, r.1.loops))) h.ends,
     )
 

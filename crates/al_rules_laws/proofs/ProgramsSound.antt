@@ -19,10 +19,9 @@ use Rattle.al_core.specs.declared.typed_tree.TNote.{TNote}
 use Rattle.al_core.specs.declared.typed_tree.TFunc.{TFunc}
 use Rattle.al_core.specs.declared.typed_tree.Typed.{Typed}
 use Rattle.al_rules.specs.declared.faults.TypeKind.TheVariants.{Twice, Shape, Mismatch, Main}
-use Rattle.al_rules.specs.declared.faults.TypeFault.{TypeFault}
-use Rattle.al_rules.specs.declared.faults.TypeFault.TheVariants.{At}
-use Rattle.al_rules.specs.declared.faults.LayoutFault.{LayoutFault}
-use Rattle.al_rules.specs.declared.faults.LayoutFault.TheVariants.{SelfHolding, TooLarge}
+use Rattle.al_rules.specs.declared.faults.TypeCause.{TypeCause}
+use Rattle.al_rules.specs.declared.faults.LayoutCause.{LayoutCause}
+use Rattle.al_rules.specs.declared.faults.LayoutCause.TheVariants.{SelfHolding, TooLarge}
 use Rattle.al_rules.specs.declared.layout.Layout.{Layout}
 use Rattle.al_rules.specs.Names.{Name, AllOf, none, more, any_named, place_named}
 use Rattle.al_rules.specs.Checks.{Checked, ensure, ◌>>◌}
@@ -60,7 +59,7 @@ sum_more xs n = sum_from 0 xs
 pub at_line_ok : {A : Type 0} (line : ℕ) (c : Checked A) (a : A) → at_line line c ≡ Ok a → c ≡ Ok a
 at_line_ok {A = A} line (Ok b) a e = ap of_fault e
   where
-    of_fault : Result A TypeFault → Checked A
+    of_fault : Result A TypeCause → Checked A
     of_fault (Ok b) = Ok b
     of_fault (Err x) = Ok b
 at_line_ok line (Err k) a e = absurd cc
@@ -90,7 +89,7 @@ struct_words l s e =
 globals_small : (l : Layout) (is : List Item) (m : Layout) → sum l.globals ≤ OBJECT_WORDS → laid_out l is ≡ Ok m → sum m.globals ≤ OBJECT_WORDS
 globals_small l [] m le e = subst (λ (k : Layout). sum k.globals ≤ OBJECT_WORDS) (same e) le
   where
-    same : ◌≡◌ {A = Result Layout LayoutFault} (Ok l) (Ok m) → l ≡ m
+    same : ◌≡◌ {A = Result Layout LayoutCause} (Ok l) (Ok m) → l ≡ m
     same e = cc
 globals_small l (i ∷ is) m le e =
     let u = unless_ok (layout_fault_at l i) (laid_out (with_item l i) is) m e in
@@ -209,6 +208,9 @@ items_are items before (i ∷ is) u m e l =
 
 -- ---- main
 
+abbrev no_main : Func → Result ℕ TypeCause
+no_main f = Err (record { kind = Main; line = f.line })
+
 main_found : (fs : List Func) (o : Option ℕ) (k : ℕ) → position (λ f. bytes_eq f.name (codes "main")) fs ≡ o → main_at fs o ≡ Ok k → p.HasMain fs
 main_found fs None k is e = absurd cc
 main_found fs (Some n) k is e = by (slice_get fs n) refl e
@@ -217,7 +219,7 @@ main_found fs (Some n) k is e = by (slice_get fs n) refl e
     by None s e = absurd cc
     by (Some f) s e = of (is_empty f.params && is_int f.result) refl e
       where
-        of : (b : Bool) → (is_empty f.params && is_int f.result) ≡ b → (if b then Ok n else Err (At Main f.line)) ≡ Ok k → p.HasMain fs
+        of : (b : Bool) → (is_empty f.params && is_int f.result) ≡ b → (if b then Ok n else no_main f) ≡ Ok k → p.HasMain fs
         of true both e =
             let q = and_parts (is_empty f.params) (is_int f.result) both in
             record {

@@ -3,7 +3,7 @@ use Rattle.std.proofs.Common.{◌≡◌, ℕ, List, [], ◌∷◌, ◌++◌, map
 use Rattle.al_source.specs.Steps.{and_then}
 use Rattle.al_source.specs.declared.source_tree.CType.{CType}
 use Rattle.al_core.specs.declared.choices.Choice.{Choice}
-use Rattle.al_rules.specs.declared.faults.TypeFault.{TypeFault}
+use Rattle.al_rules.specs.declared.faults.TypeCause.{TypeCause}
 use Rattle.al_rules.specs.declared.faults.TypeKind.{TypeKind}
 use Rattle.al_rules.specs.Names.{Name}
 use Rattle.al_rules.specs.Checks.{Checked}
@@ -13,7 +13,7 @@ use Rattle.al_rules.specs.StatementRules as r
 use Rattle.al_rules_laws.proofs.NameFacts.{field_of_binding}
 
 -- a walk that ends with this value and this progress
-abbrev pub Ends : {A : Type 0} → Result (A × Progress) TypeFault → A × Progress → Type 0
+abbrev pub Ends : {A : Type 0} → Result (A × Progress) TypeCause → A × Progress → Type 0
 Ends {A = A} told r = told ≡ Ok r
 
 -- ---- what a step leaves
@@ -42,7 +42,7 @@ module _ {A B : Type 0} where
   unfolding bind
   bind_ends p f s r e = by (p s) refl e
     where
-      by : (t : Result (A × Progress) TypeFault) → p s ≡ t → and_then t (λ q. f q.0 q.1) ≡ Ok r → (q : A × Progress) × Ends (p s) q × Ends (f q.0 q.1) r
+      by : (t : Result (A × Progress) TypeCause) → p s ≡ t → and_then t (λ q. f q.0 q.1) ≡ Ok r → (q : A × Progress) × Ends (p s) q × Ends (f q.0 q.1) r
       by (Ok q) is e = (q, is, e)
       by (Err x) is e = absurd cc
 
@@ -64,7 +64,7 @@ module _ {A B : Type 0} where
   unfolding bind
   assoc {C = C} p f k s = by (p s)
     where
-      by : (t : Result (A × Progress) TypeFault)
+      by : (t : Result (A × Progress) TypeCause)
           → and_then (and_then t (λ q. f q.0 q.1)) (λ q. k q.0 q.1) ≡ and_then t (λ q. and_then (f q.0 q.1) (λ q. k q.0 q.1))
       by (Ok q) = refl
       by (Err x) = refl
@@ -82,7 +82,7 @@ module _ {A : Type 0} where
   unfolding bind pure
   bind_pure p s = by (p s)
     where
-      by : (t : Result (A × Progress) TypeFault) → and_then t (λ q. Ok (q.0, q.1)) ≡ t
+      by : (t : Result (A × Progress) TypeCause) → and_then t (λ q. Ok (q.0, q.1)) ≡ t
       by (Ok q) = refl
       by (Err x) = refl
 
@@ -118,13 +118,13 @@ module _ {A : Type 0} where
       → (q : A × Progress) × Ends (p (scoped s (nested s.scope))) q × ((q.0, scoped q.1 s.scope) ≡ r)
   within_ends p s r e = by (p (scoped s (nested s.scope))) refl (sym (within_by p s) ∙ e)
     where
-      by : (t : Result (A × Progress) TypeFault) → p (scoped s (nested s.scope)) ≡ t → and_then t (λ q. Ok (q.0, scoped q.1 s.scope)) ≡ Ok r
+      by : (t : Result (A × Progress) TypeCause) → p (scoped s (nested s.scope)) ≡ t → and_then t (λ q. Ok (q.0, scoped q.1 s.scope)) ≡ Ok r
           → (q : A × Progress) × Ends (p (scoped s (nested s.scope))) q × ((q.0, scoped q.1 s.scope) ≡ r)
       by (Ok q) is e = (q, is, cc)
       by (Err x) is e = absurd cc
 
   pub within_by_end : (p : Walk A) (s : Progress) (q : A × Progress) → Ends (p (scoped s (nested s.scope))) q → Ends (within p s) (q.0, scoped q.1 s.scope)
-  within_by_end p s q e = within_by p s ∙ ap (λ (t : Result (A × Progress) TypeFault). and_then t (λ q. Ok (q.0, scoped q.1 s.scope))) e
+  within_by_end p s q e = within_by p s ∙ ap (λ (t : Result (A × Progress) TypeCause). and_then t (λ q. Ok (q.0, scoped q.1 s.scope))) e
 
   pub never_ends : (line : ℕ) (k : TypeKind) (s : Progress) (r : A × Progress) → Ends (fails line k s) r → ⊥
   unfolding checks
@@ -135,7 +135,7 @@ module _ {A : Type 0} where
 module _ {A B : Type 0} where
   pub bind_by : (p : Walk A) (f : A → Walk B) (s : Progress) (q : A × Progress) → Ends (p s) q → bind p f s ≡ f q.0 q.1
   unfolding bind
-  bind_by p f s q e = ap (λ (t : Result (A × Progress) TypeFault). and_then t (λ q. f q.0 q.1)) e
+  bind_by p f s q e = ap (λ (t : Result (A × Progress) TypeCause). and_then t (λ q. f q.0 q.1)) e
 
   pub checks_by : (line : ℕ) (c : Scope → Checked A) (f : A → Walk B) (s : Progress) (a : A) → c s.scope ≡ Ok a → bind (checks line c) f s ≡ f a s
   unfolding bind checks

@@ -1,5 +1,7 @@
 -- What holds of the typed tree of a program.
-use Rattle.std.specs.Prelude.{◌≡◌, ℕ, ◌<◌, length, All, Some, flat_map, slice_get}
+use Rattle.std.specs.Prelude.{◌≡◌, ℕ, ◌<◌, List, length, All, Some, Ok, flat_map, slice_get}
+use Rattle.al_grammar.specs.Characters.{Bytes}
+use Rattle.al_core.specs.declared.choices.LoopInfo.{LoopInfo}
 use Rattle.al_source.specs.declared.source_tree.Program.{Program}
 use Rattle.al_core.specs.declared.values.Obj.{Obj}
 use Rattle.al_core.specs.declared.values.Obj.TheVariants.{Global}
@@ -10,7 +12,9 @@ use Rattle.al_core.specs.declared.typed_tree.Typed.{Typed}
 use Rattle.al_core.specs.Accepted.{terms_of, calls_of}
 use Rattle.al_core.specs.Loops.{for_loops_in, PlacedLoop, program_loops}
 use Rattle.al_rules.specs.Candidates.{variables}
+use Rattle.al_rules.specs.Notes.{notes_of}
 use Rattle.al_rules.specs.Programs.{Resolved}
+use Rattle.al_rules.specs.Refusals.{accepted}
 use Rattle.al_rules.specs.WellFormed.{IsWellFormed}
 
 -- It is well formed: each number is in range, and each value of the kind that its place wants.
@@ -45,3 +49,13 @@ pub record AreInPlace (typed : Typed) : Type 0 where
 
 abbrev pub LoopsAreInPlace : Type 0
 LoopsAreInPlace = (p : Program) (typed : Typed) → Resolved p typed → AreInPlace typed
+
+-- A tree is well formed, and these are the entries of its annotated loops.
+pub record IsFormedWith (typed : Typed) (infos : List LoopInfo) : Type 0 where
+  pub formed : IsWellFormed typed
+  pub entries : notes_of typed ≡ Ok infos
+
+-- That is so of an accepted source.
+abbrev pub AcceptedIsFormed : Type 0
+AcceptedIsFormed =
+    (source : Bytes) (typed : Typed) (infos : List LoopInfo) → accepted source ≡ Ok (typed, infos) → IsFormedWith typed infos

@@ -1,4 +1,4 @@
-ghost use Rattle.al_rules_laws.specs.FormedLaws.{LoopsAreInPlace, NumbersAreInRange, ResolvedIsWellFormed};
+ghost use Rattle.al_rules_laws.specs.FormedLaws.{AcceptedIsFormed, LoopsAreInPlace, NumbersAreInRange, ResolvedIsWellFormed};
 ghost use Rattle.al_rules_laws.specs.IllFormed.{NoGlobalOutOfRange, NoLocalOutOfRange, NoPointerInInteger, NoValueOfFree, NoValueOfNothing};
 
 /// The typed tree of a program that has neither a layout fault nor a type fault is well formed: each number of a local,
@@ -6,6 +6,12 @@ ghost use Rattle.al_rules_laws.specs.IllFormed.{NoGlobalOutOfRange, NoLocalOutOf
 #[tactic(auto, using(crate::proofs::FormedPrograms::resolved_is_well_formed))]
 pub fn resolved_is_well_formed()
     ensures { ResolvedIsWellFormed }
+{}
+
+/// The typed tree of an accepted source is well formed, and its entries are those of its annotated loops.
+#[tactic(auto, using(crate::proofs::AcceptedSources::accepted_is_formed))]
+pub fn accepted_is_formed()
+    ensures { AcceptedIsFormed }
 {}
 
 /// In the typed tree of such a program each local that a function mentions is one of its own, each global and function is

@@ -4,6 +4,7 @@ use Rattle.std.specs.List.{slice_range}
 use Rattle.std.proofs.Math.Nat.{sub_self}
 use Rattle.std.proofs.lemmas.Grind.{common_steps}
 use Rattle.std.proofs.lemmas.List.{append-nil, drop_more, take_more}
+use Rattle.al_text.specs.declared.faults.InputCause.{InputCause}
 use Rattle.al_text.specs.declared.faults.InputFault.{InputFault}
 use Rattle.al_source.specs.Answers.{Fails}
 use Rattle.al_text.specs.Faults.{told}
@@ -33,24 +34,24 @@ word_last text start at line last =
 -- ---- the numbers of the words, after the numbers so far
 
 -- a word that ends gives its number
-pub read_on : (ns more : List ℤ) (line : ℕ) (text : List ℕ) (start at : ℕ) (defined : Result (List ℤ) InputFault) → at < length text → is_blank (get_or text at 0) ≡ true → ((ws : List Word) → numbers_onto more ws ≡ numbers_onto ns (word_of line (slice_range text start at) ++ ws)) → numbers_onto ns (words_from line (slice_range text start at) (drop at text)) ≡ defined → numbers_onto more (words_from (line_after line (get_or text at 0)) (slice_range text (at + 1) (at + 1)) (drop (at + 1) text)) ≡ defined
+pub read_on : (ns more : List ℤ) (line : ℕ) (text : List ℕ) (start at : ℕ) (defined : Result (List ℤ) InputCause) → at < length text → is_blank (get_or text at 0) ≡ true → ((ws : List Word) → numbers_onto more ws ≡ numbers_onto ns (word_of line (slice_range text start at) ++ ws)) → numbers_onto ns (words_from line (slice_range text start at) (drop at text)) ≡ defined → numbers_onto more (words_from (line_after line (get_or text at 0)) (slice_range text (at + 1) (at + 1)) (drop (at + 1) text)) ≡ defined
 read_on ns more line text start at defined within blank pushed whole =
     let ws : List Word = words_from (line_after line (get_or text at 0)) [] (drop (at + 1) text) in
     rw (sub_self (at + 1)) (pushed ws ∙ ap (λ l. numbers_onto ns l) (sym (word_ends text at line (slice_range text start at) within blank)) ∙ whole)
 
-pub read_last : (ns more : List ℤ) (line : ℕ) (text : List ℕ) (start at : ℕ) (defined : Result (List ℤ) InputFault) → at ≡ length text → ((ws : List Word) → numbers_onto more ws ≡ numbers_onto ns (word_of line (slice_range text start (length text)) ++ ws)) → numbers_onto ns (words_from line (slice_range text start at) (drop at text)) ≡ defined → defined ≡ Ok more
+pub read_last : (ns more : List ℤ) (line : ℕ) (text : List ℕ) (start at : ℕ) (defined : Result (List ℤ) InputCause) → at ≡ length text → ((ws : List Word) → numbers_onto more ws ≡ numbers_onto ns (word_of line (slice_range text start (length text)) ++ ws)) → numbers_onto ns (words_from line (slice_range text start at) (drop at text)) ≡ defined → defined ≡ Ok more
 read_last ns more line text start at defined last pushed whole = sym whole ∙ ap (λ l. numbers_onto ns l) (word_last text start at line last) ∙ sym (pushed [])
 
 -- and a fault of the last word is the text's
-pub fails_last : (fault : InputFault) (ns : List ℤ) (line : ℕ) (text : List ℕ) (start at : ℕ) (defined : Result (List ℤ) InputFault) → at ≡ length text → ((ws : List Word) → Fails (numbers_onto ns (word_of line (slice_range text start (length text)) ++ ws)) (told fault)) → numbers_onto ns (words_from line (slice_range text start at) (drop at text)) ≡ defined → Fails defined (told fault)
+pub fails_last : (fault : InputFault) (ns : List ℤ) (line : ℕ) (text : List ℕ) (start at : ℕ) (defined : Result (List ℤ) InputCause) → at ≡ length text → ((ws : List Word) → Fails (numbers_onto ns (word_of line (slice_range text start (length text)) ++ ws)) (told fault)) → numbers_onto ns (words_from line (slice_range text start at) (drop at text)) ≡ defined → Fails defined (told fault)
 fails_last fault ns line text start at defined last failed whole =
-    subst (λ (d : Result (List ℤ) InputFault). Fails d (told fault)) (sym (ap (λ l. numbers_onto ns l) (word_last text start at line last)) ∙ whole) (failed [])
+    subst (λ (d : Result (List ℤ) InputCause). Fails d (told fault)) (sym (ap (λ l. numbers_onto ns l) (word_last text start at line last)) ∙ whole) (failed [])
 
 -- and so is one of a word that a blank ends
-pub fails_within : (fault : InputFault) (ns : List ℤ) (line : ℕ) (text : List ℕ) (start at : ℕ) (defined : Result (List ℤ) InputFault) → at < length text
+pub fails_within : (fault : InputFault) (ns : List ℤ) (line : ℕ) (text : List ℕ) (start at : ℕ) (defined : Result (List ℤ) InputCause) → at < length text
     → is_blank (get_or text at 0) ≡ true → ((ws : List Word) → Fails (numbers_onto ns (word_of line (slice_range text start at) ++ ws)) (told fault))
     → numbers_onto ns (words_from line (slice_range text start at) (drop at text)) ≡ defined → Fails defined (told fault)
 fails_within fault ns line text start at defined within blank failed whole =
     let ws : List Word = words_from (line_after line (get_or text at 0)) [] (drop (at + 1) text) in
     let ended = word_ends text at line (slice_range text start at) within blank in
-    subst (λ (d : Result (List ℤ) InputFault). Fails d (told fault)) (ap (λ l. numbers_onto ns l) (sym ended) ∙ whole) (failed ws)
+    subst (λ (d : Result (List ℤ) InputCause). Fails d (told fault)) (ap (λ l. numbers_onto ns l) (sym ended) ∙ whole) (failed ws)

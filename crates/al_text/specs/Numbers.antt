@@ -2,8 +2,8 @@
 use Rattle.std.specs.Prelude.{ℕ, ◌+◌, Bool, ◌&&◌, ◌||◌, if◌then◌else◌, ◌==◌, nat_lt, nat_le, List, [], ◌∷◌, ◌++◌, length, Option, Some, None, Result, Ok, Err, ℤ}
 use Rattle.al_source.specs.Steps.{and_then}
 use Rattle.al_source.specs.declared.limits.TheConstants.{INPUT_NUMBERS, INPUT_BYTES}
-use Rattle.al_text.specs.declared.faults.InputFault.{InputFault}
-use Rattle.al_text.specs.declared.faults.InputFault.TheVariants.{TooLong, NotNumber, OutOfRange, TooMany}
+use Rattle.al_text.specs.declared.faults.InputCause.{InputCause}
+use Rattle.al_text.specs.declared.faults.InputCause.TheVariants.{TooLong, NotNumber, OutOfRange, TooMany}
 use Rattle.al_text.specs.Digits.{is_number, signed_value_of}
 
 -- a tab, line feed, vertical tab, form feed, carriage return or space
@@ -35,20 +35,20 @@ words_of text = words_from 1 [] text
 
 -- ---- the words as numbers
 
-abbrev pub in_range : ℕ → Option ℤ → Result ℤ InputFault
+abbrev pub in_range : ℕ → Option ℤ → Result ℤ InputCause
 in_range line (Some n) = Ok n
 in_range line None = Err (OutOfRange line)
 
-abbrev pub number_of : Word → Result ℤ InputFault
+abbrev pub number_of : Word → Result ℤ InputCause
 number_of w = if is_number w.bytes then in_range w.line (signed_value_of w.bytes) else Err (NotNumber w.line)
 
 -- these numbers and those of the words, at most so many in all
-abbrev pub numbers_onto : List ℤ → List Word → Result (List ℤ) InputFault
+abbrev pub numbers_onto : List ℤ → List Word → Result (List ℤ) InputCause
 numbers_onto ns [] = Ok ns
 numbers_onto ns (w ∷ ws) =
     if nat_lt (length ns) INPUT_NUMBERS then and_then (number_of w) (λ n. numbers_onto (ns ++ n ∷ []) ws)
     else Err TooMany
 
 -- The numbers of a text, or its first fault. A text that is too long is refused before it is read.
-abbrev pub numbers_of : List ℕ → Result (List ℤ) InputFault
+abbrev pub numbers_of : List ℕ → Result (List ℤ) InputCause
 numbers_of text = if nat_le (length text) INPUT_BYTES then numbers_onto [] (words_of text) else Err TooLong

@@ -12,7 +12,7 @@ mod numbers;
 mod tests;
 
 pub use digits::numeral;
-pub use faults::InputFault;
+pub use faults::{InputCause, InputFault};
 use itoa::Buffer;
 pub use numbers::read_numbers;
 use sqlite_items::Items;

@@ -8,7 +8,7 @@ ghost use Rattle.al_text.specs.Numbers as spec;
 ghost use Rattle.al_text.specs.Numbers.{Word, word_of, numbers_onto};
 
 use crate::digits::{is_digits, value_of};
-use crate::faults::InputFault;
+use crate::faults::{InputCause, InputFault, by_cause};
 use al_source::limits::{INPUT_BYTES, INPUT_NUMBERS};
 use sqlite_items::Items;
 use std::alloc::Global;
@@ -39,17 +39,17 @@ fn signed(is_negative: bool, size: u64) -> Option<i64>
 }
 
 /// The number that a word writes.
-fn number_of(word: &[u8], line: u32) -> Result<i64, InputFault>
+fn number_of(word: &[u8], line: u32) -> Result<i64, InputCause>
     ensures { result ≡ spec.number_of (record { line = line; bytes = word.now }) }
 {
     let is_negative = word.starts_with(b"-");
     let digits = if is_negative { &word[1..] } else { word };
     if !is_digits(digits) {
-        return Err(InputFault::NotNumber(line));
+        return Err(InputCause::NotNumber(line));
     }
     value_of(digits)
         .and_then(|size| signed(is_negative, size))
-        .ok_or(InputFault::OutOfRange(line))
+        .ok_or(InputCause::OutOfRange(line))
 }
 
 /// Adds the number of a word, if the word has bytes.
@@ -63,8 +63,13 @@ fn push_word(numbers: &mut Items<i64>, word: &[u8], line: u32) -> Result<(), Inp
     if INPUT_NUMBERS <= numbers.len() {
         return Err(InputFault::TooMany);
     }
-    numbers.push(number_of(word, line)?)?;
-    Ok(())
+    match number_of(word, line) {
+        Ok(number) => {
+            numbers.push(number)?;
+            Ok(())
+        }
+        Err(cause) => Err(by_cause(cause)),
+    }
 }
 
 fn read(alloc: Global, text: &[u8]) -> Result<Items<i64>, InputFault>

@@ -12,7 +12,7 @@ use Rattle.al_source.specs.declared.source_tree.Item.{Item}
 use Rattle.al_source.specs.declared.source_tree.Item.TheVariants as item
 use Rattle.al_rules.specs.declared.faults.TypeKind.TheVariants.{Twice, Shape}
 use Rattle.al_rules.specs.declared.faults.TypeKind.{TypeKind}
-use Rattle.al_rules.specs.declared.faults.TypeFault.{TypeFault}
+use Rattle.al_rules.specs.declared.faults.TypeCause.{TypeCause}
 use Rattle.al_rules.specs.declared.layout.Layout.{Layout}
 use Rattle.al_rules.specs.Names.{Name, any_named}
 use Rattle.al_source.specs.Steps.{and_then}
@@ -21,10 +21,10 @@ use Rattle.al_rules.specs.Types.{Form, type_checked, is_held, is_scalar, is_resu
 use Rattle.al_rules.specs.Scopes.{Known, is_struct, structs_in, globals_in, funcs_in, known_of}
 use Rattle.al_rules.specs.Walks.{at_line}
 use Rattle.al_rules.specs.Programs.{fields_checked, item_checked, items_checked, is_empty, is_taken}
-use Rattle.al_names.specs.NameLists.{named_in, with_name}
+use Rattle.al_type_names.specs.NameLists.{named_in, with_name}
 use Rattle.al_source.specs.Answers.{Fails}
-use Rattle.al_names.specs.Definitions.{field_by, fields_by, item_by, items_by, with_definition}
-use Rattle.al_names.proofs.NameLookups.{any_of_names}
+use Rattle.al_type_names.specs.Definitions.{field_by, fields_by, item_by, items_by, with_definition}
+use Rattle.al_type_names.proofs.NameLookups.{any_of_names}
 
 -- ---- fields
 
@@ -99,7 +99,7 @@ twice (Err e) p f = refl
 items_as : (layout : Layout) (all before is : List Item) → items_by (known_of layout before) (is_struct (structs_in all)) is ≡ and_then (items_checked all before is) (λ _. Ok (known_of layout (before ++ is)))
 items_as layout all before [] = ap (λ l. Ok (known_of layout l)) (sym (append-nil before))
 items_as layout all before (i ∷ is) =
-    ap₂ (λ (r : Result (Unit {0}) TypeFault) (k : Known). and_then r (λ _. items_by k (is_struct (structs_in all)) is)) (item_as layout all before i) (known_more layout before i)
+    ap₂ (λ (r : Result (Unit {0}) TypeCause) (k : Known). and_then r (λ _. items_by k (is_struct (structs_in all)) is)) (item_as layout all before i) (known_more layout before i)
     ∙ after (item_checked all before i) _ _ (items_as layout all (before ++ i ∷ []) is)
     ∙ twice (item_checked all before i) (items_checked all (before ++ i ∷ []) is) (λ _. Ok (known_of layout ((before ++ i ∷ []) ++ is)))
     ∙ ap (λ l. and_then (items_checked all before (i ∷ is)) (λ _. Ok (known_of layout l))) (append_assoc before (i ∷ []) is)

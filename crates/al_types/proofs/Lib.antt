@@ -1,3 +1,4 @@
+pub mod Failing
 pub mod ItemLemmas
 pub mod StatementRules
 pub mod TypedBy

@@ -1,4 +1,3 @@
-pub mod Steps
 pub mod Sorts
 pub mod Parts
 pub mod Functions

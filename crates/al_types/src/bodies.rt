@@ -1,10 +1,11 @@
 ghost use Rattle.std.specs.Prelude.{◌≡◌, OnOk};
 ghost use Rattle.al_source.specs.declared.source_tree.StmtKind.TheVariants as stmt;
 ghost use Rattle.al_core.specs.declared.typed_tree.TKind.TheVariants as k;
+ghost use Rattle.al_source.specs.Answers.{Walks};
+ghost use Rattle.al_rules.specs.Faults.{typed};
 ghost use Rattle.al_rules.specs.Statements as spec;
 ghost use Rattle.al_types.specs.Parts as parts;
 ghost use Rattle.al_types.specs.Sorts.{allowed_at};
-ghost use Rattle.al_types.specs.Steps.{Walks};
 
 use crate::checker::{Checker, break_loop, continue_loop};
 use crate::progress::Progress;
@@ -30,7 +31,7 @@ fn for_kind(
     }
 }
 
-#[tactic(auto, using(al_rules::proofs::StatementNodes::walk_nodes, al_names::proofs::ScopeLists::left_scope), unfolding(al_rules::specs::Walks::bind, al_rules::specs::Walks::pure, al_rules::specs::Walks::checks, al_rules::specs::Walks::get_scope, al_rules::specs::Walks::set_scope))]
+#[tactic(auto, using(al_rules::proofs::StatementNodes::walk_nodes, al_type_names::proofs::ScopeLists::left_scope), unfolding(al_rules::specs::Walks::bind, al_rules::specs::Walks::pure, al_rules::specs::Walks::checks, al_rules::specs::Walks::get_scope, al_rules::specs::Walks::set_scope))]
 impl<'k, 'a> Checker<'k, 'a> {
     /// A statement that stands in another.
     #[cycle(statements)]
@@ -42,7 +43,7 @@ impl<'k, 'a> Checker<'k, 'a> {
         s: &'a Stmt,
         looped: bool,
     ) -> Result<Boxed<TStmt>, TypeFault>
-        ensures walks { Walks (spec.part_if (allowed_at spot) (spec.part self.now.known.now self.now.func self.now.gives.now s.entry.now) looped p.old) result p.new }
+        ensures walks { Walks typed (spec.part_if (allowed_at spot) (spec.part self.now.known.now self.now.func self.now.gives.now s.entry.now) looped p.old) result p.new }
         ensures outer { OnOk result (p.new.scope.outer ≡ p.old.scope.outer) }
     {
         if !spot.allows(sort_of(&s.kind)) {
@@ -60,7 +61,7 @@ impl<'k, 'a> Checker<'k, 'a> {
         s: &'a Option<Boxed<Stmt>>,
         looped: bool,
     ) -> Result<Option<Boxed<TStmt>>, TypeFault>
-        ensures walks { Walks (spec.any_part (allowed_at spot) (parts.any_of self.now.known.now self.now.func self.now.gives.now s.entry.now) looped p.old) result p.new }
+        ensures walks { Walks typed (spec.any_part (allowed_at spot) (parts.any_of self.now.known.now self.now.func self.now.gives.now s.entry.now) looped p.old) result p.new }
         ensures outer { OnOk result (p.new.scope.outer ≡ p.old.scope.outer) }
     {
         match s {
@@ -72,7 +73,7 @@ impl<'k, 'a> Checker<'k, 'a> {
     #[cycle(statements)]
     #[tactic(auto, using(crate::proofs::StatementRules::of_statements), unfolding(al_rules::specs::Walks::bind, al_rules::specs::Walks::pure))]
     fn statement(&self, p: &mut Progress<'a>, s: &'a Stmt, looped: bool) -> Result<TStmt, TypeFault>
-        ensures walks { Walks ((spec.part self.now.known.now self.now.func self.now.gives.now s.entry.now).walk looped p.old) result p.new }
+        ensures walks { Walks typed ((spec.part self.now.known.now self.now.func self.now.gives.now s.entry.now).walk looped p.old) result p.new }
         ensures outer { OnOk result (p.new.scope.outer ≡ p.old.scope.outer) }
     {
         let kind = self.kind(p, &s.kind, s.line, looped)?;
@@ -81,14 +82,14 @@ impl<'k, 'a> Checker<'k, 'a> {
 
     /// Statements in order.
     #[cycle(statements)]
-    #[tactic(auto, using(al_operands::proofs::Gathered::gathered_with), unfolding(al_rules::specs::Walks::bind, al_rules::specs::Walks::pure))]
+    #[tactic(auto, using(al_type_operands::proofs::Gathered::gathered_with), unfolding(al_rules::specs::Walks::bind, al_rules::specs::Walks::pure))]
     pub fn statements(
         &self,
         p: &mut Progress<'a>,
         ss: &'a [Stmt],
         looped: bool,
     ) -> Result<Items<TStmt>, TypeFault>
-        ensures walks { Walks (spec.statements self.now.known.now self.now.func self.now.gives.now looped ss.entry.now p.old) result p.new }
+        ensures walks { Walks typed (spec.statements self.now.known.now self.now.func self.now.gives.now looped ss.entry.now p.old) result p.new }
         ensures outer { OnOk result (p.new.scope.outer ≡ p.old.scope.outer) }
     {
         let mut done = Items::new(self.alloc);
@@ -108,7 +109,7 @@ impl<'k, 'a> Checker<'k, 'a> {
         line: u32,
         looped: bool,
     ) -> Result<(Boxed<TExpr>, Boxed<TStmt>), TypeFault>
-        ensures walks { Walks (parts.tested self.now.known.now self.now.func self.now.gives.now line looped test.now (spec.part self.now.known.now self.now.func self.now.gives.now s.entry.now) p.old) result p.new }
+        ensures walks { Walks typed (parts.tested self.now.known.now self.now.func self.now.gives.now line looped test.now (spec.part self.now.known.now self.now.func self.now.gives.now s.entry.now) p.old) result p.new }
         ensures outer { OnOk result (p.new.scope.outer ≡ p.old.scope.outer) }
     {
         let c = self.condition(p, test, line)?;
@@ -125,7 +126,7 @@ impl<'k, 'a> Checker<'k, 'a> {
         own: Option<Choice>,
         line: u32,
     ) -> Result<(Boxed<TStmt>, Option<u32>), TypeFault>
-        ensures walks { Walks (spec.looped_body self.now.known.now self.now.func self.now.gives.now line own (spec.part self.now.known.now self.now.func self.now.gives.now body.entry.now) p.old) result p.new }
+        ensures walks { Walks typed (spec.looped_body self.now.known.now self.now.func self.now.gives.now line own (spec.part self.now.known.now self.now.func self.now.gives.now body.entry.now) p.old) result p.new }
         ensures outer { OnOk result (p.new.scope.outer ≡ p.old.scope.outer) }
     {
         match own {
@@ -147,7 +148,7 @@ impl<'k, 'a> Checker<'k, 'a> {
         line: u32,
         looped: bool,
     ) -> Result<TKind, TypeFault>
-        ensures walks { Walks ((spec.kind_part self.now.known.now self.now.func self.now.gives.now (stmt.Block ss.entry.now)).walk line looped p.old) result p.new }
+        ensures walks { Walks typed ((spec.kind_part self.now.known.now self.now.func self.now.gives.now (stmt.Block ss.entry.now)).walk line looped p.old) result p.new }
         ensures outer { OnOk result (p.new.scope.outer ≡ p.old.scope.outer) }
     {
         let mark = p.enter();
@@ -164,7 +165,7 @@ impl<'k, 'a> Checker<'k, 'a> {
         line: u32,
         looped: bool,
     ) -> Result<TKind, TypeFault>
-        ensures walks { Walks ((spec.kind_part self.now.known.now self.now.func self.now.gives.now kind.entry.now).walk line looped p.old) result p.new }
+        ensures walks { Walks typed ((spec.kind_part self.now.known.now self.now.func self.now.gives.now kind.entry.now).walk line looped p.old) result p.new }
         ensures outer { OnOk result (p.new.scope.outer ≡ p.old.scope.outer) }
     {
         match kind {

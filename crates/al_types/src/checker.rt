@@ -11,24 +11,24 @@ ghost use Rattle.al_rules.specs.Scopes as scopes;
 ghost use Rattle.al_rules.specs.Scopes.{in_scope, variable_named};
 ghost use Rattle.al_rules.specs.Statements as spec;
 ghost use Rattle.al_rules.specs.Walks as walks;
-ghost use Rattle.al_names.specs.Meanings.{variable_of};
-ghost use Rattle.al_source.specs.Answers.{Gives};
-ghost use Rattle.al_names.specs.Steps.{Tells, kind_of};
-ghost use Rattle.al_types.specs.Steps.{Walks};
+ghost use Rattle.al_type_names.specs.Meanings.{variable_of};
+ghost use Rattle.al_source.specs.Answers.{Gives, Walks};
+ghost use Rattle.al_rules.specs.Faults.{typed};
+ghost use Rattle.al_type_names.specs.Steps.{kind_of};
 
 use crate::progress::Progress;
 use crate::sorts::may_update;
 use al_core::{Addr, Choice, Obj, Red, TExpr, TKind};
-use al_names::fault::{Fault, at_line, ensure};
-use al_names::known::{Known, Variable};
-use al_names::scope::Scope;
-use al_names::types::{Role, is_int, is_void};
-use al_operands::expressions::{call_alone, operand, operands};
-use al_operands::operands::{fitting, integer, scalar};
-use al_operands::places::boxed_place;
-use al_operands::queue::Queue;
 use al_rules::{Operand, TypeFault, TypeKind};
 use al_source::{BinOp, CType, Expr, Format, LoopNote, Name, NamedRed, Piece};
+use al_type_names::fault::{Fault, at_line, ensure};
+use al_type_names::known::{Known, Variable};
+use al_type_names::scope::Scope;
+use al_type_names::types::{Role, is_int, is_void};
+use al_type_operands::expressions::{call_alone, operand, operands};
+use al_type_operands::operands::{fitting, integer, scalar};
+use al_type_operands::places::boxed_place;
+use al_type_operands::queue::Queue;
 use sqlite_items::{Boxed, Items};
 use std::alloc::{AllocError, Global};
 
@@ -151,7 +151,7 @@ fn copy_format(alloc: Global, format: &[Piece]) -> Result<Format, AllocError>
     Ok(copy)
 }
 
-#[tactic(auto, using(al_operands::proofs::Gathered::gathered))]
+#[tactic(auto, using(al_type_operands::proofs::Gathered::gathered))]
 fn integers(alloc: Global, mut xs: Queue<Boxed<Operand>>) -> Result<Items<TExpr>, Fault>
     ensures { Gives kind_of (each operand_spec.integer xs) result }
 {
@@ -164,14 +164,14 @@ fn integers(alloc: Global, mut xs: Queue<Boxed<Operand>>) -> Result<Items<TExpr>
 
 /// A `break` or `continue` stands in a loop.
 fn in_loop(line: u32, looped: bool) -> Result<(), TypeFault>
-    ensures { Tells (walks.at_line line (check.ensure looped Outside)) result }
+    ensures { Gives typed (walks.at_line line (check.ensure looped Outside)) result }
 {
     at_line(line, ensure(looped, TypeKind::Outside))
 }
 
 #[tactic(auto, unfolding(al_rules::specs::Walks::bind, al_rules::specs::Walks::pure, al_rules::specs::Walks::checks))]
 pub fn break_loop(line: u32, looped: bool) -> Result<TKind, TypeFault>
-    ensures { (known : scopes.Known) (func : ℕ) (gives : ctype.CType) (s : walks.Progress) → Walks (spec.leave known func gives line looped k.Break s) result s }
+    ensures { (known : scopes.Known) (func : ℕ) (gives : ctype.CType) (s : walks.Progress) → Walks typed (spec.leave known func gives line looped k.Break s) result s }
 {
     in_loop(line, looped)?;
     Ok(TKind::Break)
@@ -179,7 +179,7 @@ pub fn break_loop(line: u32, looped: bool) -> Result<TKind, TypeFault>
 
 #[tactic(auto, unfolding(al_rules::specs::Walks::bind, al_rules::specs::Walks::pure, al_rules::specs::Walks::checks))]
 pub fn continue_loop(line: u32, looped: bool) -> Result<TKind, TypeFault>
-    ensures { (known : scopes.Known) (func : ℕ) (gives : ctype.CType) (s : walks.Progress) → Walks (spec.leave known func gives line looped k.Continue s) result s }
+    ensures { (known : scopes.Known) (func : ℕ) (gives : ctype.CType) (s : walks.Progress) → Walks typed (spec.leave known func gives line looped k.Continue s) result s }
 {
     in_loop(line, looped)?;
     Ok(TKind::Continue)
@@ -194,7 +194,7 @@ impl<'k, 'a> Checker<'k, 'a> {
         x: &Expr,
         line: u32,
     ) -> Result<Boxed<Operand>, TypeFault>
-        ensures { Walks (spec.operand_of self.now.known.now self.now.func self.now.gives.now line x.now p.now) result p.now }
+        ensures { Walks typed (spec.operand_of self.now.known.now self.now.func self.now.gives.now line x.now p.now) result p.now }
     {
         at_line(line, operand(self.alloc, self.known, p.scope(), x))
     }
@@ -205,7 +205,7 @@ impl<'k, 'a> Checker<'k, 'a> {
         xs: &[Expr],
         line: u32,
     ) -> Result<Queue<Boxed<Operand>>, TypeFault>
-        ensures { Walks (spec.operands_of self.now.known.now self.now.func self.now.gives.now line xs.now p.now) result p.now }
+        ensures { Walks typed (spec.operands_of self.now.known.now self.now.func self.now.gives.now line xs.now p.now) result p.now }
     {
         at_line(line, operands(self.alloc, self.known, p.scope(), xs))
     }
@@ -217,7 +217,7 @@ impl<'k, 'a> Checker<'k, 'a> {
         x: &Expr,
         line: u32,
     ) -> Result<Boxed<TExpr>, TypeFault>
-        ensures { Walks (spec.condition self.now.known.now self.now.func self.now.gives.now line x.now p.now) result p.now }
+        ensures { Walks typed (spec.condition self.now.known.now self.now.func self.now.gives.now line x.now p.now) result p.now }
     {
         let c = self.operand(p, x, line)?;
         at_line(line, scalar(self.alloc, c))
@@ -229,7 +229,7 @@ impl<'k, 'a> Checker<'k, 'a> {
         x: &Option<Expr>,
         line: u32,
     ) -> Result<Option<Boxed<TExpr>>, TypeFault>
-        ensures { Walks (spec.any_condition self.now.known.now self.now.func self.now.gives.now line x.now p.now) result p.now }
+        ensures { Walks typed (spec.any_condition self.now.known.now self.now.func self.now.gives.now line x.now p.now) result p.now }
     {
         match x {
             Some(x) => Ok(Some(self.condition(p, x, line)?)),
@@ -245,7 +245,7 @@ impl<'k, 'a> Checker<'k, 'a> {
         value: &Option<Expr>,
         line: u32,
     ) -> Result<Boxed<TExpr>, TypeFault>
-        ensures { Walks (spec.initial self.now.known.now self.now.func self.now.gives.now line ty.now value.now p.now) result p.now }
+        ensures { Walks typed (spec.initial self.now.known.now self.now.func self.now.gives.now line ty.now value.now p.now) result p.now }
     {
         match value {
             Some(v) => {
@@ -265,7 +265,7 @@ impl<'k, 'a> Checker<'k, 'a> {
         value: &Option<Expr>,
         line: u32,
     ) -> Result<TKind, TypeFault>
-        ensures walks { Walks (spec.declare self.now.known.now self.now.func self.now.gives.now line ty.entry.now name.entry.now value.now p.old) result p.new }
+        ensures walks { Walks typed (spec.declare self.now.known.now self.now.func self.now.gives.now line ty.entry.now name.entry.now value.now p.old) result p.new }
         ensures outer { OnOk result (p.new.scope.outer ≡ p.old.scope.outer) }
     {
         let is_new = !p.scope().declares(name.as_slice());
@@ -284,7 +284,7 @@ impl<'k, 'a> Checker<'k, 'a> {
         b: &Expr,
         line: u32,
     ) -> Result<TKind, TypeFault>
-        ensures { (looped : Bool) → Walks ((spec.kind_part self.now.known.now self.now.func self.now.gives.now (stmt.Assign a.now b.now)).walk line looped p.now) result p.now }
+        ensures { (looped : Bool) → Walks typed ((spec.kind_part self.now.known.now self.now.func self.now.gives.now (stmt.Assign a.now b.now)).walk line looped p.now) result p.now }
     {
         let to = self.operand(p, a, line)?;
         at_line(line, ensure(is_place(to.get()), TypeKind::NotPlace))?;
@@ -301,7 +301,7 @@ impl<'k, 'a> Checker<'k, 'a> {
         b: &Expr,
         line: u32,
     ) -> Result<TKind, TypeFault>
-        ensures { (looped : Bool) → Walks ((spec.kind_part self.now.known.now self.now.func self.now.gives.now (stmt.Update op a.now b.now)).walk line looped p.now) result p.now }
+        ensures { (looped : Bool) → Walks typed ((spec.kind_part self.now.known.now self.now.func self.now.gives.now (stmt.Update op a.now b.now)).walk line looped p.now) result p.now }
     {
         at_line(line, ensure(may_update(op), TypeKind::Shape))?;
         let of = self.operand(p, a, line)?;
@@ -318,7 +318,7 @@ impl<'k, 'a> Checker<'k, 'a> {
         args: &[Expr],
         line: u32,
     ) -> Result<TKind, TypeFault>
-        ensures { (looped : Bool) → Walks ((spec.kind_part self.now.known.now self.now.func self.now.gives.now (stmt.Call name.now args.now)).walk line looped p.now) result p.now }
+        ensures { (looped : Bool) → Walks typed ((spec.kind_part self.now.known.now self.now.func self.now.gives.now (stmt.Call name.now args.now)).walk line looped p.now) result p.now }
     {
         let x = at_line(
             line,
@@ -335,7 +335,7 @@ impl<'k, 'a> Checker<'k, 'a> {
         args: &[Expr],
         line: u32,
     ) -> Result<TKind, TypeFault>
-        ensures { (looped : Bool) → Walks ((spec.kind_part self.now.known.now self.now.func self.now.gives.now (stmt.Print format.now args.now)).walk line looped p.now) result p.now }
+        ensures { (looped : Bool) → Walks typed ((spec.kind_part self.now.known.now self.now.func self.now.gives.now (stmt.Print format.now args.now)).walk line looped p.now) result p.now }
     {
         let xs = self.operands(p, args, line)?;
         at_line(
@@ -353,7 +353,7 @@ impl<'k, 'a> Checker<'k, 'a> {
         value: &Option<Expr>,
         line: u32,
     ) -> Result<TKind, TypeFault>
-        ensures { Walks (spec.returned self.now.known.now self.now.func self.now.gives.now line value.now p.now) result p.now }
+        ensures { Walks typed (spec.returned self.now.known.now self.now.func self.now.gives.now line value.now p.now) result p.now }
     {
         match value {
             None => {
@@ -371,26 +371,26 @@ impl<'k, 'a> Checker<'k, 'a> {
 
     /// Where a reduction variable is.
     fn reduced(&self, p: &Progress<'a>, name: &[u8], line: u32) -> Result<Addr, TypeFault>
-        ensures { Walks (walks.checks line (λ scope. and_then (some_or (variable_named self.now.known.now (in_scope scope) name.now) Unknown) spec.variable_at) p.now) result p.now }
+        ensures { Walks typed (walks.checks line (λ scope. and_then (some_or (variable_named self.now.known.now (in_scope scope) name.now) Unknown) spec.variable_at) p.now) result p.now }
     {
         at_line(line, reduced(self.known, p.scope(), name))
     }
 
     fn reduction(&self, p: &Progress<'a>, r: &NamedRed, line: u32) -> Result<Red, TypeFault>
-        ensures { Walks (spec.reduction self.now.known.now self.now.func self.now.gives.now line r.now p.now) result p.now }
+        ensures { Walks typed (spec.reduction self.now.known.now self.now.func self.now.gives.now line r.now p.now) result p.now }
     {
         let at = self.reduced(p, r.name.as_slice(), line)?;
         Ok(Red { op: r.op, at })
     }
 
-    #[tactic(auto, using(al_operands::proofs::Gathered::gathered_with), unfolding(al_rules::specs::Walks::bind, al_rules::specs::Walks::pure))]
+    #[tactic(auto, using(al_type_operands::proofs::Gathered::gathered_with), unfolding(al_rules::specs::Walks::bind, al_rules::specs::Walks::pure))]
     fn reductions(
         &self,
         p: &Progress<'a>,
         mut rs: &[NamedRed],
         line: u32,
     ) -> Result<Items<Red>, TypeFault>
-        ensures { Walks (spec.reductions self.now.known.now self.now.func self.now.gives.now line rs.entry.now p.now) result p.now }
+        ensures { Walks typed (spec.reductions self.now.known.now self.now.func self.now.gives.now line rs.entry.now p.now) result p.now }
     {
         let mut done = Items::new(self.alloc);
         while let [r, rest @ ..] = rs {
@@ -407,7 +407,7 @@ impl<'k, 'a> Checker<'k, 'a> {
         note: &Option<LoopNote>,
         line: u32,
     ) -> Result<Option<Choice>, TypeFault>
-        ensures { Walks (spec.choice_of self.now.known.now self.now.func self.now.gives.now line note.now p.now) result p.now }
+        ensures { Walks typed (spec.choice_of self.now.known.now self.now.func self.now.gives.now line note.now p.now) result p.now }
     {
         match note {
             Some(note) => {

@@ -6,20 +6,21 @@ ghost use Rattle.al_rules.specs.Checks.{ensure};
 ghost use Rattle.al_rules.specs.Names.{Name, any_named};
 ghost use Rattle.al_rules.specs.Programs as spec;
 ghost use Rattle.al_rules.specs.Scopes.{is_struct, structs_in, known_of};
-ghost use Rattle.al_names.specs.Definitions as by;
-ghost use Rattle.al_names.specs.NameLists.{named_in};
-ghost use Rattle.al_names.specs.Roles.{allowed_for};
+ghost use Rattle.al_type_names.specs.Definitions as by;
+ghost use Rattle.al_type_names.specs.NameLists.{named_in};
+ghost use Rattle.al_type_names.specs.Roles.{allowed_for};
 ghost use Rattle.al_source.specs.Answers.{Gives};
-ghost use Rattle.al_names.specs.Steps.{Tells, kind_of};
+ghost use Rattle.al_rules.specs.Faults.{typed};
+ghost use Rattle.al_type_names.specs.Steps.{kind_of};
 
 use al_layout::Layout;
-use al_names::fault::{Fault, at_line, ensure};
-use al_names::known::Known;
-use al_names::names::Names;
-use al_names::types::{Role, is_int, is_pointer};
-use al_operands::operands::is_zero;
 use al_rules::{TypeFault, TypeKind};
 use al_source::{CType, Field, Func, GlobalDef, Item, Program, Start, StructDef};
+use al_type_names::fault::{Fault, at_line, ensure};
+use al_type_names::known::Known;
+use al_type_names::names::Names;
+use al_type_names::types::{Role, is_int, is_pointer};
+use al_type_operands::operands::is_zero;
 use std::alloc::{AllocError, Global};
 
 /// A name that is not there yet.
@@ -109,7 +110,7 @@ fn with_item<'a>(
     anywhere: &Names<'_>,
     item: &'a Item,
 ) -> Result<Known<'a>, TypeFault>
-    ensures { Tells (and_then (by.item_by known.entry (named_in anywhere.now) item.entry.now) (λ _. Ok (by.with_definition known.entry item.entry.now))) result }
+    ensures { Gives typed (and_then (by.item_by known.entry (named_in anywhere.now) item.entry.now) (λ _. Ok (by.with_definition known.entry item.entry.now))) result }
 {
     match item {
         Item::Struct(s) => {
@@ -159,7 +160,7 @@ fn with_items<'a>(
     anywhere: &Names<'_>,
     mut items: &'a [Item],
 ) -> Result<Known<'a>, TypeFault>
-    ensures { Tells (by.items_by known.entry (named_in anywhere.now) items.entry.now) result }
+    ensures { Gives typed (by.items_by known.entry (named_in anywhere.now) items.entry.now) result }
 {
     while let [item, rest @ ..] = items {
         known = with_item(alloc, known, anywhere, item)?;
@@ -174,7 +175,7 @@ pub fn definitions<'a>(
     program: &'a Program,
     layout: &'a Layout,
 ) -> Result<Known<'a>, TypeFault>
-    ensures { Tells (and_then (spec.items_checked program.entry.now.items [] program.entry.now.items) (λ _. Ok (known_of layout.entry.now program.entry.now.items))) result }
+    ensures { Gives typed (and_then (spec.items_checked program.entry.now.items [] program.entry.now.items) (λ _. Ok (known_of layout.entry.now program.entry.now.items))) result }
 {
     let items = program.items.as_slice();
     let anywhere = struct_names(alloc, items)?;

@@ -1,8 +1,9 @@
 ghost use Rattle.std.specs.Prelude.{◌≡◌, [], IfOk};
 ghost use Rattle.al_rules.specs.Programs as spec;
 ghost use Rattle.al_types.specs.Functions.{with_notes};
-ghost use Rattle.al_names.specs.Meanings.{map_ok};
-ghost use Rattle.al_names.specs.Steps.{Tells};
+ghost use Rattle.al_type_names.specs.Meanings.{map_ok};
+ghost use Rattle.al_source.specs.Answers.{Gives};
+ghost use Rattle.al_rules.specs.Faults.{typed};
 
 use crate::checker::Checker;
 use crate::items::definitions;
@@ -10,17 +11,17 @@ use crate::progress::Progress;
 use al_ast::nodes;
 use al_core::{TFunc, TGlobal, TNote, Typed};
 use al_layout::Layout;
-use al_names::fault::number;
-use al_names::known::Known;
-use al_names::types::{is_int, kind_of};
 use al_rules::{TypeFault, TypeKind};
 use al_source::{Field, Func, GlobalDef, Program, Start};
+use al_type_names::fault::number;
+use al_type_names::known::Known;
+use al_type_names::types::{is_int, kind_of};
 use sqlite_items::Items;
 use std::alloc::{AllocError, Global};
 
 /// The number of the function `main`, which has no parameters and gives an integer.
 fn main_of(known: &Known<'_>) -> Result<u32, TypeFault>
-    ensures { Tells (spec.main_of known.now.funcs) result }
+    ensures { Gives typed (spec.main_of known.now.funcs) result }
 {
     let Some(place) = known.place_of_func(b"main") else {
         return Err(TypeFault::At(TypeKind::Main, 1));
@@ -60,7 +61,7 @@ fn function<'a>(
     f: &'a Func,
     loops: Vec<TNote>,
 ) -> Result<(TFunc, Vec<TNote>), TypeFault>
-    ensures { Tells (spec.func_typed known.now n f.entry.now loops.items) (map_ok with_notes result) }
+    ensures { Gives typed (spec.func_typed known.now n f.entry.now loops.items) (map_ok with_notes result) }
 {
     let checker = Checker {
         alloc,
@@ -82,9 +83,9 @@ fn function<'a>(
 }
 
 /// All functions in order, and the annotated loops of the program.
-#[tactic(auto, using(al_operands::proofs::Gathered::gathered_with))]
+#[tactic(auto, using(al_type_operands::proofs::Gathered::gathered_with))]
 fn functions(alloc: Global, known: &Known<'_>) -> Result<(Items<TFunc>, Vec<TNote>), TypeFault>
-    ensures { Tells (spec.funcs_typed known.now 0 known.now.funcs []) (map_ok with_notes result) }
+    ensures { Gives typed (spec.funcs_typed known.now 0 known.now.funcs []) (map_ok with_notes result) }
 {
     let mut done = Items::new(alloc);
     let mut loops = Vec::new(alloc);
@@ -138,7 +139,7 @@ fn globals(alloc: Global, known: &Known<'_>) -> Result<Items<TGlobal>, AllocErro
 /// A size or a number that 32 bits do not count is taken for want of memory. A program that has a layout has no such size.
 #[tactic(auto, unfolding(al_rules::specs::Programs::typed_with))]
 pub fn check(alloc: Global, program: &Program, layout: &Layout) -> Result<Typed, TypeFault>
-    ensures { Tells (spec.typed_with layout.now program.now) result }
+    ensures { Gives typed (spec.typed_with layout.now program.now) result }
 {
     let known = definitions(alloc, program, layout)?;
     let main = main_of(&known)?;

@@ -2,10 +2,10 @@ ghost use Rattle.std.specs.Prelude.{◌≡◌, ◌≤◌, [], ◌∷◌, ◌++�
 ghost use Rattle.al_rules.specs.Walks as spec;
 
 use al_core::{Choice, Kind, TLocal, TNote};
-use al_names::fault::number;
-use al_names::scope::{Binding, Scope};
-use al_names::types::kind_of;
 use al_source::CType;
+use al_type_names::fault::number;
+use al_type_names::scope::{Binding, Scope};
+use al_type_names::types::kind_of;
 use sqlite_items::Items;
 use std::alloc::{AllocError, Global};
 use std::marker::Model;
@@ -41,7 +41,7 @@ fn push(loops: &mut Vec<TNote>, note: TNote) -> Result<(), AllocError>
 
 impl<'a> Progress<'a> {
     ghost use Rattle.al_rules.specs.Scopes as scopes;
-    ghost use Rattle.al_names.specs.Bindings.{without_inner};
+    ghost use Rattle.al_type_names.specs.Bindings.{without_inner};
 
     /// No names and locals yet, and the annotated loops of earlier functions.
     pub fn new(alloc: Global, loops: Vec<TNote>) -> Progress<'a>

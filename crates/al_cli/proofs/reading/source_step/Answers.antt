@@ -1,7 +1,6 @@
 use Rattle.std.proofs.Common.{◌≡◌, Ok, Err, ap, subst, ◌∙◌}
-use Rattle.al_front.specs.Answers.{Meets}
 use Rattle.al_rules.specs.Refusals.{accepted}
-use Rattle.al_serve.specs.Plans.{failed}
+use Rattle.al_answers.specs.Plans.{failed}
 use Rattle.al_cli.proofs.Comings.{on_any_err, source_goes, source_refused, source_starved, source_untried}
 use Rattle.al_cli.proofs.reading.source_step.Goals as goal
 
@@ -15,12 +14,13 @@ returns-in-Ok-clause-ok g c =
 
 pub returns-in_err-line-in-Err-Refused-clause-err : goal.returns-in_err-line-in-Err-Refused-clause-err
 returns-in_err-line-in-Err-Refused-clause-err g c =
-    on_any_err c.from_residual-in_err-line-in-Err-Refused.result _ (source_starved c.args.name.now c.in-Bytes.source _ _ c.in_ok-source.field-0 c.in-Bytes.is c.in_ok-source.ensures.ok)
+    on_any_err c.from_residual-in_err-line-in-Err-Refused.result _
+    (source_starved c.args.name.now c.in-Bytes.source _ _ c.in_ok-source.field-0 c.in-Bytes.is c.in_ok-source.ensures.ok)
 
 pub returns-in-Err-Refused-clause-ok : goal.returns-in-Err-Refused-clause-ok
 returns-in-Err-Refused-clause-ok g c =
     source_refused c.args.name.now c.in-Bytes.source _ _ c.in_ok-source.field-0 c.in-Bytes.is c.in_ok-source.ensures.ok c.in-Err-Refused.cause c.failed.result
-    (subst (λ b. accepted b ≡ Err c.in-Err-Refused.cause) c.as_slice.ensures (rw c.in-Err-Refused.field-0-is at c.in-Err-Refused.ensures).0)
+    (subst (λ b. accepted b ≡ Err c.in-Err-Refused.cause) c.as_slice.ensures (rw c.in-Err-Refused.field-0-is at c.in-Err-Refused.ensures))
     (c.failed.ensures ∙ ap (failed 1) c.in_ok-line-in-Err-Refused.ensures)
 
 pub returns-clause-err : goal.returns-clause-err

@@ -1,5 +1,5 @@
 use Rattle.std.proofs.Common.{ap}
-use Rattle.al_serve.specs.Outcome.{at_once}
+use Rattle.al_answers.specs.Outcome.{at_once}
 use Rattle.al_cli.proofs.Comings.{if_ok, on_any_err, source_accepted, came_answer}
 use Rattle.al_cli.proofs.serving.check_answer.Goals as goal
 

@@ -1,7 +1,7 @@
 use Rattle.std.proofs.Common.{◌||◌, ◌∷◌, ap, sym, ◌∙◌}
 use Rattle.al_rules.specs.Names.{Name}
 use Rattle.al_rules.specs.Scopes.{is_struct, structs_in}
-use Rattle.al_names.specs.NameLists.{named_in, with_name}
+use Rattle.al_type_names.specs.NameLists.{named_in, with_name}
 use Rattle.al_types.proofs.ItemLemmas.{with_name_or}
 use Rattle.al_types.proofs.items.add_name.Goals as goal
 

@@ -5,10 +5,10 @@ use Rattle.al_rules.specs.Checks.{Checked, ensure}
 use Rattle.al_rules.specs.Names.{Name, any_named}
 use Rattle.al_rules.specs.Scopes.{is_struct}
 use Rattle.al_rules.specs.Types.{type_checked}
-use Rattle.al_names.specs.NameLists.{named_in}
-use Rattle.al_names.specs.Roles.{allowed_for}
+use Rattle.al_type_names.specs.NameLists.{named_in}
+use Rattle.al_type_names.specs.Roles.{allowed_for}
 use Rattle.al_source.specs.Answers.{Gives}
-use Rattle.al_names.specs.Steps.{kind_of}
+use Rattle.al_type_names.specs.Steps.{kind_of}
 use Rattle.al_types.proofs.items.check_field.Goals as goal
 
 pub returns-clause-checked : goal.returns-clause-checked

@@ -3,9 +3,9 @@ use Rattle.std.proofs.lemmas.Result.{err_from_is_err_and}
 use Rattle.al_source.specs.Answers.{Fails}
 use Rattle.al_rules.specs.Checks.{Checked}
 use Rattle.al_rules.specs.Scopes.{is_struct}
-use Rattle.al_names.specs.NameLists.{named_in}
-use Rattle.al_names.specs.Roles.{allowed_for}
-use Rattle.al_names.specs.Steps.{kind_of}
+use Rattle.al_type_names.specs.NameLists.{named_in}
+use Rattle.al_type_names.specs.Roles.{allowed_for}
+use Rattle.al_type_names.specs.Steps.{kind_of}
 use Rattle.al_types.proofs.ItemLemmas.{fields_stop}
 use Rattle.al_types.proofs.items.check_fields.Goals as goal
 

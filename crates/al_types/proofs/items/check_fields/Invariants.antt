@@ -1,8 +1,8 @@
 use Rattle.std.proofs.Common.{◌≡◌, [], length}
 use Rattle.al_rules.specs.Scopes.{is_struct}
-use Rattle.al_names.specs.Definitions.{fields_by}
-use Rattle.al_names.specs.NameLists.{named_in}
-use Rattle.al_names.specs.Roles.{allowed_for}
+use Rattle.al_type_names.specs.Definitions.{fields_by}
+use Rattle.al_type_names.specs.NameLists.{named_in}
+use Rattle.al_type_names.specs.Roles.{allowed_for}
 use Rattle.al_types.proofs.items.check_fields.Given as goal
 
 abbrev pub invariant-loop-fields : goal.invariant-loop-fields

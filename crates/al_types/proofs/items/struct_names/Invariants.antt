@@ -1,7 +1,7 @@
 use Rattle.std.proofs.Common.{◌≡◌, ◌||◌, length}
 use Rattle.al_rules.specs.Names.{Name}
 use Rattle.al_rules.specs.Scopes.{is_struct, structs_in}
-use Rattle.al_names.specs.NameLists.{named_in}
+use Rattle.al_type_names.specs.NameLists.{named_in}
 use Rattle.al_types.proofs.items.struct_names.Given as goal
 
 abbrev pub invariant-loop-items : goal.invariant-loop-items

@@ -1,6 +1,6 @@
 use Rattle.std.proofs.Common.{◌≡◌, length}
-use Rattle.al_names.specs.Definitions.{items_by}
-use Rattle.al_names.specs.NameLists.{named_in}
+use Rattle.al_type_names.specs.Definitions.{items_by}
+use Rattle.al_type_names.specs.NameLists.{named_in}
 use Rattle.al_types.proofs.items.with_items.Given as goal
 
 abbrev pub invariant-loop-items : goal.invariant-loop-items

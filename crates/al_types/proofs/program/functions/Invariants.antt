@@ -1,6 +1,6 @@
 use Rattle.std.proofs.Common.{◌≡◌, [], map, length}
 use Rattle.al_rules.specs.Programs.{funcs_typed}
-use Rattle.al_operands.proofs.Gathered.{behind_with}
+use Rattle.al_type_operands.proofs.Gathered.{behind_with}
 use Rattle.al_types.proofs.program.functions.Given as goal
 
 abbrev pub invariant-loop-left : goal.invariant-loop-left

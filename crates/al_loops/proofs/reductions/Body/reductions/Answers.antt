@@ -8,7 +8,7 @@ use Rattle.al_loops.proofs.reductions.Body.reductions.Goals.{then-len-lt-TRIED_R
 
 pub loop-a-preserved : goal.loop-a-preserved
 loop-a-preserved c =
-    let g = reduction_of c.args.self.now.typed.now c.args.self.now.info.now c.args.self.now.stmt.now in
+    let g = reduction_of c.args.self.now.program.now.typed.now c.args.self.now.info.now c.args.self.now.stmt.now in
     elim c.if-len-lt-TRIED_REDUCTIONS.branch [
       | then-len-lt-TRIED_REDUCTIONS+in-Some+in_ok-push w ↦ let grown =
           w.reds-is ∙ w.in_ok-push.ensures.ok in (
@@ -35,7 +35,7 @@ loop-a-preserved c =
 
 pub returns : goal.returns
 returns c =
-    let g = reduction_of c.args.self.now.typed.now c.args.self.now.info.now c.args.self.now.stmt.now in
+    let g = reduction_of c.args.self.now.program.now.typed.now c.args.self.now.info.now c.args.self.now.stmt.now in
     let end : drop c.loop-a.a-index c.args.names.now ≡ [] = grind (arith, common_steps) in
     sym (counted_end g TRIED_REDUCTIONS c.loop-a.reds c.loop-a.invariant.0) ∙ ap (counted g TRIED_REDUCTIONS c.loop-a.reds) (sym end) ∙ c.loop-a.invariant.1
     ∙ sym (counted_all g TRIED_REDUCTIONS c.args.names.now)

@@ -7,5 +7,5 @@ use Rattle.al_loops.proofs.reductions.Body.reductions.Given as goal
 abbrev pub invariant-loop-a : goal.invariant-loop-a
 invariant-loop-a l =
     (length l.reds ≤ TRIED_REDUCTIONS)
-    × (counted (reduction_of l.self.typed.now l.self.info.now l.self.stmt.now) TRIED_REDUCTIONS l.reds (drop l.a-index l.names)
-    ≡ counted (reduction_of l.self.typed.now l.self.info.now l.self.stmt.now) TRIED_REDUCTIONS [] l.names)
+    × (counted (reduction_of l.self.program.now.typed.now l.self.info.now l.self.stmt.now) TRIED_REDUCTIONS l.reds (drop l.a-index l.names)
+    ≡ counted (reduction_of l.self.program.now.typed.now l.self.info.now l.self.stmt.now) TRIED_REDUCTIONS [] l.names)

@@ -1,6 +1,6 @@
 use Rattle.std.proofs.Common.{◌≡◌, drop}
 use Rattle.al_rules.specs.Statements.{statements}
-use Rattle.al_operands.proofs.Gathered.{behind_with}
+use Rattle.al_type_operands.proofs.Gathered.{behind_with}
 use Rattle.al_types.proofs.checker.Checker.+statements.Given as goal
 
 abbrev pub invariant-statements-loop-s : goal.invariant-statements-loop-s

@@ -1,6 +1,6 @@
 use Rattle.std.proofs.Common.{◌≡◌, length}
 use Rattle.al_rules.specs.Statements.{reductions}
-use Rattle.al_operands.proofs.Gathered.{behind_with}
+use Rattle.al_type_operands.proofs.Gathered.{behind_with}
 use Rattle.al_types.proofs.checker.Checker.reductions.Given as goal
 
 abbrev pub invariant-loop-rs : goal.invariant-loop-rs

@@ -1,0 +1,14 @@
+pub mod Lists
+pub mod Induction
+pub mod Nodes
+pub mod MentionNodes
+pub mod StmtNodes
+pub mod Asked
+pub mod Terms
+pub mod Statements
+pub mod Programs
+pub mod ParaNodes
+pub mod OnlyUpdates
+pub mod Paths
+pub mod Reaching
+pub mod Noted

@@ -1,7 +1,0 @@
-use Rattle.std.proofs.Common.{◌≡◌, ◌++◌, take}
-use Rattle.std.specs.List.{flat_map}
-use Rattle.al_rules.specs.Candidates.{names}
-use Rattle.al_loops.proofs.names.+expressions.Given as goal
-
-abbrev pub invariant-in_exprs-loop-e : goal.invariant-in_exprs-loop-e
-invariant-in_exprs-loop-e l = l.out ≡ l.fn.out ++ flat_map names (take l.e-index l.es)

@@ -1,3 +1,0 @@
-pub mod Walks
-pub mod Entries
-pub mod Reach

@@ -1,5 +1,0 @@
-pub mod Seen
-pub mod Lines
-pub mod Plans
-pub mod Outcome
-pub mod Tried

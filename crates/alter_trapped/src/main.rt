@@ -1,0 +1,17 @@
+//! The program `alter`, run on a source whose run a trap ends.
+#![tactic(auto)]
+
+use al_cli::{program, words};
+use al_io::{HostErr, HostFiles, HostOut};
+use std::process::ExitCode;
+
+fn main(rt: HostRuntime) -> ExitCode {
+    let (mut out, mut err) = (HostOut::new(rt.stdout()), HostErr::new(rt.stderr()));
+    ExitCode::from(program(
+        rt.alloc(),
+        &words(&rt),
+        &mut HostFiles::new(&rt),
+        &mut out,
+        &mut err,
+    ))
+}
