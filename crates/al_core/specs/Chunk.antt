@@ -8,7 +8,7 @@ use Rattle.std.specs.FinSet.{FinSet}
 use Rattle.al_core.specs.declared.choices.Red.{Red}
 use Rattle.al_core.specs.declared.reports.Ending.{Ending}
 use Rattle.al_core.specs.declared.values.Val.TheVariants.{Int, Ptr}
-use Rattle.al_core.specs.World.{Obj, Val, Addr}
+use Rattle.al_core.specs.World.{Obj, Val}
 use Rattle.al_core.specs.Orders.{obj_cmp, addr_cmp}
 use Rattle.al_core.specs.Reductions.{red_identity}
 use Rattle.al_core.specs.Memory.{Memory, value_at}

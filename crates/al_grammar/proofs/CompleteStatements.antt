@@ -29,7 +29,7 @@ use Rattle.al_grammar.specs.Operators.{update_of, step_of, note_word_of}
 use Rattle.al_grammar.specs.Phrases.{Tokens, Name, Takes, takes, Means, means, line_at}
 use Rattle.al_grammar.specs.Types.{Base, Declarator}
 use Rattle.al_grammar.specs.Types as ty
-use Rattle.al_grammar.specs.Expressions.{State, Reads, Expression, Place}
+use Rattle.al_grammar.specs.Expressions.{Reads, Expression, Place}
 use Rattle.al_grammar.specs.Expressions as gr
 use Rattle.al_grammar.specs.Statements.{statement_of, at, one, reduced, is_else, else_next, Values, CallValues, PrintValues, Simple, NotePolicy, NoteOrder, Reduced, Reductions, Note, Maybe, First, Third, Head, Parenthesized, Initializer, Locals, Statement, Inner, Inners}
 use Rattle.al_grammar.specs.Statements as g

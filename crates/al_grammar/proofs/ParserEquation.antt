@@ -13,7 +13,7 @@ use Rattle.al_grammar.specs.declared.operators.Prefix.{Prefix}
 use Rattle.al_grammar.specs.declared.operators.TheConstants.{LEVELS}
 use Rattle.al_grammar.specs.Operators.{infix_of, join, prefix_of, apply}
 use Rattle.al_grammar.specs.Phrases.{Tokens, Name, Takes}
-use Rattle.al_grammar.specs.Expressions.{State, Reads, Arguments, More, Expression, Place}
+use Rattle.al_grammar.specs.Expressions.{State}
 use Rattle.al_grammar.specs.Expressions as g
 use Rattle.al_source.specs.Steps.{bind}
 use Rattle.al_grammar.specs.Steps.{kind_at, mark_at, meaning_at, tail, expect}

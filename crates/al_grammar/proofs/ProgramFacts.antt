@@ -29,7 +29,7 @@ use Rattle.al_grammar.specs.TypeParser.{base, stars, named, dimensions, declarat
 use Rattle.al_grammar.specs.StatementParser.{statement, braced}
 use Rattle.al_grammar.specs.ProgramParser as p
 use Rattle.al_grammar.proofs.StepFacts.{bind_ok, yields, takes_kind, takes_tail, takes_shorter, kind_takes, mark_takes, key_takes, is_mark_takes, takes_is_mark, takes_expect, expect_takes, takes_word, word_takes, repeat_last, repeat_next, repeat_is, repeat_keeps}
-use Rattle.al_grammar.proofs.TypeFacts.{EndsType, not_mark, sound_base, sound_stars, IsNamed, sound_named, sound_declarator, complete_base, complete_named, complete_stars, complete_declarator, ends_stars, ends_declarator, base_shorter, stars_shorter, declarator_shorter}
+use Rattle.al_grammar.proofs.TypeFacts.{EndsType, not_mark, sound_base, IsNamed, sound_named, sound_declarator, complete_base, complete_named, complete_stars, complete_declarator, ends_stars, ends_declarator, base_shorter, stars_shorter, declarator_shorter}
 use Rattle.al_grammar.proofs.SoundStatements.{Sep, goes_on, ends, sep_shorter, sound_braced, sound_statement}
 use Rattle.al_grammar.proofs.Shorter.{inners_shorter}
 use Rattle.al_grammar.proofs.CompleteStatements.{complete_inners, FirstBase, by_int, by_long, by_struct, first_base}

@@ -12,7 +12,8 @@ numbers_of cuts = map (λ (cut : Cut). cut.call) cuts
 abbrev pub cut_at : List Cut → ℕ → Option ℕ
 cut_at cuts call = option_map (λ (cut : Cut). cut.taken) (find (λ (cut : Cut). cut.call == call) cuts)
 
--- the bytes taken so far, how many there is room for, the puts that are cut short, and how many puts there were and failed
+-- the bytes taken so far, how many there is room for, the puts that are cut short, and how many puts there were and
+-- failed
 pub record SinkInMemory : Type 0 where
   pub bytes : List ℕ
   pub room : ℕ

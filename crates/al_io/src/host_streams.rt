@@ -52,7 +52,8 @@ impl<W: Write> Sink for HostStream<W> {
 
     fn put(&mut self, bytes: &[u8]) -> Result<(), PutFault>
         // Where the stream says what it holds.
-        ensures all { OnOk result (Appends (W.contents (stream_of self.old)) (W.contents (stream_of self.new)) bytes.now) }
+        ensures all { OnOk result
+            (Appends (W.contents (stream_of self.old)) (W.contents (stream_of self.new)) bytes.now) }
         ensures prefix { OnErr result ((n : ℕ)
             × Appends (W.contents (stream_of self.old)) (W.contents (stream_of self.new)) (take n bytes.now)) }
 

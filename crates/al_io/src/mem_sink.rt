@@ -31,7 +31,13 @@ impl Model for MemSink {
 
     ghost Value = { SinkInMemory };
 
-    ghost view = { λ s. record { bytes = s.kept.bytes.items; room = s.kept.room; cuts = s.cuts; calls = s.calls; faults = s.faults } };
+    ghost view = { λ s. record {
+      bytes = s.kept.bytes.items;
+      room = s.kept.room;
+      cuts = s.cuts;
+      calls = s.calls;
+      faults = s.faults;
+    } };
 }
 
 impl MemSink {

@@ -230,14 +230,8 @@ module _ (reds : List Red) (olds : ℕ → ℤ) where
       by_value from s t b x y (Ptr o w) ex ey fine =
           subst (λ r. WeakCame (FineFlow (apart reds)) from (after (at_line line r) s (λ z. set z >> pure Next)) (then_set (Int y) (Ptr o w) t))
           (sym (joins.pointer x o w))
-          (subst (λ r. WeakCame (FineFlow (apart reds)) from (Err (trap.Kind, line), s) (after (at_line line r) t (λ z. set z >> pure Next))) (sym (joins.pointer y o w)) (record {
-            answer =
-                refl;
-            good = tt;
-            budget = b.budget;
-            world = b.world;
-            keeps = tt;
-          }))
+          (subst (λ r. WeakCame (FineFlow (apart reds)) from (Err (trap.Kind, line), s) (after (at_line line r) t (λ z. set z >> pure Next)))
+          (sym (joins.pointer y o w)) (record { answer = refl; good = tt; budget = b.budget; world = b.world; keeps = tt }))
 
       -- the expression answered, with the accumulators as they were
       after_value : (from : Content) (r : Answer Val) (s t : State Content) (x y : ℤ) (sums : List Val) → slice_get sums i ≡ Some (Int x) → y ≡ red_apply op

@@ -96,7 +96,8 @@ module _ (typed : Typed) where
   pub as_many_loops : loops_from 0 typed.funcs ≡ notes_from 0 typed.loops → length (program_loops typed) ≡ length typed.loops
   as_many_loops loops = sym (zero-add (length (program_loops typed))) ∙ numbered_length (loops_numbered loops) ∙ zero-add (length typed.loops)
 
-  pub loop_in_place : loops_from 0 typed.funcs ≡ notes_from 0 typed.loops → (n : ℕ) (l : PlacedLoop) → slice_get (program_loops typed) n ≡ Some l → l.loop.number ≡ n
+  pub loop_in_place : loops_from 0 typed.funcs ≡ notes_from 0 typed.loops → (n : ℕ) (l : PlacedLoop)
+      → slice_get (program_loops typed) n ≡ Some l → l.loop.number ≡ n
   loop_in_place loops n l at = numbered_at (program_loops typed) n l (loops_numbered loops) at ∙ zero-add n
 
 -- ---- the notes of loops

@@ -32,8 +32,8 @@ IsThere typed f (Local n) = n < length f.locals
 IsThere typed f (Word o w) = IsThereObject typed o
 IsThere typed f (Head o) = ⊥
 
--- All that a function mentions is there: each variable, each function that it calls, and the note of each annotated loop
--- in it.
+-- All that a function mentions is there: each variable, each function that it calls, and the note of each annotated
+-- loop in it.
 pub record IsInRange (typed : Typed) (f : TFunc) : Type 0 where
   pub variables : All (IsThere typed f) (flat_map variables f.body)
   pub calls : All (λ g. g < length typed.funcs) (calls_of (terms_of f.body))
@@ -58,4 +58,5 @@ pub record IsFormedWith (typed : Typed) (infos : List LoopInfo) : Type 0 where
 -- That is so of an accepted source.
 abbrev pub AcceptedIsFormed : Type 0
 AcceptedIsFormed =
-    (source : Bytes) (typed : Typed) (infos : List LoopInfo) → accepted source ≡ Ok (typed, infos) → IsFormedWith typed infos
+    (source : Bytes) (typed : Typed) (infos : List LoopInfo)
+    → accepted source ≡ Ok (typed, infos) → IsFormedWith typed infos

@@ -14,19 +14,20 @@ pub fn accepted_is_formed()
     ensures { AcceptedIsFormed }
 {}
 
-/// In the typed tree of such a program each local that a function mentions is one of its own, each global and function is
-/// one of the program's, and each annotated loop has its note.
+/// In the typed tree of such a program each local that a function mentions is one of its own, each global and function
+/// is one of the program's, and each annotated loop has its note.
 pub fn numbers_are_in_range()
     ensures { NumbersAreInRange }
 {}
 
-/// In the typed tree of such a program the number of an annotated loop is its place among all of them, and each has a note.
+/// In the typed tree of such a program the number of an annotated loop is its place among all of them, and each has a
+/// note.
 pub fn loops_are_in_place()
     ensures { LoopsAreInPlace }
 {}
 
-/// No well-formed tree has a local or a global out of range, uses the value of a function that gives none or of what frees
-/// an object, or stores a pointer in an integer local.
+/// No well-formed tree has a local or a global out of range, uses the value of a function that gives none or of what
+/// frees an object, or stores a pointer in an integer local.
 #[tactic(auto, using(crate::proofs::IllFormedTrees::ill_formed))]
 pub fn ill_formed_is_refused()
     ensures locals { NoLocalOutOfRange }

@@ -1,5 +1,5 @@
--- Reports of programs as they are written: their trees are those of sources, and the reductions of their loops those that
--- annotations name or that are tried.
+-- Reports of programs as they are written: their trees are those of sources, and the reductions of their loops those
+-- that annotations name or that are tried.
 use Rattle.std.specs.Prelude.{◌≡◌, ℕ, ◌<◌, ◌⊎◌, List, [], Option, Some, None, slice_get, ℤ, FitsSigned, Contains}
 use Rattle.std.specs.Int.{w64}
 use Rattle.al_source.specs.declared.source_tree.Program.{Program}

@@ -1,4 +1,6 @@
--- How an answer of the code meets a definition: it is the defined one, unless memory runs out. No definition knows want of memory, so an error of the code says what it is to the definition, or nothing: that is the first argument of each word here.
+-- How an answer of the code meets a definition: it is the defined one, unless memory runs out. No definition knows want
+-- of memory, so an error of the code says what it is to the definition, or nothing: that is the first argument of each
+-- word here.
 use Rattle.std.specs.Prelude.{◌≡◌, ⊤, Option, Some, None, Result, Ok, Err}
 
 -- the defined fault, where the code's error says one

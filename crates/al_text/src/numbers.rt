@@ -54,8 +54,10 @@ fn number_of(word: &[u8], line: u32) -> Result<i64, InputCause>
 
 /// Adds the number of a word, if the word has bytes.
 fn push_word(numbers: &mut Items<i64>, word: &[u8], line: u32) -> Result<(), InputFault>
-    ensures ok { OnOk result ((ws : List Word) → numbers_onto numbers.new ws ≡ numbers_onto numbers.old (word_of line word.now ++ ws)) }
-    ensures err { IfErr result (λ fault. (ws : List Word) → Fails (numbers_onto numbers.old (word_of line word.now ++ ws)) (told fault)) }
+    ensures ok { OnOk result
+        ((ws : List Word) → numbers_onto numbers.new ws ≡ numbers_onto numbers.old (word_of line word.now ++ ws)) }
+    ensures err { IfErr result (λ fault.
+        (ws : List Word) → Fails (numbers_onto numbers.old (word_of line word.now ++ ws)) (told fault)) }
 {
     if word.is_empty() {
         return Ok(());

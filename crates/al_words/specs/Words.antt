@@ -129,16 +129,20 @@ valued w o (Some n) = Ok (record w { given = give w.given o.knob n; waiting = No
 valued w o None = Err (BadValue o.at)
 
 abbrev pub optioned : Walk → ℕ → Option Knob → Result Walk WordFault
-optioned w at (Some knob) = if is_some (given_to w.given knob) then Err (Repeated at) else Ok (record w { waiting = Some (record { knob = knob; at = at }) })
+optioned w at (Some knob) =
+    if is_some (given_to w.given knob) then Err (Repeated at)
+    else Ok (record w { waiting = Some (record { knob = knob; at = at }) })
 optioned w at None = Err (Unknown at)
 
 abbrev pub named : Walk → ℕ → Walk
-named w at = record w { names = if nat_lt w.count 17 then slice_set w.names w.count at else w.names; count = w.count + 1 }
+named w at =
+    record w { names = if nat_lt w.count 17 then slice_set w.names w.count at else w.names; count = w.count + 1 }
 
 -- any other word that begins with `-` is an option, and the rest are names
 abbrev pub step_by : Option Waiting → Walk → ℕ → List ℕ → Result Walk WordFault
 step_by (Some o) w at word = valued w o (value_of o.knob word)
-step_by None w at word = if starts_with nat_eq word (codes "-") then optioned w at (knob_for w.verb word) else Ok (named w at)
+step_by None w at word =
+    if starts_with nat_eq word (codes "-") then optioned w at (knob_for w.verb word) else Ok (named w at)
 
 abbrev pub step : Walk → ℕ → List ℕ → Result Walk WordFault
 step w at word = step_by w.waiting w at word
@@ -165,7 +169,8 @@ with_size at start knobs (Some size) = Ok (Demo start size knobs)
 with_size at start knobs None = Err (BadNumber at)
 
 abbrev pub with_start : List (List ℕ) → Job → Option ℕ → Result Command WordFault
-with_start words job (Some start) = with_size (place job.names 1) start job.knobs (number_in 1 MOST_SIZE (word_at words (place job.names 1)))
+with_start words job (Some start) =
+    with_size (place job.names 1) start job.knobs (number_in 1 MOST_SIZE (word_at words (place job.names 1)))
 with_start words job None = Err (BadNumber (place job.names 0))
 
 abbrev pub demo : List (List ℕ) → Job → Result Command WordFault

@@ -25,7 +25,8 @@ pub struct Job {
     pub knobs: Knobs,
 }
 
-/// Why words ask for nothing. A number is the place of a word, from 0; for the fault of a value it is that of its option.
+/// Why words ask for nothing. A number is the place of a word, from 0; for the fault of a value it is that of its
+/// option.
 #[derive(Clone, Copy, Debug, PartialEq, Eq)]
 pub enum WordFault {
     NoCommand,

@@ -1,6 +1,6 @@
-use Rattle.std.proofs.Common.{◌≡◌, ◌++◌, take, length, map, sym, ap, ◌∙◌, arith}
+use Rattle.std.proofs.Common.{◌≡◌, ◌++◌, take, map, ap, ◌∙◌, arith}
 use Rattle.std.proofs.lemmas.Grind.{common_steps}
-use Rattle.al_core.specs.Loops.{placed, for_loops_in}
+use Rattle.al_core.specs.Loops.{placed}
 use Rattle.al_core.specs.LoopsInPlace.{loop_of, placed_of}
 use Rattle.al_core.proofs.LoopNodes.{loops_in}
 use Rattle.al_core.proofs.for_loops.in_func.Goals as goal

@@ -7,5 +7,7 @@ pub returns : goal.returns
 returns g c =
     let told = g.T.Trial.told c.args.trial.now in
     let end : c.loop-test.test ≡ c.args.tests = omega (arith, c.loop-test-test.false, c.loop-test.auto.test-end) in
-    let each = subst (λ t. (k : ℕ) (d : _) → k < c.args.candidates → IfOk (slice_index_or c.loop-test.rows.items k d) (IsFinding told t k)) end c.loop-test.invariant.1 in
-    c.tabled.ensures ∙ table_of told c.args.candidates c.args.tests _ c.loop-test.rows.items (sym c.deref.ensures.value ∙ c.in_ok-all_found.ensures) c.loop-test.invariant.0 each
+    let rows = c.loop-test.rows.items in
+    let each = subst (λ t. (k : ℕ) (d : _) → k < c.args.candidates → IfOk (slice_index_or rows k d) (IsFinding told t k)) end c.loop-test.invariant.1 in
+    let all_found = sym c.deref.ensures.value ∙ c.in_ok-all_found.ensures in
+    c.tabled.ensures ∙ table_of told c.args.candidates c.args.tests _ rows all_found c.loop-test.invariant.0 each
