@@ -16,11 +16,13 @@ pub digit_at : (ds : List ℕ) (i : ℕ) → list_all is_ascii_digit ds ≡ true
 digit_at ds i all within = grind (arith, common_steps, digit_worth)
 
 -- the value of one digit more
-pub value_more : (ds : List ℕ) (i : ℕ) → list_all is_ascii_digit ds ≡ true → i < length ds → digits_value 10 (take (i + 1) ds) ≡ digits_value 10 (take i ds) * 10 + (get_or ds i 0 - 48)
+pub value_more : (ds : List ℕ) (i : ℕ) → list_all is_ascii_digit ds ≡ true → i < length ds
+    → digits_value 10 (take (i + 1) ds) ≡ digits_value 10 (take i ds) * 10 + (get_or ds i 0 - 48)
 value_more ds i all within = digits_value_more 10 ds i within ∙ ap (λ d. digits_value 10 (take i ds) * 10 + d) (digit_at ds i all within)
 
 -- once digits are worth too much, all of them are
-pub too_large : (ds : List ℕ) (i n : ℕ) → list_all is_ascii_digit ds ≡ true → i < length ds → n ≡ digits_value 10 (take i ds) → 2 ^ 64 ≤ n * 10 + (get_or ds i 0 - 48) → value_of ds ≡ None
+pub too_large : (ds : List ℕ) (i n : ℕ) → list_all is_ascii_digit ds ≡ true → i < length ds → n ≡ digits_value 10 (take i ds)
+    → 2 ^ 64 ≤ n * 10 + (get_or ds i 0 - 48) → value_of ds ≡ None
 too_large ds i n all within is large =
     let e = value_more ds i all within in
     let m = digits_value-take-le 10 ds (i + 1) (omega arith) in

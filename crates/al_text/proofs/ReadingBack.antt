@@ -62,7 +62,8 @@ minus_value ds n back small =
     rw (back, fits) refl
 
 -- a text that is one word which is a number lists that number
-one_number : (text : List ℕ) (n : ℤ) → list_all is_solid text ≡ true → length text ≤ 21 → is_number text ≡ true → signed_value_of text ≡ Some n → numbers_of text ≡ Ok (n ∷ [])
+one_number : (text : List ℕ) (n : ℤ) → list_all is_solid text ≡ true → length text ≤ 21 → is_number text ≡ true → signed_value_of text ≡ Some n
+    → numbers_of text ≡ Ok (n ∷ [])
 one_number text n solid short number value =
     let one : words_of text ≡ word_of 1 text = solid_words 1 [] text solid in
     let few : nat_le (length text) INPUT_BYTES ≡ true = grind arith in
@@ -74,10 +75,12 @@ reads_back (pos n) fits =
     let digits : is_digits (decimal n) ≡ true = digits_of n (omega arith) in
     let back : digits_value 10 (decimal n) ≡ n = value_back n (omega arith) in
     let short = length-decimal-le 20 n (omega arith) (omega arith) (omega arith) in
-    one_number (decimal n) (pos n) (solid_digits (decimal n) (all_digits n (omega arith))) (omega arith) (plain_number (decimal n) digits) (plain_value (decimal n) n digits back small)
+    one_number (decimal n) (pos n) (solid_digits (decimal n) (all_digits n (omega arith))) (omega arith) (plain_number (decimal n) digits)
+    (plain_value (decimal n) n digits back small)
 reads_back (negsuc n) fits =
     let small : suc n ≤ 2 ^ 63 = omega (arith, ints) in
     let digits : is_digits (decimal (suc n)) ≡ true = digits_of (suc n) (omega arith) in
     let back : digits_value 10 (decimal (suc n)) ≡ suc n = value_back (suc n) (omega arith) in
     let short = length-decimal-le 20 (suc n) (omega arith) (omega arith) (omega arith) in
-    one_number (45 ∷ decimal (suc n)) (negsuc n) (solid_digits (decimal (suc n)) (all_digits (suc n) (omega arith))) (omega arith) digits (minus_value (decimal (suc n)) n back small)
+    one_number (45 ∷ decimal (suc n)) (negsuc n) (solid_digits (decimal (suc n)) (all_digits (suc n) (omega arith))) (omega arith) digits
+    (minus_value (decimal (suc n)) n back small)

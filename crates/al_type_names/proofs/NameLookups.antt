@@ -45,7 +45,8 @@ with_key_by : (b : Bool) (k : Bor Name) (ks : List (Bor Name)) → map key (if b
 with_key_by true k ks = refl
 with_key_by false k ks = map_push key ks k
 
-pub with_key : (k : Bor Name) (ks : List (Bor Name)) → map (λ k. k.now) (if list_any (λ l. pointwise nat_eq k.now l.now) ks then ks else ks ++ k ∷ []) ≡ with_name k.now (map (λ k. k.now) ks)
+pub with_key : (k : Bor Name) (ks : List (Bor Name))
+    → map (λ k. k.now) (if list_any (λ l. pointwise nat_eq k.now l.now) ks then ks else ks ++ k ∷ []) ≡ with_name k.now (map (λ k. k.now) ks)
 with_key k ks =
     with_key_by (list_any (λ (l : Bor Name). pointwise nat_eq k.now l.now) ks) k ks
     ∙ ap (λ b. if b then map key ks else map key ks ++ k.now ∷ []) (any_key k.now ks)
@@ -59,7 +60,8 @@ module _ {A : Type 0} (name_of : A → Name) where
   pub place_of_names : (name : Name) (xs : List A) → place_named name_of name xs ≡ place_named (λ n. n) name (map name_of xs)
   place_of_names name xs = position_map (λ x. bytes_eq (name_of x) name) (λ n. bytes_eq n name) name_of (λ x. refl) xs
 
-find_by : {A : Type 0} (xs : List A) (at : ℕ) (b : Bool) → nat_lt at (length xs) ≡ b → slice_get xs at ≡ option_and_then (λ k. slice_get xs k) (cond b (Some at) None)
+find_by : {A : Type 0} (xs : List A) (at : ℕ) (b : Bool) → nat_lt at (length xs) ≡ b
+    → slice_get xs at ≡ option_and_then (λ k. slice_get xs k) (cond b (Some at) None)
 find_by xs at true is = refl
 find_by xs at false is = slice_get_past xs at (grind (arith, nat_tests))
 
@@ -68,7 +70,8 @@ pub find_at_place : {A : Type 0} (p : A → Bool) (xs : List A) → find p xs �
 find_at_place p xs = find_at p xs ∙ find_by xs (position_or_len p xs) (nat_lt (position_or_len p xs) (length xs)) refl
 
 -- with a new name
-pub with_new : {A : Type 0} (name_of : A → Name) (xs : List A) (x : A) → any_named name_of (name_of x) xs ≡ false → with_name (name_of x) (map name_of xs) ≡ map name_of (xs ++ x ∷ [])
+pub with_new : {A : Type 0} (name_of : A → Name) (xs : List A) (x : A) → any_named name_of (name_of x) xs ≡ false
+    → with_name (name_of x) (map name_of xs) ≡ map name_of (xs ++ x ∷ [])
 with_new name_of xs x none =
     ap (λ b. if b then map name_of xs else map name_of xs ++ name_of x ∷ []) (sym (any_of_names name_of (name_of x) xs) ∙ none)
     ∙ sym (map_push name_of xs x)

@@ -32,7 +32,8 @@ module _ {A B : Type 0} (p : B → Bool) (f : A → B) where
   find_map (x ∷ xs) = either (p (f x)) x (find (λ x. p (f x)) xs) ∙ ap (λ r. cond (p (f x)) (Some (f x)) r) (find_map xs)
 
 -- what is in scope, the last first
-pub find_seen : (p : Binding → Bool) (xs : List Kept) (start : ℕ) → option_map binding_of (find (λ b. p (binding_of b)) (reverse xs)) ≡ find p (in_scope (seen xs start))
+pub find_seen : (p : Binding → Bool) (xs : List Kept) (start : ℕ)
+    → option_map binding_of (find (λ b. p (binding_of b)) (reverse xs)) ≡ find p (in_scope (seen xs start))
 find_seen p xs start = find_map p binding_of (reverse xs) ∙ ap (λ l. find p l) (split xs start)
 
 pub any_seen : (p : Binding → Bool) (xs : List Kept) (start : ℕ) → list_any (λ b. p (binding_of b)) (drop start xs) ≡ list_any p (seen xs start).inner
@@ -54,7 +55,9 @@ seen_outside xs start mark within =
     let inner = map binding_of (reverse (drop mark ys)) in
     let outer = map binding_of (reverse (take mark ys)) in
     let all : (seen xs start).outer ≡ inner ++ outer = split ys mark in
-    let count : length (seen xs start).outer - mark ≡ length inner = ap (λ n. n - mark) (length-map (reverse ys) binding_of ∙ length-reverse ys) ∙ sym (length-map (reverse (drop mark ys)) binding_of ∙ length-reverse (drop mark ys) ∙ length-drop mark ys) in
+    let count : length (seen xs start).outer - mark ≡ length inner =
+    ap (λ n. n - mark) (length-map (reverse ys) binding_of ∙ length-reverse ys)
+    ∙ sym (length-map (reverse (drop mark ys)) binding_of ∙ length-reverse (drop mark ys) ∙ length-drop mark ys) in
     λ i. record {
       inner = (sym (take-append_seam inner outer) ∙ ap₂ (λ n l. take n l) (sym count) (sym all)) i;
       outer = (sym (drop-append_seam inner outer) ∙ ap₂ (λ n l. drop n l) (sym count) (sym all)) i;

@@ -8,4 +8,5 @@ binding_of b = record { name = b.name.now; number = b.number; ty = b.ty.now }
 
 -- without its inner names, where the scope around it has so many outer ones
 abbrev pub without_inner : ℕ → Scope → Scope
-without_inner mark s = record { inner = take (length s.outer - mark) s.outer; outer = drop (length s.outer - mark) s.outer }
+without_inner mark s =
+    record { inner = take (length s.outer - mark) s.outer; outer = drop (length s.outer - mark) s.outer }

@@ -43,7 +43,8 @@ impl<'a> Model for Known<'a> {
 
     ghost Value = { Known };
 
-    ghost coded = { Prim.hlevel (codes, struct_def.the_row.coded, global_def.the_row.coded, func.the_row.coded, sizes.the_row.coded) };
+    ghost coded = { Prim.hlevel
+        (codes, struct_def.the_row.coded, global_def.the_row.coded, func.the_row.coded, sizes.the_row.coded) };
 
     ghost view = { λ k. record { structs = k.structs; globals = k.globals; funcs = k.funcs; layout = k.layout.now } };
 }
@@ -139,14 +140,17 @@ impl<'a> Known<'a> {
 
     /// A type in a function's body, where every struct is known.
     pub fn check_type(&self, role: Role, ty: &CType) -> Result<(), Fault>
-        ensures { Gives kind_of (type_checked (spec.is_struct self.now.structs) (spec.is_struct self.now.structs) (allowed_for role) ty.now) result }
+        ensures { Gives kind_of
+            (type_checked (spec.is_struct self.now.structs) (spec.is_struct self.now.structs) (allowed_for role) ty.now)
+            result }
     {
         self.check_item_type(self.structs.names(), role, ty)
     }
 
     /// A type of an item, where behind a pointer the struct may stand anywhere.
     pub fn check_item_type(&self, anywhere: &Names<'_>, role: Role, ty: &CType) -> Result<(), Fault>
-        ensures { Gives kind_of (type_checked (spec.is_struct self.now.structs) (named_in anywhere.now) (allowed_for role) ty.now) result }
+        ensures { Gives kind_of
+            (type_checked (spec.is_struct self.now.structs) (named_in anywhere.now) (allowed_for role) ty.now) result }
     {
         check_type(self.structs.names(), anywhere, role, ty)
     }
@@ -292,7 +296,8 @@ impl<'a> Known<'a> {
 
     /// A function. A variable may not be called.
     pub fn callee_named(&self, scope: &Scope<'a>, name: &[u8]) -> Result<Callee<'a>, Fault>
-        ensures { Gives kind_of (spec.callee_named self.now (spec.in_scope scope.now) name.now) (map_ok callee_of result) }
+        ensures { Gives kind_of
+            (spec.callee_named self.now (spec.in_scope scope.now) name.now) (map_ok callee_of result) }
     {
         if self.variable_named(scope, name).is_some() {
             return Err(Fault::Kind(TypeKind::Mismatch));

@@ -32,9 +32,11 @@ impl<'a> Names<'a> {
         }
     }
 
-    /// Whether the name is a new one. One that is there keeps its number. Numbers have 32 bits: more names count as want of memory.
+    /// Whether the name is a new one. One that is there keeps its number. Numbers have 32 bits: more names count as
+    /// want of memory.
     pub fn add(&mut self, name: &'a [u8]) -> Result<bool, AllocError>
-        ensures { IfOk result (λ new. (new ≡ not (any_named (λ n. n) name.now self.old)) × (self.new ≡ with_name name.now self.old)) }
+        ensures { IfOk result (λ new.
+            (new ≡ not (any_named (λ n. n) name.now self.old)) × (self.new ≡ with_name name.now self.old)) }
     {
         if self.names.len() == u32::MAX as usize {
             return Err(AllocError);

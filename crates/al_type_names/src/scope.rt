@@ -35,7 +35,10 @@ impl<'a> Model for Scope<'a> {
 
     ghost coded = { Prim.hlevel (codes, ctype.the_row.coded) };
 
-    ghost view = { λ s. record { inner = map binding_of (reverse (drop s.start s.bindings.items)); outer = map binding_of (reverse (take s.start s.bindings.items)) } };
+    ghost view = { λ s. record {
+      inner = map binding_of (reverse (drop s.start s.bindings.items));
+      outer = map binding_of (reverse (take s.start s.bindings.items));
+    } };
 
     ghost invariant = { λ s. s.start ≤ vec_len s.bindings };
 }

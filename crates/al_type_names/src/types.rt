@@ -108,7 +108,8 @@ pub fn check_type(
     role: Role,
     ty: &CType,
 ) -> Result<(), Fault>
-    ensures { Gives kind_of (spec.type_checked (named_in earlier.now) (named_in anywhere.now) (allowed_for role) ty.now) result }
+    ensures { Gives kind_of
+        (spec.type_checked (named_in earlier.now) (named_in anywhere.now) (allowed_for role) ty.now) result }
 {
     ensure(are_known(earlier, anywhere, ty).0, TypeKind::Unknown)?;
     ensure(role.allows(form_of(ty)), TypeKind::Shape)

@@ -29,7 +29,9 @@ base_behind x is = no_base (array_in x) x is
 
 pub ruleset bases = (base_array, base_behind)
 
-through : (known : Known) (t : Checked (CType × TExpr)) (i : Operand) → and_then t (λ a. element_place known a.0 (p.At a.1) i) ≡ and_then {A = CType × TPlace} (and_then {B = CType × TPlace} t (λ a. Ok (a.0, p.At a.1))) (λ a. element_place known a.0 a.1 i)
+through : (known : Known) (t : Checked (CType × TExpr)) (i : Operand)
+    → and_then t (λ a. element_place known a.0 (p.At a.1) i)
+    ≡ and_then {A = CType × TPlace} (and_then {B = CType × TPlace} t (λ a. Ok (a.0, p.At a.1))) (λ a. element_place known a.0 a.1 i)
 through known (Ok a) i = refl
 through known (Err f) i = refl
 

@@ -11,7 +11,8 @@ use Rattle.al_rules.specs.Scopes.{Function, Input, Inputs, Choose}
 use Rattle.al_rules.specs.Operands.{integer, pointer, fitting_all, called, freed}
 use Rattle.al_type_operands.specs.Arguments.{none_of, only_of, pair_of}
 
-pub called_function : (k : ℕ) (f : Func) (xs : List Operand) → called (Function k f) xs ≡ (ensure (length xs == length f.params) Count >> fitting_all f.params xs >>= (λ args. Ok (f.result, e.Call k args)))
+pub called_function : (k : ℕ) (f : Func) (xs : List Operand)
+    → called (Function k f) xs ≡ (ensure (length xs == length f.params) Count >> fitting_all f.params xs >>= (λ args. Ok (f.result, e.Call k args)))
 unfolding called
 called_function k f xs = refl
 
@@ -26,7 +27,8 @@ unfolding called
 called_inputs [] = refl
 called_inputs (x ∷ xs) = refl
 
-pub called_choose : (op : RedOp) (xs : List Operand) → called (Choose op) xs ≡ (pair_of xs >>= (λ p. integer p.0 >>= (λ a. integer p.1 >>= (λ b. Ok (type.Int, e.Choose op a b)))))
+pub called_choose : (op : RedOp) (xs : List Operand)
+    → called (Choose op) xs ≡ (pair_of xs >>= (λ p. integer p.0 >>= (λ a. integer p.1 >>= (λ b. Ok (type.Int, e.Choose op a b)))))
 unfolding called
 called_choose op [] = refl
 called_choose op (x ∷ []) = refl

@@ -14,11 +14,14 @@ abbrev pub one_more : List Field → List Operand → TExpr → Checked (List TE
 one_more fs xs a = and_then (fitting_all fs xs) (λ as'. Ok (a ∷ as'))
 
 -- the next parameter, and the next argument
-taken : (fs : List Field) (i : ℕ) (f : Field) (xs ys : List Operand) (x : Operand) → i < length fs → f ≡ get_or fs i f → xs ≡ x ∷ ys → fitting_all (drop i fs) xs ≡ and_then (fitting f.ty x) (one_more (drop (i + 1) fs) ys)
+taken : (fs : List Field) (i : ℕ) (f : Field) (xs ys : List Operand) (x : Operand) → i < length fs → f ≡ get_or fs i f → xs ≡ x ∷ ys
+    → fitting_all (drop i fs) xs ≡ and_then (fitting f.ty x) (one_more (drop (i + 1) fs) ys)
 taken fs i f xs ys x within is front = ap₂ (λ fs xs. fitting_all fs xs) (next_of fs i f within is) front
 
 -- one more
-pub fits_more : (done new : List TExpr) (fs : List Field) (i : ℕ) (f : Field) (xs ys : List Operand) (x : Operand) (a : TExpr) → i < length fs → f ≡ get_or fs i f → xs ≡ x ∷ ys → fitting f.ty x ≡ Ok a → new ≡ done ++ a ∷ [] → behind done (fitting_all (drop i fs) xs) ≡ behind new (fitting_all (drop (i + 1) fs) ys)
+pub fits_more : (done new : List TExpr) (fs : List Field) (i : ℕ) (f : Field) (xs ys : List Operand) (x : Operand) (a : TExpr) → i < length fs
+    → f ≡ get_or fs i f → xs ≡ x ∷ ys → fitting f.ty x ≡ Ok a → new ≡ done ++ a ∷ []
+    → behind done (fitting_all (drop i fs) xs) ≡ behind new (fitting_all (drop (i + 1) fs) ys)
 fits_more done new fs i f xs ys x a within is front fits grown =
     ap (behind done) (taken fs i f xs ys x within is front)
     ∙ ap (λ (r : Checked TExpr). behind done (and_then r (one_more (drop (i + 1) fs) ys))) fits
@@ -26,7 +29,8 @@ fits_more done new fs i f xs ys x a within is front fits grown =
 
 module _ (told : Checked (List TExpr)) (done : List TExpr) (fs : List Field) (i : ℕ) (xs : List Operand) where
   -- the first that does not fit
-  pub fits_fault : (f : Field) (ys : List Operand) (x : Operand) (k : TypeKind) → told ≡ behind done (fitting_all (drop i fs) xs) → i < length fs → f ≡ get_or fs i f → xs ≡ x ∷ ys → fitting f.ty x ≡ Err k → told ≡ Err k
+  pub fits_fault : (f : Field) (ys : List Operand) (x : Operand) (k : TypeKind) → told ≡ behind done (fitting_all (drop i fs) xs) → i < length fs
+      → f ≡ get_or fs i f → xs ≡ x ∷ ys → fitting f.ty x ≡ Err k → told ≡ Err k
   fits_fault f ys x k so_far within is front fits =
       so_far ∙ ap (behind done) (taken fs i f xs ys x within is front)
       ∙ ap (λ (r : Checked TExpr). behind done (and_then r (one_more (drop (i + 1) fs) ys))) fits

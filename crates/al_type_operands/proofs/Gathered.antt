@@ -37,7 +37,8 @@ module _ {A S F : Type 0} where
   pub with_all : (done : List A) (s : S) → behind_with done (Ok ([], s)) ≡ Ok (done, s)
   with_all done s = ap (λ xs. Ok (xs, s)) (append-nil done)
 
-  pub with_one : (done : List A) (x : A) (r : Result (List A × S) F) → behind_with done (and_then r (λ xs. Ok (x ∷ xs.0, xs.1))) ≡ behind_with (done ++ x ∷ []) r
+  pub with_one : (done : List A) (x : A) (r : Result (List A × S) F)
+      → behind_with done (and_then r (λ xs. Ok (x ∷ xs.0, xs.1))) ≡ behind_with (done ++ x ∷ []) r
   with_one done x (Ok xs) = ap (λ all. Ok (all, xs.1)) (sym (append_assoc done (x ∷ []) xs.0))
   with_one done x (Err f) = refl
 
@@ -50,14 +51,16 @@ next_of xs i x within is = drop_more xs i x within ∙ ap (λ y. y ∷ drop (i +
 
 module _ {A B : Type 0} (f : A → Checked B) where
   -- one more
-  pub each_more : (done new : List B) (xs : List A) (i : ℕ) (x : A) (y : B) → i < length xs → x ≡ get_or xs i x → new ≡ done ++ y ∷ [] → f x ≡ Ok y → behind done (each f (drop i xs)) ≡ behind new (each f (drop (i + 1) xs))
+  pub each_more : (done new : List B) (xs : List A) (i : ℕ) (x : A) (y : B) → i < length xs → x ≡ get_or xs i x → new ≡ done ++ y ∷ [] → f x ≡ Ok y
+      → behind done (each f (drop i xs)) ≡ behind new (each f (drop (i + 1) xs))
   each_more done new xs i x y within is grown got =
       ap (λ l. behind done (each f l)) (next_of xs i x within is)
       ∙ ap (λ r. behind done (and_then r (λ b. and_then (each f (drop (i + 1) xs)) (λ bs. Ok (b ∷ bs))))) got
       ∙ behind_one done y (each f (drop (i + 1) xs)) ∙ ap (λ d. behind d (each f (drop (i + 1) xs))) (sym grown)
 
   -- the first fault
-  pub each_fault : (told : Checked (List B)) (done : List B) (xs : List A) (i : ℕ) (x : A) (k : TypeKind) → told ≡ behind done (each f (drop i xs)) → i < length xs → x ≡ get_or xs i x → f x ≡ Err k → told ≡ Err k
+  pub each_fault : (told : Checked (List B)) (done : List B) (xs : List A) (i : ℕ) (x : A) (k : TypeKind) → told ≡ behind done (each f (drop i xs))
+      → i < length xs → x ≡ get_or xs i x → f x ≡ Err k → told ≡ Err k
   each_fault told done xs i x k so_far within is got =
       so_far ∙ ap (λ l. behind done (each f l)) (next_of xs i x within is)
       ∙ ap (λ r. behind done (and_then r (λ b. and_then (each f (drop (i + 1) xs)) (λ bs. Ok (b ∷ bs))))) got

@@ -76,20 +76,24 @@ int-Place a q = read_int (out-CType a) q
 
 pub ruleset integer_cases = (int-Literal, int-Null, int-Value, int-Variable, int-Place)
 
-by_both : (op : BinOp) (x y : Operand) (p q : Checked TExpr) (other : Checked Operand) → is_ok p ≡ true → is_ok q ≡ true → or_else (and_then p (λ a. and_then q (λ b. Ok (number (e.Binary op a b))))) other ≡ and_then p (λ a. and_then q (λ b. Ok (number (e.Binary op a b))))
+by_both : (op : BinOp) (x y : Operand) (p q : Checked TExpr) (other : Checked Operand) → is_ok p ≡ true → is_ok q ≡ true
+    → or_else (and_then p (λ a. and_then q (λ b. Ok (number (e.Binary op a b))))) other ≡ and_then p (λ a. and_then q (λ b. Ok (number (e.Binary op a b))))
 by_both op x y (Ok a) (Ok b) other h k = refl
 by_both op x y (Ok a) (Err f) other h k = absurd (true≢false (sym k))
 by_both op x y (Err f) q other h k = absurd (true≢false (sym h))
 
 -- two integers
-pub of_integers_is : (op : BinOp) (x y : Operand) (other : Checked Operand) → is_ok (integer x) ≡ true → is_ok (integer y) ≡ true → or_else (of_integers op x y) other ≡ of_integers op x y
+pub of_integers_is : (op : BinOp) (x y : Operand) (other : Checked Operand) → is_ok (integer x) ≡ true → is_ok (integer y) ≡ true
+    → or_else (of_integers op x y) other ≡ of_integers op x y
 of_integers_is op x y other h k = by_both op x y (integer x) (integer y) other h k
 
-by_first : (op : BinOp) (p q : Checked TExpr) (other : Checked Operand) → is_ok p ≡ false → or_else (and_then p (λ a. and_then q (λ b. Ok (number (e.Binary op a b))))) other ≡ other
+by_first : (op : BinOp) (p q : Checked TExpr) (other : Checked Operand) → is_ok p ≡ false
+    → or_else (and_then p (λ a. and_then q (λ b. Ok (number (e.Binary op a b))))) other ≡ other
 by_first op (Ok a) q other h = absurd (true≢false h)
 by_first op (Err f) q other h = refl
 
-by_second : (op : BinOp) (p q : Checked TExpr) (other : Checked Operand) → is_ok q ≡ false → or_else (and_then p (λ a. and_then q (λ b. Ok (number (e.Binary op a b))))) other ≡ other
+by_second : (op : BinOp) (p q : Checked TExpr) (other : Checked Operand) → is_ok q ≡ false
+    → or_else (and_then p (λ a. and_then q (λ b. Ok (number (e.Binary op a b))))) other ≡ other
 by_second op (Ok a) (Ok b) other h = absurd (true≢false h)
 by_second op (Ok a) (Err f) other h = refl
 by_second op (Err f) q other h = refl

@@ -134,7 +134,8 @@ fn call_choose(
     Ok(integer_call(alloc, TExpr::Choose(op, a, b))?)
 }
 
-/// The type and the term of a call (C99 6.5.2.2p2). `Count` of its arguments, and then `Mismatch` of the first that does not fit.
+/// The type and the term of a call (C99 6.5.2.2p2). `Count` of its arguments, and then `Mismatch` of the first that
+/// does not fit.
 pub fn called(
     alloc: Global,
     f: Callee<'_>,
@@ -150,8 +151,8 @@ pub fn called(
     }
 }
 
-/// The term of a statement that frees what its one operand leads to. `Count` of its operands, and then `Mismatch` where it
-/// is no pointer.
+/// The term of a statement that frees what its one operand leads to. `Count` of its operands, and then `Mismatch` where
+/// it is no pointer.
 #[tactic(auto, using(crate::proofs::CallCases::freed_only))]
 pub fn freed(alloc: Global, args: Queue<Boxed<Operand>>) -> Result<Boxed<TExpr>, Fault>
     ensures { Gives kind_of (spec.freed args) result }

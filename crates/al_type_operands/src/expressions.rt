@@ -122,8 +122,8 @@ fn call_value<'a>(
     Ok(value(alloc, ty.into_inner(), x.into_inner())?)
 }
 
-/// The term of a call as a statement, which frees an object where its name is `free`. The first fault: of the arguments,
-/// of the name (`Unknown`, or `Mismatch` of a variable), of their count, of their types.
+/// The term of a call as a statement, which frees an object where its name is `free`. The first fault: of the
+/// arguments, of the name (`Unknown`, or `Mismatch` of a variable), of their count, of their types.
 pub fn call_alone<'a>(
     alloc: Global,
     known: &Known<'a>,

@@ -326,7 +326,8 @@ fn compared(
     }
 }
 
-/// An operator on two integers (C99 6.5.5 to 6.5.12). `==` and `!=` take two pointers of one type, too. Else `Mismatch`.
+/// An operator on two integers (C99 6.5.5 to 6.5.12). `==` and `!=` take two pointers of one type, too. Else
+/// `Mismatch`.
 #[tactic(auto, unfolding(al_rules::specs::Operands::binary))]
 pub fn binary(
     alloc: Global,

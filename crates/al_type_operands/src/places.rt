@@ -128,7 +128,8 @@ fn base(alloc: Global, x: Boxed<Operand>) -> Result<(Boxed<CType>, Boxed<TPlace>
     }
 }
 
-/// An element of an array, or of what a pointer leads to (C99 6.5.2.1p2). `Mismatch` of the array, and then of the index.
+/// An element of an array, or of what a pointer leads to (C99 6.5.2.1p2). `Mismatch` of the array, and then of the
+/// index.
 #[tactic(auto, using(crate::proofs::ArrayCases::indexed_is))]
 pub fn indexed(
     alloc: Global,
@@ -161,7 +162,8 @@ fn field_place(
     Ok(place(alloc, ty, TPlace::Plus(of, offset))?)
 }
 
-/// A field of a place (C99 6.5.2.3p3). `Mismatch` where it is no struct, and `Unknown` where the struct has no such field.
+/// A field of a place (C99 6.5.2.3p3). `Mismatch` where it is no struct, and `Unknown` where the struct has no such
+/// field.
 #[tactic(auto, unfolding(al_rules::specs::Operands::member))]
 pub fn member(
     alloc: Global,
@@ -182,7 +184,8 @@ pub fn member(
     }
 }
 
-/// A field of what a pointer leads to (C99 6.5.2.3p4). `Mismatch` where that is no struct, and `Unknown` where the struct has no such field.
+/// A field of what a pointer leads to (C99 6.5.2.3p4). `Mismatch` where that is no struct, and `Unknown` where the
+/// struct has no such field.
 #[tactic(auto, unfolding(al_rules::specs::Operands::member_behind))]
 pub fn member_behind(
     alloc: Global,
@@ -215,7 +218,8 @@ fn address_in(alloc: Global, ty: Boxed<CType>, q: Boxed<TPlace>) -> Result<Boxed
     Ok(Boxed::new(alloc, Operand::Value(CType::Ptr(ty), TExpr::Addr(q)))?)
 }
 
-/// The address of a place (C99 6.5.3.2p3). `LocalAddress` of a local, `NotPlace` of a value, and `Mismatch` of an array.
+/// The address of a place (C99 6.5.3.2p3). `LocalAddress` of a local, `NotPlace` of a value, and `Mismatch` of an
+/// array.
 #[tactic(auto, unfolding(al_rules::specs::Operands::address))]
 pub fn address(alloc: Global, x: Boxed<Operand>) -> Result<Boxed<Operand>, Fault>
     ensures { Gives kind_of (spec.address x) result }

@@ -22,7 +22,8 @@ none_of None h = refl
 none_of (Some a) h = absurd cc
 
 module _ (at : ℕ) (w v : Walk) (f : Fits at w) where
-  pub value_fits : (o : Waiting) (n : Option ℕ) (r : Result (Unit {0}) WordFault) → w.waiting ≡ Some o → Takes (valued w o n) r v → IfOk r (λ _. Fits (at + 1) v)
+  pub value_fits : (o : Waiting) (n : Option ℕ) (r : Result (Unit {0}) WordFault) → w.waiting ≡ Some o → Takes (valued w o n) r v
+      → IfOk r (λ _. Fits (at + 1) v)
   value_fits o (Some n) (Ok a) is h =
       let free : given_to w.given o.knob ≡ None = subst (λ r. IfSome r (λ o. given_to w.given o.knob ≡ None)) is f.waits in
       let more = give_more w.given o.knob n free in

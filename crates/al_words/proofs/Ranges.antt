@@ -99,7 +99,8 @@ walk_in : (w v : Walk) (at : ℕ) (ws : List (List ℕ)) → InRange w.given →
 walk_in w v at [] i h = let same : w ≡ v = cc in subst (λ (x : Walk). InRange x.given) same i
 walk_in w v at (x ∷ xs) i h = by_step (step w at x) refl h (λ u j k. walk_in u v (at + 1) xs j k)
   where
-    by_step : (r : Result Walk WordFault) → step w at x ≡ r → and_then r (λ u. walked u (at + 1) xs) ≡ Ok v → ((u : Walk) → InRange u.given → walked u (at + 1) xs ≡ Ok v → InRange v.given) → InRange v.given
+    by_step : (r : Result Walk WordFault) → step w at x ≡ r → and_then r (λ u. walked u (at + 1) xs) ≡ Ok v
+        → ((u : Walk) → InRange u.given → walked u (at + 1) xs ≡ Ok v → InRange v.given) → InRange v.given
     by_step (Ok u) e h rest = rest u (step_in w u at x w.waiting i e) h
     by_step (Err fault) e h rest = absurd cc
 
@@ -121,12 +122,15 @@ knobs_in g i = record {
   serial_steps = or_default 1 MOST_STEPS DEFAULT_SERIAL_STEPS g.steps (omega arith, omega arith) i.steps;
 }
 
-size_in : (at start : ℕ) (j : Job) (r : Option ℕ) → start ≤ MOST_START → AreInRange j.knobs → ((n : ℕ) → r ≡ Some n → IsIn 1 MOST_SIZE n) → IfOk (with_size at start j.knobs r) HasRanges
+size_in : (at start : ℕ) (j : Job) (r : Option ℕ) → start ≤ MOST_START → AreInRange j.knobs → ((n : ℕ) → r ≡ Some n → IsIn 1 MOST_SIZE n)
+    → IfOk (with_size at start j.knobs r) HasRanges
 size_in at start j (Some size) s i f = (record { start_fits = s; size_fits = f size refl }, i)
 size_in at start j None s i f = tt
 
-start_in : (words : List (List ℕ)) (j : Job) (r : Option ℕ) → AreInRange j.knobs → ((n : ℕ) → r ≡ Some n → IsIn 0 MOST_START n) → IfOk (with_start words j r) HasRanges
-start_in words j (Some start) i f = size_in (place j.names 1) start j _ (f start refl).1 i (λ n e. is_within 1 MOST_SIZE (numeral (word_at words (place j.names 1))) n e)
+start_in : (words : List (List ℕ)) (j : Job) (r : Option ℕ) → AreInRange j.knobs → ((n : ℕ) → r ≡ Some n → IsIn 0 MOST_START n)
+    → IfOk (with_start words j r) HasRanges
+start_in words j (Some start) i f =
+    size_in (place j.names 1) start j _ (f start refl).1 i (λ n e. is_within 1 MOST_SIZE (numeral (word_at words (place j.names 1))) n e)
 start_in words j None i f = tt
 
 asked_in : (words : List (List ℕ)) (v : Verb) (j : Job) → AreInRange j.knobs → IfOk (asked words v j) HasRanges
@@ -144,8 +148,10 @@ ended_in words w None i = by_test (takes w.verb w.count)
     by_test true = asked_in words w.verb (job_of w) (knobs_in w.given i)
     by_test false = tt
 
-after_in : (words : List (List ℕ)) (v : Verb) (rest : List (List ℕ)) (r : Result Walk WordFault) → walked (begin v) 1 rest ≡ r → IfOk (after_walk words r) HasRanges
-after_in words v rest (Ok w) e = ended_in words w w.waiting (walk_in (begin v) w 1 rest (record { lanes = tt; chunk = tt; line = tt; iter_steps = tt; steps = tt }) e)
+after_in : (words : List (List ℕ)) (v : Verb) (rest : List (List ℕ)) (r : Result Walk WordFault) → walked (begin v) 1 rest ≡ r
+    → IfOk (after_walk words r) HasRanges
+after_in words v rest (Ok w) e =
+    ended_in words w w.waiting (walk_in (begin v) w 1 rest (record { lanes = tt; chunk = tt; line = tt; iter_steps = tt; steps = tt }) e)
 after_in words v rest (Err fault) e = tt
 
 verb_in : (words rest : List (List ℕ)) (r : Option Verb) → IfOk (by_verb words rest r) HasRanges

@@ -11,5 +11,6 @@ use Rattle.al_type_names.proofs.known.Known.check_item_type.Goals as goal
 
 pub returns : goal.returns
 returns c =
-    subst (λ (known : Name → Bool). Gives kind_of (type_checked known (named_in c.args.anywhere.now) (allowed_for c.args.role) c.args.ty.now) c.check_type.result)
+    subst (λ (known : Name → Bool).
+    Gives kind_of (type_checked known (named_in c.args.anywhere.now) (allowed_for c.args.role) c.args.ty.now) c.check_type.result)
     (ap named_in c.names.ensures ∙ (structs_named c.self.inside.structs ∙ ap (λ (k : Known). is_struct k.structs) c.self.view_is)) c.check_type.ensures

@@ -15,6 +15,7 @@ returns c =
     let all = c.deref.result.now in
     (
     c.any_named.ensures
-    ∙ ap (λ l. list_any (λ b. test (binding_of b)) l) (take_all (length all - start) (drop start all) (omega (arith, length-drop start all)) ∙ ap (λ l. drop start l) c.deref.ensures.value)
+    ∙ ap (λ l. list_any (λ b. test (binding_of b)) l)
+    (take_all (length all - start) (drop start all) (omega (arith, length-drop start all)) ∙ ap (λ l. drop start l) c.deref.ensures.value)
     ∙ any_seen test items start ∙ ap (λ s. is_declared c.args.name.now s) c.self.view_is
     )
