@@ -1,4 +1,4 @@
-ghost use Rattle.std.specs.Prelude.{◌≡◌, [], Some, None, OnOk, IfOk, IfSome, slice_get};
+ghost use Rattle.std.specs.Prelude.{◌≡◌, [], Some, None, OnOk, IfOk, option_map, slice_get};
 ghost use Rattle.al_source.specs.Answers.{Does};
 ghost use Rattle.al_core.specs.Access as spec;
 ghost use Rattle.al_core.specs.Action.{or_zero};
@@ -112,14 +112,16 @@ impl<'a, S: Store> Snap<'a, S> {
 
     /// The addresses that were read before they were written.
     pub fn reads(&self) -> &AddrSet
-        ensures { IfSome (⟦<Snap<'a, S> as View>⟧.content self.now).accesses (λ x. x.reads ≡ result.now.members) }
+        ensures { option_map (λ x. x.reads) (⟦<Snap<'a, S> as View>⟧.content self.now).accesses
+            ≡ Some result.now.members }
     {
         &self.marks.reads
     }
 
     /// The addresses that were written.
     pub fn touched(&self) -> &AddrSet
-        ensures { IfSome (⟦<Snap<'a, S> as View>⟧.content self.now).accesses (λ x. x.touched ≡ result.now.members) }
+        ensures { option_map (λ x. x.touched) (⟦<Snap<'a, S> as View>⟧.content self.now).accesses
+            ≡ Some result.now.members }
     {
         &self.marks.touched
     }
