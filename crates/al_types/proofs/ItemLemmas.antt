@@ -39,23 +39,35 @@ fields_stop known anywhere allowed names (g ∷ fs) f some is (Some kind) h =
 fields_stop known anywhere allowed names (g ∷ fs) f some is None h = tt
 
 fields_as : (items before : List Item) (allowed : Form → Bool) (earlier fs : List Field)
-    → fields_by (is_struct (structs_in before)) (is_struct (structs_in items)) allowed (map (λ f. f.name) earlier) fs ≡ fields_checked items before allowed earlier fs
+    → fields_by (is_struct (structs_in before)) (is_struct (structs_in items)) allowed (map (λ f. f.name) earlier) fs
+    ≡ fields_checked items before allowed earlier fs
 fields_as items before allowed earlier [] = refl
 fields_as items before allowed earlier (f ∷ fs) =
-    ap₂ (λ (taken : Bool) (names : List Name). and_then (and_then (ensure (not taken) Twice) (λ _. type_checked (is_struct (structs_in before)) (is_struct (structs_in items)) allowed f.ty)) (λ _. fields_by (is_struct (structs_in before)) (is_struct (structs_in items)) allowed names fs))
+    ap₂ (λ (taken : Bool) (names : List Name). and_then
+    (and_then (ensure (not taken) Twice) (λ _. type_checked (is_struct (structs_in before)) (is_struct (structs_in items)) allowed f.ty))
+    (λ _. fields_by (is_struct (structs_in before)) (is_struct (structs_in items)) allowed names fs))
     (sym (any_of_names (λ (g : Field). g.name) f.name earlier)) (sym (map_push (λ (g : Field). g.name) earlier f))
-    ∙ ap (λ (r : Checked (Unit {0})). and_then (and_then (ensure (not (any_named (λ (g : Field). g.name) f.name earlier)) Twice) (λ _. type_checked (is_struct (structs_in before)) (is_struct (structs_in items)) allowed f.ty)) (λ _. r))
+    ∙ ap (λ (r : Checked (Unit {0})). and_then
+    (and_then (ensure (not (any_named (λ (g : Field). g.name) f.name earlier)) Twice)
+    (λ _. type_checked (is_struct (structs_in before)) (is_struct (structs_in items)) allowed f.ty))
+    (λ _. r))
     (fields_as items before allowed (earlier ++ f ∷ []) fs)
 
 -- ---- items
 
-item_as : (layout : Layout) (items before : List Item) (i : Item) → item_by (known_of layout before) (is_struct (structs_in items)) i ≡ item_checked items before i
+item_as : (layout : Layout) (items before : List Item) (i : Item)
+    → item_by (known_of layout before) (is_struct (structs_in items)) i ≡ item_checked items before i
 item_as layout items before (item.Struct s) =
-    ap (λ (r : Checked (Unit {0})). at_line s.line (and_then (and_then (ensure (not (is_struct (structs_in before) s.name)) Twice) (λ _. ensure (not (is_empty s.fields)) Shape)) (λ _. r)))
+    ap (λ (r : Checked (Unit {0})). at_line s.line (and_then
+    (and_then (ensure (not (is_struct (structs_in before) s.name)) Twice) (λ _. ensure (not (is_empty s.fields)) Shape))
+    (λ _. r)))
     (fields_as items before is_held [] s.fields)
 item_as layout items before (item.Global g) = refl
 item_as layout items before (item.Func f) =
-    ap (λ (r : Checked (Unit {0})). at_line f.line (and_then (and_then (ensure (not (is_taken before f.name)) Twice) (λ _. type_checked (is_struct (structs_in before)) (is_struct (structs_in items)) is_result f.result)) (λ _. r)))
+    ap (λ (r : Checked (Unit {0})). at_line f.line (and_then
+    (and_then (ensure (not (is_taken before f.name)) Twice)
+    (λ _. type_checked (is_struct (structs_in before)) (is_struct (structs_in items)) is_result f.result))
+    (λ _. r)))
     (fields_as items before is_scalar [] f.params)
 
 structs_append : (xs ys : List Item) → structs_in (xs ++ ys) ≡ structs_in xs ++ structs_in ys
@@ -82,11 +94,20 @@ known_by layout s t g h f k p q r = λ i. record { structs = p i; globals = q i;
 
 known_more : (layout : Layout) (before : List Item) (i : Item) → with_definition (known_of layout before) i ≡ known_of layout (before ++ i ∷ [])
 known_more layout before (item.Struct s) =
-    known_by layout _ _ _ _ _ _ (sym (structs_append before (item.Struct s ∷ []))) (sym (globals_append before (item.Struct s ∷ []) ∙ append-nil (globals_in before))) (sym (funcs_append before (item.Struct s ∷ []) ∙ append-nil (funcs_in before)))
+    known_by layout _ _ _ _ _ _
+    (sym (structs_append before (item.Struct s ∷ [])))
+    (sym (globals_append before (item.Struct s ∷ []) ∙ append-nil (globals_in before)))
+    (sym (funcs_append before (item.Struct s ∷ []) ∙ append-nil (funcs_in before)))
 known_more layout before (item.Global g) =
-    known_by layout _ _ _ _ _ _ (sym (structs_append before (item.Global g ∷ []) ∙ append-nil (structs_in before))) (sym (globals_append before (item.Global g ∷ []))) (sym (funcs_append before (item.Global g ∷ []) ∙ append-nil (funcs_in before)))
+    known_by layout _ _ _ _ _ _
+    (sym (structs_append before (item.Global g ∷ []) ∙ append-nil (structs_in before)))
+    (sym (globals_append before (item.Global g ∷ [])))
+    (sym (funcs_append before (item.Global g ∷ []) ∙ append-nil (funcs_in before)))
 known_more layout before (item.Func f) =
-    known_by layout _ _ _ _ _ _ (sym (structs_append before (item.Func f ∷ []) ∙ append-nil (structs_in before))) (sym (globals_append before (item.Func f ∷ []) ∙ append-nil (globals_in before))) (sym (funcs_append before (item.Func f ∷ [])))
+    known_by layout _ _ _ _ _ _
+    (sym (structs_append before (item.Func f ∷ []) ∙ append-nil (structs_in before)))
+    (sym (globals_append before (item.Func f ∷ []) ∙ append-nil (globals_in before)))
+    (sym (funcs_append before (item.Func f ∷ [])))
 
 after : {A B F : Type 0} (r : Result A F) (p q : Result B F) → p ≡ q → and_then r (λ _. p) ≡ and_then r (λ _. q)
 after r p q is = ap (λ x. and_then r (λ _. x)) is
@@ -96,10 +117,13 @@ twice (Ok a) p f = refl
 twice (Err e) p f = refl
 
 -- all items behind some
-items_as : (layout : Layout) (all before is : List Item) → items_by (known_of layout before) (is_struct (structs_in all)) is ≡ and_then (items_checked all before is) (λ _. Ok (known_of layout (before ++ is)))
+items_as : (layout : Layout) (all before is : List Item)
+    → items_by (known_of layout before) (is_struct (structs_in all)) is
+    ≡ and_then (items_checked all before is) (λ _. Ok (known_of layout (before ++ is)))
 items_as layout all before [] = ap (λ l. Ok (known_of layout l)) (sym (append-nil before))
 items_as layout all before (i ∷ is) =
-    ap₂ (λ (r : Result (Unit {0}) TypeCause) (k : Known). and_then r (λ _. items_by k (is_struct (structs_in all)) is)) (item_as layout all before i) (known_more layout before i)
+    ap₂ (λ (r : Result (Unit {0}) TypeCause) (k : Known). and_then r (λ _. items_by k (is_struct (structs_in all)) is))
+    (item_as layout all before i) (known_more layout before i)
     ∙ after (item_checked all before i) _ _ (items_as layout all (before ++ i ∷ []) is)
     ∙ twice (item_checked all before i) (items_checked all (before ++ i ∷ []) is) (λ _. Ok (known_of layout ((before ++ i ∷ []) ++ is)))
     ∙ ap (λ l. and_then (items_checked all before (i ∷ is)) (λ _. Ok (known_of layout l))) (append_assoc before (i ∷ []) is)
@@ -110,7 +134,8 @@ definitions_as layout all anywhere same =
     ap (λ (a : Name → Bool). items_by (known_of layout []) a all) (λ i q. same q i) ∙ items_as layout all [] all
 
 -- an item whose check passes has a new name
-pub is_new : (taken : Bool) (p q : Checked (Unit {0})) (line : ℕ) (u : Unit {0}) → at_line line (and_then (and_then (ensure (not taken) Twice) (λ _. p)) (λ _. q)) ≡ Ok u → taken ≡ false
+pub is_new : (taken : Bool) (p q : Checked (Unit {0})) (line : ℕ) (u : Unit {0})
+    → at_line line (and_then (and_then (ensure (not taken) Twice) (λ _. p)) (λ _. q)) ≡ Ok u → taken ≡ false
 is_new true p q line u is = absurd (cc)
 is_new false p q line u is = refl
 
@@ -128,7 +153,8 @@ covered true c true r there is = refl
 covered true c false r there is = absurd (true≢false (sym (there (sym is))))
 covered false c a r there is = refl
 
-with_by : (known : Bool) (n q : Name) (ns : List Name) (r : Bool) → any_named (λ m. m) n ns ≡ known → (named_in (if known then ns else ns ++ n ∷ []) q || r) ≡ (named_in ns q || (bytes_eq n q || r))
+with_by : (known : Bool) (n q : Name) (ns : List Name) (r : Bool) → any_named (λ m. m) n ns ≡ known
+    → (named_in (if known then ns else ns ++ n ∷ []) q || r) ≡ (named_in ns q || (bytes_eq n q || r))
 with_by true n q ns r is = covered (bytes_eq n q) (bytes_eq n q) (named_in ns q) r (λ same. same_text n q ns same is) refl
 with_by false n q ns r is =
     ap (λ b. b || r) (list_any-append (λ m. bytes_eq m q) ns (n ∷ []))

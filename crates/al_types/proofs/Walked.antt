@@ -16,19 +16,23 @@ use Rattle.al_types.proofs.Failing.{fails}
 abbrev pub Lined : {A : Type 0} → ℕ → Result A Fault → Result A TypeFault → Type 0
 Lined {A} line r' r = (told : Checked A) → Gives kind_of told r' → Gives typed (at_line line told) r
 
-pub walked : {A : Type 0} (line : ℕ) (check : Scope → Checked A) (s : Progress) (r : Result A TypeFault) → Gives typed (at_line line (check s.scope)) r → Walks typed (checks line check s) r s
+pub walked : {A : Type 0} (line : ℕ) (check : Scope → Checked A) (s : Progress) (r : Result A TypeFault)
+    → Gives typed (at_line line (check s.scope)) r → Walks typed (checks line check s) r s
 unfolding checks
 walked line check s (Ok a) given = ap (λ r. and_then r (λ a. Ok (a, s))) given
 walked line check s (Err e) given =
-    fails (at_line line (check s.scope)) (and_then (at_line line (check s.scope)) (λ a. Ok (a, s))) (typed e) (λ e is. ap (λ r. and_then r (λ a. Ok (a, s))) is) given
+    fails (at_line line (check s.scope)) (and_then (at_line line (check s.scope)) (λ a. Ok (a, s))) (typed e)
+    (λ e is. ap (λ r. and_then r (λ a. Ok (a, s))) is) given
 
 -- a check that reads the names in scope
-pub walked_scope : {A : Type 0} (line : ℕ) (check : Scope → Checked A) (scope : Scope) (s : Progress) (r' : Result A Fault) (r : Result A TypeFault) → scope ≡ s.scope → Gives kind_of (check scope) r' → Lined line r' r → Walks typed (checks line check s) r s
+pub walked_scope : {A : Type 0} (line : ℕ) (check : Scope → Checked A) (scope : Scope) (s : Progress) (r' : Result A Fault) (r : Result A TypeFault)
+    → scope ≡ s.scope → Gives kind_of (check scope) r' → Lined line r' r → Walks typed (checks line check s) r s
 walked_scope line check scope s r' r same ensured given =
     walked line check s r (subst (λ (q : Scope). Gives typed (at_line line (check q)) r) same (given (check scope) ensured))
 
 -- a check at the end of a walk
-pub walked_last : {A : Type 0} (line : ℕ) (check : Checked A) (told : Result (A × Progress) TypeCause) (s : Progress) (r' : Result A Fault) (r : Result A TypeFault) → told ≡ checks line (λ _. check) s → Gives kind_of check r' → Lined line r' r → Walks typed told r s
+pub walked_last : {A : Type 0} (line : ℕ) (check : Checked A) (told : Result (A × Progress) TypeCause) (s : Progress) (r' : Result A Fault)
+    (r : Result A TypeFault) → told ≡ checks line (λ _. check) s → Gives kind_of check r' → Lined line r' r → Walks typed told r s
 walked_last line check told s r' r is ensured given =
     subst (λ (w : Result (_ × Progress) TypeCause). Walks typed w r s) (sym is) (walked line (λ _. check) s r (given check ensured))
 

@@ -15,4 +15,6 @@ any_of known func gives (Some s) = Some (part known func gives s)
 
 -- a condition, and then what stands behind it
 abbrev pub tested : Known → ℕ → CType → ℕ → Bool → Expr → Part → Walk (TExpr × TStmt)
-tested known func gives line looped test body = condition known func gives line test >>= (λ c. part_if is_body body looped >>= (λ a. pure (c, a)))
+tested known func gives line looped test body =
+    condition known func gives line test >>= (λ c.
+    part_if is_body body looped >>= (λ a. pure (c, a)))

@@ -43,7 +43,11 @@ impl<'k, 'a> Checker<'k, 'a> {
         s: &'a Stmt,
         looped: bool,
     ) -> Result<Boxed<TStmt>, TypeFault>
-        ensures walks { Walks typed (spec.part_if (allowed_at spot) (spec.part self.now.known.now self.now.func self.now.gives.now s.entry.now) looped p.old) result p.new }
+        ensures walks { Walks typed
+            (spec.part_if (allowed_at spot)
+            (spec.part self.now.known.now self.now.func self.now.gives.now s.entry.now)
+            looped p.old)
+            result p.new }
         ensures outer { OnOk result (p.new.scope.outer ≡ p.old.scope.outer) }
     {
         if !spot.allows(sort_of(&s.kind)) {
@@ -61,7 +65,11 @@ impl<'k, 'a> Checker<'k, 'a> {
         s: &'a Option<Boxed<Stmt>>,
         looped: bool,
     ) -> Result<Option<Boxed<TStmt>>, TypeFault>
-        ensures walks { Walks typed (spec.any_part (allowed_at spot) (parts.any_of self.now.known.now self.now.func self.now.gives.now s.entry.now) looped p.old) result p.new }
+        ensures walks { Walks typed
+            (spec.any_part (allowed_at spot)
+            (parts.any_of self.now.known.now self.now.func self.now.gives.now s.entry.now)
+            looped p.old)
+            result p.new }
         ensures outer { OnOk result (p.new.scope.outer ≡ p.old.scope.outer) }
     {
         match s {
@@ -73,7 +81,9 @@ impl<'k, 'a> Checker<'k, 'a> {
     #[cycle(statements)]
     #[tactic(auto, using(crate::proofs::StatementRules::of_statements), unfolding(al_rules::specs::Walks::bind, al_rules::specs::Walks::pure))]
     fn statement(&self, p: &mut Progress<'a>, s: &'a Stmt, looped: bool) -> Result<TStmt, TypeFault>
-        ensures walks { Walks typed ((spec.part self.now.known.now self.now.func self.now.gives.now s.entry.now).walk looped p.old) result p.new }
+        ensures walks { Walks typed
+            ((spec.part self.now.known.now self.now.func self.now.gives.now s.entry.now).walk looped p.old)
+            result p.new }
         ensures outer { OnOk result (p.new.scope.outer ≡ p.old.scope.outer) }
     {
         let kind = self.kind(p, &s.kind, s.line, looped)?;
@@ -89,7 +99,9 @@ impl<'k, 'a> Checker<'k, 'a> {
         ss: &'a [Stmt],
         looped: bool,
     ) -> Result<Items<TStmt>, TypeFault>
-        ensures walks { Walks typed (spec.statements self.now.known.now self.now.func self.now.gives.now looped ss.entry.now p.old) result p.new }
+        ensures walks { Walks typed
+            (spec.statements self.now.known.now self.now.func self.now.gives.now looped ss.entry.now p.old)
+            result p.new }
         ensures outer { OnOk result (p.new.scope.outer ≡ p.old.scope.outer) }
     {
         let mut done = Items::new(self.alloc);
@@ -109,7 +121,11 @@ impl<'k, 'a> Checker<'k, 'a> {
         line: u32,
         looped: bool,
     ) -> Result<(Boxed<TExpr>, Boxed<TStmt>), TypeFault>
-        ensures walks { Walks typed (parts.tested self.now.known.now self.now.func self.now.gives.now line looped test.now (spec.part self.now.known.now self.now.func self.now.gives.now s.entry.now) p.old) result p.new }
+        ensures walks { Walks typed
+            (parts.tested self.now.known.now self.now.func self.now.gives.now line looped test.now
+            (spec.part self.now.known.now self.now.func self.now.gives.now s.entry.now)
+            p.old)
+            result p.new }
         ensures outer { OnOk result (p.new.scope.outer ≡ p.old.scope.outer) }
     {
         let c = self.condition(p, test, line)?;
@@ -126,7 +142,11 @@ impl<'k, 'a> Checker<'k, 'a> {
         own: Option<Choice>,
         line: u32,
     ) -> Result<(Boxed<TStmt>, Option<u32>), TypeFault>
-        ensures walks { Walks typed (spec.looped_body self.now.known.now self.now.func self.now.gives.now line own (spec.part self.now.known.now self.now.func self.now.gives.now body.entry.now) p.old) result p.new }
+        ensures walks { Walks typed
+            (spec.looped_body self.now.known.now self.now.func self.now.gives.now line own
+            (spec.part self.now.known.now self.now.func self.now.gives.now body.entry.now)
+            p.old)
+            result p.new }
         ensures outer { OnOk result (p.new.scope.outer ≡ p.old.scope.outer) }
     {
         match own {
@@ -148,7 +168,10 @@ impl<'k, 'a> Checker<'k, 'a> {
         line: u32,
         looped: bool,
     ) -> Result<TKind, TypeFault>
-        ensures walks { Walks typed ((spec.kind_part self.now.known.now self.now.func self.now.gives.now (stmt.Block ss.entry.now)).walk line looped p.old) result p.new }
+        ensures walks { Walks typed
+            ((spec.kind_part self.now.known.now self.now.func self.now.gives.now (stmt.Block ss.entry.now)).walk
+            line looped p.old)
+            result p.new }
         ensures outer { OnOk result (p.new.scope.outer ≡ p.old.scope.outer) }
     {
         let mark = p.enter();
@@ -165,7 +188,9 @@ impl<'k, 'a> Checker<'k, 'a> {
         line: u32,
         looped: bool,
     ) -> Result<TKind, TypeFault>
-        ensures walks { Walks typed ((spec.kind_part self.now.known.now self.now.func self.now.gives.now kind.entry.now).walk line looped p.old) result p.new }
+        ensures walks { Walks typed
+            ((spec.kind_part self.now.known.now self.now.func self.now.gives.now kind.entry.now).walk line looped p.old)
+            result p.new }
         ensures outer { OnOk result (p.new.scope.outer ≡ p.old.scope.outer) }
     {
         match kind {

@@ -114,7 +114,11 @@ fn variable_at(v: Variable<'_>) -> Result<Addr, Fault>
 }
 
 fn reduced<'a>(known: &Known<'a>, scope: &Scope<'a>, name: &[u8]) -> Result<Addr, Fault>
-    ensures { Gives kind_of (and_then (some_or (variable_named known.now (in_scope scope.now) name.now) Unknown) spec.variable_at) result }
+    ensures { Gives kind_of
+        (and_then
+        (some_or (variable_named known.now (in_scope scope.now) name.now) Unknown)
+        spec.variable_at)
+        result }
 {
     match known.variable_named(scope, name) {
         Some(v) => variable_at(v),
@@ -171,7 +175,8 @@ fn in_loop(line: u32, looped: bool) -> Result<(), TypeFault>
 
 #[tactic(auto, unfolding(al_rules::specs::Walks::bind, al_rules::specs::Walks::pure, al_rules::specs::Walks::checks))]
 pub fn break_loop(line: u32, looped: bool) -> Result<TKind, TypeFault>
-    ensures { (known : scopes.Known) (func : ℕ) (gives : ctype.CType) (s : walks.Progress) → Walks typed (spec.leave known func gives line looped k.Break s) result s }
+    ensures { (known : scopes.Known) (func : ℕ) (gives : ctype.CType) (s : walks.Progress)
+        → Walks typed (spec.leave known func gives line looped k.Break s) result s }
 {
     in_loop(line, looped)?;
     Ok(TKind::Break)
@@ -179,7 +184,8 @@ pub fn break_loop(line: u32, looped: bool) -> Result<TKind, TypeFault>
 
 #[tactic(auto, unfolding(al_rules::specs::Walks::bind, al_rules::specs::Walks::pure, al_rules::specs::Walks::checks))]
 pub fn continue_loop(line: u32, looped: bool) -> Result<TKind, TypeFault>
-    ensures { (known : scopes.Known) (func : ℕ) (gives : ctype.CType) (s : walks.Progress) → Walks typed (spec.leave known func gives line looped k.Continue s) result s }
+    ensures { (known : scopes.Known) (func : ℕ) (gives : ctype.CType) (s : walks.Progress)
+        → Walks typed (spec.leave known func gives line looped k.Continue s) result s }
 {
     in_loop(line, looped)?;
     Ok(TKind::Continue)
@@ -194,7 +200,9 @@ impl<'k, 'a> Checker<'k, 'a> {
         x: &Expr,
         line: u32,
     ) -> Result<Boxed<Operand>, TypeFault>
-        ensures { Walks typed (spec.operand_of self.now.known.now self.now.func self.now.gives.now line x.now p.now) result p.now }
+        ensures { Walks typed
+            (spec.operand_of self.now.known.now self.now.func self.now.gives.now line x.now p.now)
+            result p.now }
     {
         at_line(line, operand(self.alloc, self.known, p.scope(), x))
     }
@@ -205,7 +213,9 @@ impl<'k, 'a> Checker<'k, 'a> {
         xs: &[Expr],
         line: u32,
     ) -> Result<Queue<Boxed<Operand>>, TypeFault>
-        ensures { Walks typed (spec.operands_of self.now.known.now self.now.func self.now.gives.now line xs.now p.now) result p.now }
+        ensures { Walks typed
+            (spec.operands_of self.now.known.now self.now.func self.now.gives.now line xs.now p.now)
+            result p.now }
     {
         at_line(line, operands(self.alloc, self.known, p.scope(), xs))
     }
@@ -217,7 +227,9 @@ impl<'k, 'a> Checker<'k, 'a> {
         x: &Expr,
         line: u32,
     ) -> Result<Boxed<TExpr>, TypeFault>
-        ensures { Walks typed (spec.condition self.now.known.now self.now.func self.now.gives.now line x.now p.now) result p.now }
+        ensures { Walks typed
+            (spec.condition self.now.known.now self.now.func self.now.gives.now line x.now p.now)
+            result p.now }
     {
         let c = self.operand(p, x, line)?;
         at_line(line, scalar(self.alloc, c))
@@ -229,7 +241,9 @@ impl<'k, 'a> Checker<'k, 'a> {
         x: &Option<Expr>,
         line: u32,
     ) -> Result<Option<Boxed<TExpr>>, TypeFault>
-        ensures { Walks typed (spec.any_condition self.now.known.now self.now.func self.now.gives.now line x.now p.now) result p.now }
+        ensures { Walks typed
+            (spec.any_condition self.now.known.now self.now.func self.now.gives.now line x.now p.now)
+            result p.now }
     {
         match x {
             Some(x) => Ok(Some(self.condition(p, x, line)?)),
@@ -245,7 +259,9 @@ impl<'k, 'a> Checker<'k, 'a> {
         value: &Option<Expr>,
         line: u32,
     ) -> Result<Boxed<TExpr>, TypeFault>
-        ensures { Walks typed (spec.initial self.now.known.now self.now.func self.now.gives.now line ty.now value.now p.now) result p.now }
+        ensures { Walks typed
+            (spec.initial self.now.known.now self.now.func self.now.gives.now line ty.now value.now p.now)
+            result p.now }
     {
         match value {
             Some(v) => {
@@ -265,7 +281,10 @@ impl<'k, 'a> Checker<'k, 'a> {
         value: &Option<Expr>,
         line: u32,
     ) -> Result<TKind, TypeFault>
-        ensures walks { Walks typed (spec.declare self.now.known.now self.now.func self.now.gives.now line ty.entry.now name.entry.now value.now p.old) result p.new }
+        ensures walks { Walks typed
+            (spec.declare self.now.known.now self.now.func self.now.gives.now
+            line ty.entry.now name.entry.now value.now p.old)
+            result p.new }
         ensures outer { OnOk result (p.new.scope.outer ≡ p.old.scope.outer) }
     {
         let is_new = !p.scope().declares(name.as_slice());
@@ -284,7 +303,10 @@ impl<'k, 'a> Checker<'k, 'a> {
         b: &Expr,
         line: u32,
     ) -> Result<TKind, TypeFault>
-        ensures { (looped : Bool) → Walks typed ((spec.kind_part self.now.known.now self.now.func self.now.gives.now (stmt.Assign a.now b.now)).walk line looped p.now) result p.now }
+        ensures { (looped : Bool) → Walks typed
+            ((spec.kind_part self.now.known.now self.now.func self.now.gives.now (stmt.Assign a.now b.now)).walk
+            line looped p.now)
+            result p.now }
     {
         let to = self.operand(p, a, line)?;
         at_line(line, ensure(is_place(to.get()), TypeKind::NotPlace))?;
@@ -301,7 +323,10 @@ impl<'k, 'a> Checker<'k, 'a> {
         b: &Expr,
         line: u32,
     ) -> Result<TKind, TypeFault>
-        ensures { (looped : Bool) → Walks typed ((spec.kind_part self.now.known.now self.now.func self.now.gives.now (stmt.Update op a.now b.now)).walk line looped p.now) result p.now }
+        ensures { (looped : Bool) → Walks typed
+            ((spec.kind_part self.now.known.now self.now.func self.now.gives.now (stmt.Update op a.now b.now)).walk
+            line looped p.now)
+            result p.now }
     {
         at_line(line, ensure(may_update(op), TypeKind::Shape))?;
         let of = self.operand(p, a, line)?;
@@ -318,7 +343,10 @@ impl<'k, 'a> Checker<'k, 'a> {
         args: &[Expr],
         line: u32,
     ) -> Result<TKind, TypeFault>
-        ensures { (looped : Bool) → Walks typed ((spec.kind_part self.now.known.now self.now.func self.now.gives.now (stmt.Call name.now args.now)).walk line looped p.now) result p.now }
+        ensures { (looped : Bool) → Walks typed
+            ((spec.kind_part self.now.known.now self.now.func self.now.gives.now (stmt.Call name.now args.now)).walk
+            line looped p.now)
+            result p.now }
     {
         let x = at_line(
             line,
@@ -335,7 +363,10 @@ impl<'k, 'a> Checker<'k, 'a> {
         args: &[Expr],
         line: u32,
     ) -> Result<TKind, TypeFault>
-        ensures { (looped : Bool) → Walks typed ((spec.kind_part self.now.known.now self.now.func self.now.gives.now (stmt.Print format.now args.now)).walk line looped p.now) result p.now }
+        ensures { (looped : Bool) → Walks typed
+            ((spec.kind_part self.now.known.now self.now.func self.now.gives.now (stmt.Print format.now args.now)).walk
+            line looped p.now)
+            result p.now }
     {
         let xs = self.operands(p, args, line)?;
         at_line(
@@ -353,7 +384,9 @@ impl<'k, 'a> Checker<'k, 'a> {
         value: &Option<Expr>,
         line: u32,
     ) -> Result<TKind, TypeFault>
-        ensures { Walks typed (spec.returned self.now.known.now self.now.func self.now.gives.now line value.now p.now) result p.now }
+        ensures { Walks typed
+            (spec.returned self.now.known.now self.now.func self.now.gives.now line value.now p.now)
+            result p.now }
     {
         match value {
             None => {
@@ -371,13 +404,21 @@ impl<'k, 'a> Checker<'k, 'a> {
 
     /// Where a reduction variable is.
     fn reduced(&self, p: &Progress<'a>, name: &[u8], line: u32) -> Result<Addr, TypeFault>
-        ensures { Walks typed (walks.checks line (λ scope. and_then (some_or (variable_named self.now.known.now (in_scope scope) name.now) Unknown) spec.variable_at) p.now) result p.now }
+        ensures { Walks typed
+            (walks.checks line
+            (λ scope. and_then
+            (some_or (variable_named self.now.known.now (in_scope scope) name.now) Unknown)
+            spec.variable_at)
+            p.now)
+            result p.now }
     {
         at_line(line, reduced(self.known, p.scope(), name))
     }
 
     fn reduction(&self, p: &Progress<'a>, r: &NamedRed, line: u32) -> Result<Red, TypeFault>
-        ensures { Walks typed (spec.reduction self.now.known.now self.now.func self.now.gives.now line r.now p.now) result p.now }
+        ensures { Walks typed
+            (spec.reduction self.now.known.now self.now.func self.now.gives.now line r.now p.now)
+            result p.now }
     {
         let at = self.reduced(p, r.name.as_slice(), line)?;
         Ok(Red { op: r.op, at })
@@ -390,7 +431,9 @@ impl<'k, 'a> Checker<'k, 'a> {
         mut rs: &[NamedRed],
         line: u32,
     ) -> Result<Items<Red>, TypeFault>
-        ensures { Walks typed (spec.reductions self.now.known.now self.now.func self.now.gives.now line rs.entry.now p.now) result p.now }
+        ensures { Walks typed
+            (spec.reductions self.now.known.now self.now.func self.now.gives.now line rs.entry.now p.now)
+            result p.now }
     {
         let mut done = Items::new(self.alloc);
         while let [r, rest @ ..] = rs {
@@ -407,7 +450,9 @@ impl<'k, 'a> Checker<'k, 'a> {
         note: &Option<LoopNote>,
         line: u32,
     ) -> Result<Option<Choice>, TypeFault>
-        ensures { Walks typed (spec.choice_of self.now.known.now self.now.func self.now.gives.now line note.now p.now) result p.now }
+        ensures { Walks typed
+            (spec.choice_of self.now.known.now self.now.func self.now.gives.now line note.now p.now)
+            result p.now }
     {
         match note {
             Some(note) => {

@@ -40,7 +40,10 @@ fn check_field<'f>(
     names: &mut Names<'f>,
     field: &'f Field,
 ) -> Result<(), Fault>
-    ensures checked { Gives kind_of (by.field_by (is_struct known.now.structs) (named_in anywhere.now) (allowed_for role) names.old field.entry.now) result }
+    ensures checked { Gives kind_of
+        (by.field_by (is_struct known.now.structs) (named_in anywhere.now) (allowed_for role)
+        names.old field.entry.now)
+        result }
     ensures named { OnOk result (names.new ≡ names.old ++ field.entry.now.name ∷ []) }
 {
     add_new(names, field.name.as_slice())?;
@@ -54,7 +57,10 @@ fn check_fields(
     role: Role,
     mut fields: &[Field],
 ) -> Result<(), Fault>
-    ensures { Gives kind_of (by.fields_by (is_struct known.now.structs) (named_in anywhere.now) (allowed_for role) [] fields.entry.now) result }
+    ensures { Gives kind_of
+        (by.fields_by (is_struct known.now.structs) (named_in anywhere.now) (allowed_for role)
+        [] fields.entry.now)
+        result }
 {
     let mut names = Names::new(alloc);
     while let [field, rest @ ..] = fields {
@@ -110,7 +116,10 @@ fn with_item<'a>(
     anywhere: &Names<'_>,
     item: &'a Item,
 ) -> Result<Known<'a>, TypeFault>
-    ensures { Gives typed (and_then (by.item_by known.entry (named_in anywhere.now) item.entry.now) (λ _. Ok (by.with_definition known.entry item.entry.now))) result }
+    ensures { Gives typed
+        (and_then (by.item_by known.entry (named_in anywhere.now) item.entry.now)
+        (λ _. Ok (by.with_definition known.entry item.entry.now)))
+        result }
 {
     match item {
         Item::Struct(s) => {
@@ -130,7 +139,9 @@ fn with_item<'a>(
 
 /// With the name of the struct that an item defines.
 fn add_name<'a>(names: &mut Names<'a>, item: &'a Item) -> Result<(), AllocError>
-    ensures { OnOk result ((q : Name) (rest : List tree.Item) → (named_in names.new q || is_struct (structs_in rest) q) ≡ (named_in names.old q || is_struct (structs_in (item.entry.now ∷ rest)) q)) }
+    ensures { OnOk result ((q : Name) (rest : List tree.Item)
+        → (named_in names.new q || is_struct (structs_in rest) q)
+        ≡ (named_in names.old q || is_struct (structs_in (item.entry.now ∷ rest)) q)) }
 {
     match item {
         Item::Struct(s) => {
@@ -175,7 +186,10 @@ pub fn definitions<'a>(
     program: &'a Program,
     layout: &'a Layout,
 ) -> Result<Known<'a>, TypeFault>
-    ensures { Gives typed (and_then (spec.items_checked program.entry.now.items [] program.entry.now.items) (λ _. Ok (known_of layout.entry.now program.entry.now.items))) result }
+    ensures { Gives typed
+        (and_then (spec.items_checked program.entry.now.items [] program.entry.now.items)
+        (λ _. Ok (known_of layout.entry.now program.entry.now.items)))
+        result }
 {
     let items = program.items.as_slice();
     let anywhere = struct_names(alloc, items)?;

@@ -133,10 +133,11 @@ fn globals(alloc: Global, known: &Known<'_>) -> Result<Items<TGlobal>, AllocErro
     Ok(done)
 }
 
-/// The typed tree of a program with the sizes of this layout, or its first type fault: of its items in source order, then of `main`, then of the
-/// bodies of its functions (C99 6.2.1, 6.5, 6.7, 6.8).
+/// The typed tree of a program with the sizes of this layout, or its first type fault: of its items in source order,
+/// then of `main`, then of the bodies of its functions (C99 6.2.1, 6.5, 6.7, 6.8).
 ///
-/// A size or a number that 32 bits do not count is taken for want of memory. A program that has a layout has no such size.
+/// A size or a number that 32 bits do not count is taken for want of memory.
+/// A program that has a layout has no such size.
 #[tactic(auto, unfolding(al_rules::specs::Programs::typed_with))]
 pub fn check(alloc: Global, program: &Program, layout: &Layout) -> Result<Typed, TypeFault>
     ensures { Gives typed (spec.typed_with layout.now program.now) result }

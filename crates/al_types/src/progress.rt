@@ -10,7 +10,8 @@ use sqlite_items::Items;
 use std::alloc::{AllocError, Global};
 use std::marker::Model;
 
-/// What the walk over a function has found so far: the names in scope, the locals, and the annotated loops of the program.
+/// What the walk over a function has found so far: the names in scope, the locals,
+/// and the annotated loops of the program.
 #[derive(Drop)]
 pub struct Progress<'a> {
     scope: Scope<'a>,

@@ -6,7 +6,8 @@ ghost use Rattle.al_types.specs.Sorts.{kept_sort, allowed_at};
 
 use al_source::{BinOp, StmtKind};
 
-/// A declaration without a value, one with a value, what is simple (an assignment, an update, a call, a `printf`), and any other statement.
+/// A declaration without a value, one with a value, what is simple (an assignment, an update, a call, a `printf`),
+/// and any other statement.
 #[derive(Clone, Copy, Debug, PartialEq, Eq)]
 pub enum Sort {
     Declares,
@@ -37,7 +38,8 @@ impl Spot {
 
 #[tactic(auto, using(al_rules::proofs::StatementNodes::sort_nodes))]
 pub fn sort_of(kind: &StmtKind) -> Sort
-    ensures { (known : scopes.Known) (func : ℕ) (gives : ctype.CType) → kept_sort result ≡ (spec.kind_part known func gives kind.now).sort }
+    ensures { (known : scopes.Known) (func : ℕ) (gives : ctype.CType)
+        → kept_sort result ≡ (spec.kind_part known func gives kind.now).sort }
 {
     match kind {
         StmtKind::Declare(_, _, value) => match value {

@@ -15,5 +15,7 @@ pub returns-clause-checked : goal.returns-clause-checked
 returns-clause-checked c =
     let of_type = type_checked (is_struct c.args.known.now.structs) (named_in c.args.anywhere.now) (allowed_for c.args.role) c.args.field.now.ty in
     subst (λ (told : Checked (Unit {0})). Gives kind_of told c.check_item_type.result)
-    (sym (ap (λ (r : Checked (Unit {0})). and_then r (λ _. of_type)) (ap (λ (n : Name). ensure (not (any_named {A = Name} (λ m. m) n c.args.names.now)) Twice) (sym c.as_slice.ensures) ∙ c.in_ok-add_new.ensures.checked)))
+    (sym (ap (λ (r : Checked (Unit {0})). and_then r (λ _. of_type))
+    (ap (λ (n : Name). ensure (not (any_named {A = Name} (λ m. m) n c.args.names.now)) Twice) (sym c.as_slice.ensures)
+    ∙ c.in_ok-add_new.ensures.checked)))
     c.check_item_type.ensures

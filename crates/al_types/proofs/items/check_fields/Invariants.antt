@@ -7,7 +7,8 @@ use Rattle.al_types.proofs.items.check_fields.Given as goal
 
 abbrev pub invariant-loop-fields : goal.invariant-loop-fields
 invariant-loop-fields l =
-    fields_by (is_struct l.known.structs) (named_in l.anywhere) (allowed_for l.role) [] l.fn.fields ≡ fields_by (is_struct l.known.structs) (named_in l.anywhere) (allowed_for l.role) l.names l.fields
+    fields_by (is_struct l.known.structs) (named_in l.anywhere) (allowed_for l.role) [] l.fn.fields
+    ≡ fields_by (is_struct l.known.structs) (named_in l.anywhere) (allowed_for l.role) l.names l.fields
 
 abbrev pub decreases-loop-fields : goal.decreases-loop-fields
 decreases-loop-fields l = length l.fields

@@ -15,5 +15,6 @@ returns c =
     let items = c.as_slice-items.ensures in
     subst (λ (told : Result Known TypeCause). Gives typed told c.with_items.result)
     (ap₂ (λ (k : Known) (is : List Item). items_by k (named_in names) is) c.new.ensures items
-    ∙ definitions_as c.args.layout.now c.args.program.now.items (named_in names) (λ q. c.in_ok-anywhere.ensures q ∙ ap (λ is. is_struct (structs_in is) q) items))
+    ∙ definitions_as c.args.layout.now c.args.program.now.items (named_in names)
+    (λ q. c.in_ok-anywhere.ensures q ∙ ap (λ is. is_struct (structs_in is) q) items))
     c.with_items.ensures

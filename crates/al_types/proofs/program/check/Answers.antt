@@ -18,4 +18,5 @@ returns-in_err-funcs c =
 
 pub returns : goal.returns
 returns c =
-    rw (is_typed_by c.args.layout.now c.args.program.now c.in_ok-known.known c.in_ok-known.ensures, c.in_ok-main.ensures, c.in_ok-funcs.ensures, c.in_ok-globals.ensures, c.from_vec.ensures, c.nodes.ensures) refl
+    let by = is_typed_by c.args.layout.now c.args.program.now c.in_ok-known.known c.in_ok-known.ensures in
+    rw (by, c.in_ok-main.ensures, c.in_ok-funcs.ensures, c.in_ok-globals.ensures, c.from_vec.ensures, c.nodes.ensures) refl

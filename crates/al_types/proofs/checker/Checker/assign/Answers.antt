@@ -14,8 +14,11 @@ pub returns : goal.returns
 unfolding bind
 returns c =
     let to = c.in_ok-to.to in
-    let is_place_there = subst (λ (b : Bool). Gives kind_of (ensure b NotPlace) c.ensure.result) (c.is_place.ensures ∙ ap is_place c.get.ensures) c.ensure.ensures in
-    let placed = walked c.args.line (λ _. ensure (is_place to) NotPlace) c.args.p.now (Ok c.in_ok-at_line.field-0) (c.in_ok-at_line.ensures (ensure (is_place to) NotPlace) is_place_there) in
+    let is_place_there =
+    subst (λ (b : Bool). Gives kind_of (ensure b NotPlace) c.ensure.result) (c.is_place.ensures ∙ ap is_place c.get.ensures) c.ensure.ensures in
+    let placed =
+    walked c.args.line (λ _. ensure (is_place to) NotPlace) c.args.p.now (Ok c.in_ok-at_line.field-0)
+    (c.in_ok-at_line.ensures (ensure (is_place to) NotPlace) is_place_there) in
     λ looped.
     walked_last c.args.line (assigned to c.in_ok-value.value) _ c.args.p.now c.assigned.result c.at_line-2.result
     (rw (walks-Assign, c.in_ok-to.ensures, placed, c.in_ok-value.ensures) refl)

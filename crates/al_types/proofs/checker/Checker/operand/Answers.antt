@@ -5,5 +5,6 @@ use Rattle.al_types.proofs.checker.Checker.operand.Goals as goal
 
 pub returns : goal.returns
 returns c =
-    walked_scope c.args.line (λ scope. x.operand c.args.self.now.known.now (in_scope scope) c.args.x.now) c.scope.result.now c.args.p.now c.operand.result c.at_line.result
+    walked_scope c.args.line (λ scope. x.operand c.args.self.now.known.now (in_scope scope) c.args.x.now)
+    c.scope.result.now c.args.p.now c.operand.result c.at_line.result
     c.scope.ensures c.operand.ensures c.at_line.ensures

@@ -16,9 +16,14 @@ returns c =
     let op = c.args.op in
     let of = c.in_ok-of.of in
     let is_shaped_there = subst (λ (b : Bool). Gives kind_of (ensure b Shape) c.ensure.result) c.may_update.ensures c.ensure.ensures in
-    let is_place_there = subst (λ (b : Bool). Gives kind_of (ensure b NotPlace) c.ensure-2.result) (c.is_place.ensures ∙ ap is_place c.get.ensures) c.ensure-2.ensures in
-    let shaped = walked c.args.line (λ _. ensure (may_update op) Shape) c.args.p.now (Ok c.in_ok-at_line.field-0) (c.in_ok-at_line.ensures (ensure (may_update op) Shape) is_shaped_there) in
-    let placed = walked c.args.line (λ _. ensure (is_place of) NotPlace) c.args.p.now (Ok c.in_ok-at_line-2.field-0) (c.in_ok-at_line-2.ensures (ensure (is_place of) NotPlace) is_place_there) in
+    let is_place_there =
+    subst (λ (b : Bool). Gives kind_of (ensure b NotPlace) c.ensure-2.result) (c.is_place.ensures ∙ ap is_place c.get.ensures) c.ensure-2.ensures in
+    let shaped =
+    walked c.args.line (λ _. ensure (may_update op) Shape) c.args.p.now (Ok c.in_ok-at_line.field-0)
+    (c.in_ok-at_line.ensures (ensure (may_update op) Shape) is_shaped_there) in
+    let placed =
+    walked c.args.line (λ _. ensure (is_place of) NotPlace) c.args.p.now (Ok c.in_ok-at_line-2.field-0)
+    (c.in_ok-at_line-2.ensures (ensure (is_place of) NotPlace) is_place_there) in
     λ looped.
     walked_last c.args.line (updated op of c.in_ok-by.by) _ c.args.p.now c.updated.result c.at_line-3.result
     (rw (walks-Update, shaped, c.in_ok-of.ensures, placed, c.in_ok-by.ensures) refl)
