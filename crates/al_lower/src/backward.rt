@@ -3,7 +3,7 @@ ghost use Rattle.al_code_laws.specs.declared.plan.Op.TheVariants.{PrintOf};
 ghost use Rattle.al_code_laws.specs.Planned.{planned};
 ghost use Rattle.al_lower.specs.Assembly.{TakesFirst};
 
-use crate::copies::copy_format;
+use al_ast::copy_format;
 use al_code_laws::{Op, Planned};
 use al_core::Format;
 use std::alloc::{AllocError, Global};

@@ -1,28 +1,8 @@
 ghost use Rattle.std.specs.Prelude.{◌≡◌, IfOk};
 
-use al_core::{Choice, Format, LoopInfo, Piece, TGlobal};
+use al_core::{Choice, LoopInfo, TGlobal};
 use sqlite_items::Items;
 use std::alloc::{AllocError, Global};
-
-fn copy_piece(alloc: Global, piece: &Piece) -> Result<Piece, AllocError>
-    ensures { IfOk result (λ p. p ≡ piece.now) }
-{
-    match piece {
-        Piece::Plain(bytes) => Ok(Piece::Plain(Items::from_slice(alloc, bytes.as_slice())?)),
-        Piece::Number => Ok(Piece::Number),
-    }
-}
-
-/// The same text.
-pub fn copy_format(alloc: Global, format: &[Piece]) -> Result<Format, AllocError>
-    ensures { IfOk result (λ f. f ≡ format.now) }
-{
-    let mut copy = Items::new(alloc);
-    for piece in format {
-        copy.push(copy_piece(alloc, piece)?)?;
-    }
-    Ok(copy)
-}
 
 fn copy_global(alloc: Global, global: &TGlobal) -> Result<TGlobal, AllocError>
     ensures { IfOk result (λ g. g ≡ global.now) }

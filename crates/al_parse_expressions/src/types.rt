@@ -8,23 +8,11 @@ ghost use Rattle.al_grammar.specs.ExpressionParser.{element_size};
 ghost use Rattle.al_parse_expressions.specs.Cursors.{Parses};
 
 use crate::cursor::Cursor;
+use al_ast::copy_type;
 use al_source::limits::{DECLARATOR_DIMENSIONS, DECLARATOR_STARS, DIMENSION_LENGTH};
 use al_source::{CType, Field, Key, Mark, ParseFault, TokenKind};
-use sqlite_items::{Boxed, Items};
+use sqlite_items::Boxed;
 use std::alloc::{AllocError, Global};
-
-/// The same type again, for the next name of a declaration.
-pub fn copy(alloc: Global, ty: &CType) -> Result<CType, AllocError>
-    ensures { IfOk result (λ a. a ≡ ty.now) }
-{
-    match ty {
-        CType::Int => Ok(CType::Int),
-        CType::Void => Ok(CType::Void),
-        CType::Struct(name) => Ok(CType::Struct(Items::from_slice(alloc, name.as_slice())?)),
-        CType::Ptr(to) => pointer(alloc, copy(alloc, to.get())?),
-        CType::Array(of, length) => array(alloc, copy(alloc, of.get())?, *length),
-    }
-}
 
 fn pointer(alloc: Global, to: CType) -> Result<CType, AllocError>
     ensures { IfOk result (λ a. a ≡ tree.Ptr to) }
@@ -148,7 +136,7 @@ impl<'a> Cursor<'a> {
         ensures shorter { OnOk result (length self.new.rest.now < length self.old.rest.now) }
         ensures room { self.new.room ≡ self.old.room }
     {
-        let base = copy(self.alloc, base)?;
+        let base = copy_type(self.alloc, base)?;
         let ty = self.stars(base)?;
         let name = self.word()?;
         Ok(Field { name, ty })

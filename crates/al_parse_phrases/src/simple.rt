@@ -1,35 +1,16 @@
 //! Statements without their `;`: assignments and calls.
 
-ghost use Rattle.std.specs.Prelude.{◌≡◌, ◌<◌, ◌≤◌, length, OnOk, IfOk, None, []};
+ghost use Rattle.std.specs.Prelude.{◌≡◌, None};
 ghost use Rattle.al_grammar.specs.Operators.{update_of, step_of};
 ghost use Rattle.al_grammar.specs.Steps.{meaning_at};
 ghost use Rattle.al_grammar.specs.StatementParser as spec;
 ghost use Rattle.al_parse_expressions.specs.Cursors.{Parses};
 
+use al_ast::copy_format;
 use al_grammar::{key_text, step_of, update_of};
 use al_parse_expressions::Cursor;
-use al_source::{BinOp, Expr, Format, Key, Mark, Name, ParseFault, Piece, StmtKind, TokenKind};
+use al_source::{BinOp, Expr, Format, Key, Mark, Name, ParseFault, StmtKind, TokenKind};
 use sqlite_items::Items;
-use std::alloc::{AllocError, Global};
-
-fn copy_piece(alloc: Global, piece: &Piece) -> Result<Piece, AllocError>
-    ensures { IfOk result (λ p. p ≡ piece.now) }
-{
-    match piece {
-        Piece::Plain(bytes) => Ok(Piece::Plain(Items::from_slice(alloc, bytes.as_slice())?)),
-        Piece::Number => Ok(Piece::Number),
-    }
-}
-
-fn copy_format(alloc: Global, pieces: &[Piece]) -> Result<Format, AllocError>
-    ensures { IfOk result (λ f. f ≡ pieces.now) }
-{
-    let mut copied = Items::new(alloc);
-    for piece in pieces {
-        copied.push(copy_piece(alloc, piece)?)?;
-    }
-    Ok(copied)
-}
 
 /// Takes a text, and copies it.
 fn text(cursor: &mut Cursor<'_>) -> Result<Format, ParseFault>

@@ -1,4 +1,4 @@
-ghost use Rattle.std.specs.Prelude.{◌≡◌, option_map, is_some, IfOk};
+ghost use Rattle.std.specs.Prelude.{◌≡◌, option_map, is_some};
 ghost use Rattle.al_rules.specs.Types as spec;
 ghost use Rattle.al_rules.specs.Statements as statements;
 ghost use Rattle.al_type_names.specs.Forms.{kept_form};
@@ -12,8 +12,6 @@ use crate::names::Names;
 use al_core::Kind;
 use al_rules::TypeKind;
 use al_source::CType;
-use sqlite_items::{Boxed, Items};
-use std::alloc::{AllocError, Global};
 
 /// `void`; an integer or a pointer; a struct; an array; or what no declaration has.
 #[derive(Clone, Copy, Debug, PartialEq, Eq)]
@@ -194,19 +192,5 @@ pub fn kind_of(ty: &CType) -> Option<Kind>
         CType::Int => Some(Kind::Int),
         CType::Ptr(_) => Some(Kind::Ptr),
         CType::Void | CType::Struct(_) | CType::Array(_, _) => None,
-    }
-}
-
-pub fn copy(alloc: Global, ty: &CType) -> Result<CType, AllocError>
-    ensures { IfOk result (λ c. c ≡ ty.now) }
-{
-    match ty {
-        CType::Int => Ok(CType::Int),
-        CType::Void => Ok(CType::Void),
-        CType::Struct(name) => Ok(CType::Struct(Items::from_slice(alloc, name.as_slice())?)),
-        CType::Ptr(to) => Ok(CType::Ptr(Boxed::new(alloc, copy(alloc, to.get())?)?)),
-        CType::Array(of, length) => {
-            Ok(CType::Array(Boxed::new(alloc, copy(alloc, of.get())?)?, *length))
-        }
     }
 }

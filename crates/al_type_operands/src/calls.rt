@@ -9,12 +9,12 @@ ghost use Rattle.al_type_names.specs.Steps.{kind_of};
 
 use crate::operands::{fitting, integer, pointer};
 use crate::queue::Queue;
+use al_ast::copy_type;
 use al_core::TExpr;
 use al_rules::{Operand, TypeKind};
 use al_source::{CType, Field, Func, RedOp};
 use al_type_names::fault::{Fault, ensure};
 use al_type_names::known::Callee;
-use al_type_names::types::copy;
 use sqlite_items::{Boxed, Items};
 use std::alloc::{AllocError, Global};
 
@@ -50,7 +50,7 @@ fn call_function(
 {
     ensure(args.len() == f.params.len(), TypeKind::Count)?;
     let args = fitting_all(alloc, f.params.as_slice(), args)?;
-    let ty = Boxed::new(alloc, copy(alloc, &f.result)?)?;
+    let ty = Boxed::new(alloc, copy_type(alloc, &f.result)?)?;
     Ok((ty, Boxed::new(alloc, TExpr::Call(k, args))?))
 }
 

@@ -15,6 +15,7 @@ use crate::calls::{called, freed};
 use crate::operands::{and, binary, integer, or, unary};
 use crate::places::{address, followed, indexed, member, member_behind, of_variable};
 use crate::queue::Queue;
+use al_ast::copy_type;
 use al_core::TExpr;
 use al_rules::{Operand, TypeKind};
 use al_source::limits::WORD_BYTES;
@@ -22,7 +23,7 @@ use al_source::{CType, Expr};
 use al_type_names::fault::Fault;
 use al_type_names::known::Known;
 use al_type_names::scope::Scope;
-use al_type_names::types::{Role, copy};
+use al_type_names::types::Role;
 use sqlite_items::Boxed;
 use std::alloc::{AllocError, Global};
 
@@ -84,7 +85,7 @@ fn calloc(
     let n = integer(alloc, x)?;
     sized(known, ty)?;
     let words = known.size(ty)?;
-    let to = Boxed::new(alloc, copy(alloc, ty)?)?;
+    let to = Boxed::new(alloc, copy_type(alloc, ty)?)?;
     Ok(value(alloc, CType::Ptr(to), TExpr::Calloc(n, words))?)
 }
 

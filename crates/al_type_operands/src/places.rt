@@ -15,12 +15,13 @@ ghost use Rattle.al_source.specs.Answers.{Gives};
 ghost use Rattle.al_type_names.specs.Steps.{kind_of};
 
 use crate::operands::{integer, target};
+use al_ast::copy_type;
 use al_core::{TExpr, TPlace};
 use al_rules::{Operand, TypeKind};
 use al_source::CType;
 use al_type_names::fault::{Fault, ensure};
 use al_type_names::known::{Known, Variable};
-use al_type_names::types::{copy, element, struct_name};
+use al_type_names::types::{element, struct_name};
 use sqlite_items::Boxed;
 use std::alloc::{AllocError, Global};
 
@@ -31,10 +32,10 @@ pub fn of_variable(alloc: Global, v: Variable<'_>) -> Result<Boxed<Operand>, All
     ensures { IfOk result (λ x. x ≡ spec.of_variable (variable_of v.entry)) }
 {
     match v {
-        Variable::Local(k, ty) => Boxed::new(alloc, Operand::Variable(k, copy(alloc, ty)?)),
+        Variable::Local(k, ty) => Boxed::new(alloc, Operand::Variable(k, copy_type(alloc, ty)?)),
         Variable::Global(k, ty) => Boxed::new(
             alloc,
-            Operand::Place(copy(alloc, ty)?, TPlace::Global(k)),
+            Operand::Place(copy_type(alloc, ty)?, TPlace::Global(k)),
         ),
     }
 }
@@ -158,7 +159,7 @@ fn field_place(
     let Some((ty, offset)) = known.field_of(name, field) else {
         return Err(Fault::Kind(TypeKind::Unknown));
     };
-    let ty = Boxed::new(alloc, copy(alloc, ty)?)?;
+    let ty = Boxed::new(alloc, copy_type(alloc, ty)?)?;
     Ok(place(alloc, ty, TPlace::Plus(of, offset))?)
 }
 

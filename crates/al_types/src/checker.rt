@@ -1,4 +1,4 @@
-ghost use Rattle.std.specs.Prelude.{◌≡◌, ℕ, Bool, IfOk, OnOk};
+ghost use Rattle.std.specs.Prelude.{◌≡◌, ℕ, Bool, OnOk};
 ghost use Rattle.al_source.specs.declared.source_tree.CType as ctype;
 ghost use Rattle.al_source.specs.declared.source_tree.StmtKind.TheVariants as stmt;
 ghost use Rattle.al_core.specs.declared.typed_tree.TKind.TheVariants as k;
@@ -18,9 +18,10 @@ ghost use Rattle.al_type_names.specs.Steps.{kind_of};
 
 use crate::progress::Progress;
 use crate::sorts::may_update;
+use al_ast::copy_format;
 use al_core::{Addr, Choice, Obj, Red, TExpr, TKind};
 use al_rules::{Operand, TypeFault, TypeKind};
-use al_source::{BinOp, CType, Expr, Format, LoopNote, Name, NamedRed, Piece};
+use al_source::{BinOp, CType, Expr, LoopNote, Name, NamedRed, Piece};
 use al_type_names::fault::{Fault, at_line, ensure};
 use al_type_names::known::{Known, Variable};
 use al_type_names::scope::Scope;
@@ -30,7 +31,7 @@ use al_type_operands::operands::{fitting, integer, scalar};
 use al_type_operands::places::boxed_place;
 use al_type_operands::queue::Queue;
 use sqlite_items::{Boxed, Items};
-use std::alloc::{AllocError, Global};
+use std::alloc::Global;
 
 /// What checks the body of the function of this number, which gives a value of this type.
 #[derive(Clone, Copy)]
@@ -134,25 +135,6 @@ fn numbers_in(format: &[Piece]) -> usize
         .iter()
         .filter(|piece| matches!(piece, Piece::Number))
         .count()
-}
-
-fn copy_piece(alloc: Global, piece: &Piece) -> Result<Piece, AllocError>
-    ensures { IfOk result (λ p. p ≡ piece.now) }
-{
-    match piece {
-        Piece::Plain(bytes) => Ok(Piece::Plain(Items::from_slice(alloc, bytes.as_slice())?)),
-        Piece::Number => Ok(Piece::Number),
-    }
-}
-
-fn copy_format(alloc: Global, format: &[Piece]) -> Result<Format, AllocError>
-    ensures { IfOk result (λ f. f ≡ format.now) }
-{
-    let mut copy = Items::new(alloc);
-    for piece in format {
-        copy.push(copy_piece(alloc, piece)?)?;
-    }
-    Ok(copy)
 }
 
 #[tactic(auto, using(al_type_operands::proofs::Gathered::gathered))]
