@@ -4,7 +4,7 @@ use Rattle.al_words.specs.declared.command.WordFault.{WordFault}
 use Rattle.al_words.specs.declared.command.WordFault.TheVariants.{Repeated}
 use Rattle.al_words.specs.declared.option.Given.{Given}
 use Rattle.al_words.specs.declared.option.Knob.{Knob}
-use Rattle.al_words.specs.declared.option.Knob.TheVariants.{Lanes, Chunk, Line, IterSteps, Steps}
+use Rattle.al_words.specs.declared.option.Knob.TheVariants.{Lanes, Chunk, Line, IterSteps, Steps, LoopNumber}
 use Rattle.al_words.specs.declared.walk.Waiting.{Waiting}
 use Rattle.al_words.specs.declared.walk.Walk.{Walk}
 use Rattle.al_words.specs.Words.{given_to, give, valued, optioned, named, Takes}
@@ -16,6 +16,7 @@ give_more g Chunk n h = rw h (omega arith)
 give_more g Line n h = rw h (omega arith)
 give_more g IterSteps n h = rw h (omega arith)
 give_more g Steps n h = rw h (omega arith)
+give_more g LoopNumber n h = rw h (omega arith)
 
 none_of : {A : Type 0} (r : Option A) → is_some r ≡ false → r ≡ None
 none_of None h = refl

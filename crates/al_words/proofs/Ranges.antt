@@ -1,8 +1,9 @@
 -- Every number that a walk takes is in its range.
 use Rattle.std.proofs.Common.{◌≡◌, ◌≤◌, ℕ, ◌+◌, Option, None, Some, Result, Ok, Err, IfOk, IfSome, is_some, Bool, true, false, ◌&&◌, if◌then◌else◌, nat_le, List, [], ◌∷◌, unwrap_or, codes, nat_eq, refl, sym, subst, arith, rules}
+use Rattle.std.specs.Bool.{⊤}
 use Rattle.std.specs.List.{starts_with}
 use Rattle.al_source.specs.Steps.{and_then}
-use Rattle.al_source.specs.declared.limits.TheConstants.{MOST_LANES, MOST_CHUNK, MOST_STEPS, MOST_START, MOST_SIZE, DEFAULT_LANES, DEFAULT_CHUNK, DEFAULT_LINE, DEFAULT_ITERATION_STEPS, DEFAULT_SERIAL_STEPS}
+use Rattle.al_source.specs.declared.limits.TheConstants.{MOST_LANES, MOST_CHUNK, MOST_STEPS, MOST_TESTS, MOST_START, MOST_SIZE, DEFAULT_LANES, DEFAULT_CHUNK, DEFAULT_LINE, DEFAULT_ITERATION_STEPS, DEFAULT_SERIAL_STEPS}
 use Rattle.al_core.specs.Limits.{AreInRange}
 use Rattle.al_core.specs.Lines.{IsLineSize}
 use Rattle.al_text.specs.Digits.{numeral}
@@ -12,13 +13,13 @@ use Rattle.al_words.specs.declared.command.WordFault.{WordFault}
 use Rattle.al_words.specs.declared.command.WordFault.TheVariants.{Repeated, Names}
 use Rattle.al_words.specs.declared.option.Given.{Given}
 use Rattle.al_words.specs.declared.option.Knob.{Knob}
-use Rattle.al_words.specs.declared.option.Knob.TheVariants.{Lanes, Chunk, Line, IterSteps, Steps}
+use Rattle.al_words.specs.declared.option.Knob.TheVariants.{Lanes, Chunk, Line, IterSteps, Steps, LoopNumber}
 use Rattle.al_words.specs.declared.verb.Verb.{Verb}
 use Rattle.al_words.specs.declared.verb.Verb.TheVariants as verb
 use Rattle.al_words.specs.declared.walk.Waiting.{Waiting}
 use Rattle.al_words.specs.declared.walk.Walk.{Walk}
-use Rattle.al_words.specs.Words.{within, number_in, value_of, taken, takes_number, greatest, give, knobs_of, begin, valued, optioned, named, step_by, step, walked, word_at, place, with_size, with_start, asked, job_of, ended, after_walk, by_verb, command, verb_of, takes, given_to, knob_for}
-use Rattle.al_words.specs.Ranges.{HasRanges}
+use Rattle.al_words.specs.Words.{within, number_in, value_of, taken, takes_number, least, greatest, give, knobs_of, begin, valued, optioned, named, step_by, step, walked, word_at, place, with_size, with_start, asked, job_of, ended, after_walk, by_verb, command, verb_of, takes, loop_of, given_to, knob_for}
+use Rattle.al_words.specs.Ranges.{HasRanges, HasTests}
 
 abbrev IsIn : ℕ → ℕ → ℕ → Type 0
 IsIn least most n = (least ≤ n) × (n ≤ most)
@@ -39,15 +40,17 @@ IsValue Chunk n = IsIn 1 MOST_CHUNK n
 IsValue Line n = IsLineSize n
 IsValue IterSteps n = IsIn 1 MOST_STEPS n
 IsValue Steps n = IsIn 1 MOST_STEPS n
+IsValue LoopNumber n = ⊤
 
-is_value : (knob : Knob) (m : ℕ) → IsIn 1 (greatest knob) m → takes_number knob m ≡ true → IsValue knob m
+is_value : (knob : Knob) (m : ℕ) → IsIn (least knob) (greatest knob) m → takes_number knob m ≡ true → IsValue knob m
 is_value Lanes m h t = h
 is_value Chunk m h t = h
 is_value Line m h t = t
 is_value IterSteps m h t = h
 is_value Steps m h t = h
+is_value LoopNumber m h t = tt
 
-is_taken : (knob : Knob) (r : Option ℕ) (n : ℕ) → ((m : ℕ) → r ≡ Some m → IsIn 1 (greatest knob) m)
+is_taken : (knob : Knob) (r : Option ℕ) (n : ℕ) → ((m : ℕ) → r ≡ Some m → IsIn (least knob) (greatest knob) m)
     → taken knob r ≡ Some n → IsValue knob n
 is_taken knob (Some m) n f h = by_test (takes_number knob m) refl h
   where
@@ -57,7 +60,7 @@ is_taken knob (Some m) n f h = by_test (takes_number knob m) refl h
 is_taken knob None n f h = absurd cc
 
 is_given : (knob : Knob) (word : List ℕ) (n : ℕ) → value_of knob word ≡ Some n → IsValue knob n
-is_given knob word n h = is_taken knob (number_in 1 (greatest knob) word) n (is_within 1 (greatest knob) (numeral word)) h
+is_given knob word n h = is_taken knob (number_in (least knob) (greatest knob) word) n (is_within (least knob) (greatest knob) (numeral word)) h
 
 record InRange (g : Given) : Type 0 where
   pub lanes : IfSome g.lanes (IsValue Lanes)
@@ -72,6 +75,8 @@ give_in g Chunk n h i = record { lanes = i.lanes; chunk = h; line = i.line; iter
 give_in g Line n h i = record { lanes = i.lanes; chunk = i.chunk; line = h; iter_steps = i.iter_steps; steps = i.steps }
 give_in g IterSteps n h i = record { lanes = i.lanes; chunk = i.chunk; line = i.line; iter_steps = h; steps = i.steps }
 give_in g Steps n h i = record { lanes = i.lanes; chunk = i.chunk; line = i.line; iter_steps = i.iter_steps; steps = h }
+give_in g LoopNumber n h i =
+    record { lanes = i.lanes; chunk = i.chunk; line = i.line; iter_steps = i.iter_steps; steps = i.steps }
 
 value_in : (w v : Walk) (o : Waiting) (r : Option ℕ) → ((n : ℕ) → r ≡ Some n → IsValue o.knob n) → InRange w.given → valued w o r ≡ Ok v → InRange v.given
 value_in w v o (Some n) f i h =
@@ -133,20 +138,31 @@ start_in words j (Some start) i f =
     size_in (place j.names 1) start j _ (f start refl).1 i (λ n e. is_within 1 MOST_SIZE (numeral (word_at words (place j.names 1))) n e)
 start_in words j None i f = tt
 
-asked_in : (words : List (List ℕ)) (v : Verb) (j : Job) → AreInRange j.knobs → IfOk (asked words v j) HasRanges
-asked_in words verb.Run j i = i
-asked_in words verb.Plain j i = i
-asked_in words verb.Trace j i = i
-asked_in words verb.Check j i = i
-asked_in words verb.Demo j i = start_in words j _ i (λ n e. is_within 0 MOST_START (numeral (word_at words (place j.names 0))) n e)
+has_tests : (j : Job) → (nat_le 2 j.count && nat_le j.count (MOST_TESTS + 1)) ≡ true → HasTests j
+has_tests j t = by_test (nat_le 2 j.count) (nat_le j.count (MOST_TESTS + 1)) refl refl t
+  where
+    by_test : (a b : Bool) → nat_le 2 j.count ≡ a → nat_le j.count (MOST_TESTS + 1) ≡ b → (a && b) ≡ true → HasTests j
+    by_test true true p q t = (search (rules, p), search (rules, q))
+    by_test true false p q t = absurd cc
+    by_test false b p q t = absurd cc
+
+asked_in : (words : List (List ℕ)) (v : Verb) (j : Job) (k : ℕ) → takes v j.count ≡ true → AreInRange j.knobs
+    → IfOk (asked words v j k) HasRanges
+asked_in words verb.Run j k t i = i
+asked_in words verb.Plain j k t i = i
+asked_in words verb.Trace j k t i = i
+asked_in words verb.Infer j k t i = (has_tests j t, i)
+asked_in words verb.Check j k t i = i
+asked_in words verb.Demo j k t i = start_in words j _ i (λ n e. is_within 0 MOST_START (numeral (word_at words (place j.names 0))) n e)
 
 ended_in : (words : List (List ℕ)) (w : Walk) (r : Option Waiting) → InRange w.given → IfOk (ended words w r) HasRanges
 ended_in words w (Some o) i = tt
-ended_in words w None i = by_test (takes w.verb w.count)
+ended_in words w None i = by_test (takes w.verb w.count) refl
   where
-    by_test : (b : Bool) → IfOk (if b then asked words w.verb (job_of w) else Err Names) HasRanges
-    by_test true = asked_in words w.verb (job_of w) (knobs_in w.given i)
-    by_test false = tt
+    by_test : (b : Bool) → takes w.verb w.count ≡ b
+        → IfOk (if b then asked words w.verb (job_of w) (loop_of w.given) else Err Names) HasRanges
+    by_test true t = asked_in words w.verb (job_of w) (loop_of w.given) t (knobs_in w.given i)
+    by_test false t = tt
 
 after_in : (words : List (List ℕ)) (v : Verb) (rest : List (List ℕ)) (r : Result Walk WordFault) → walked (begin v) 1 rest ≡ r
     → IfOk (after_walk words r) HasRanges

@@ -9,6 +9,8 @@ pub enum Command {
     Plain(Job),
     /// To tell the rounds of a run.
     Trace(Job),
+    /// To search for annotations of the loop of a number.
+    Infer(Job, u32),
     /// To say whether a program is accepted.
     Check(Job),
     /// To run the generated program, from a start and with a size.

@@ -10,6 +10,7 @@ mod walk;
 
 pub use command::{Command, Job, WordFault};
 pub use read::read_words;
+pub use verb::Verb;
 
 #[cfg(test)]
 mod tests;

@@ -8,7 +8,7 @@ use al_source::limits::{
     DEFAULT_THREADS, MOST_CHUNK, MOST_LANES, MOST_STEPS,
 };
 
-/// An option, which sets a number of a run.
+/// An option: it sets a number of a run, or tells the number of a loop.
 #[derive(Clone, Copy, Debug, PartialEq, Eq)]
 pub enum Knob {
     Lanes,
@@ -16,6 +16,7 @@ pub enum Knob {
     Line,
     IterSteps,
     Steps,
+    LoopNumber,
 }
 
 /// The values that were given to the options so far.
@@ -26,6 +27,7 @@ pub struct Given {
     pub line: Option<u32>,
     pub iter_steps: Option<u32>,
     pub steps: Option<u32>,
+    pub loop_number: Option<u32>,
 }
 
 impl Knob {
@@ -39,18 +41,39 @@ impl Knob {
             "--line" => Some(Knob::Line),
             "--iter-steps" => Some(Knob::IterSteps),
             "--steps" => Some(Knob::Steps),
+            "--loop" => Some(Knob::LoopNumber),
             _ => None,
         }
     }
 
-    /// The greatest number that may be given to it; the least is 1.
+    /// Whether it sets a number of a run.
+    pub fn is_of_run(self) -> bool
+        ensures { result ≡ spec.is_of_run self }
+    {
+        match self {
+            Knob::Lanes | Knob::Chunk | Knob::Line | Knob::IterSteps | Knob::Steps => true,
+            Knob::LoopNumber => false,
+        }
+    }
+
+    /// The least number that may be given to it.
+    fn least(self) -> u32
+        ensures { result ≡ spec.least self }
+    {
+        match self {
+            Knob::Lanes | Knob::Chunk | Knob::Line | Knob::IterSteps | Knob::Steps => 1,
+            Knob::LoopNumber => 0,
+        }
+    }
+
+    /// The greatest number that may be given to it.
     pub fn greatest(self) -> u32
         ensures { result ≡ spec.greatest self }
     {
         match self {
             Knob::Lanes => MOST_LANES,
             Knob::Chunk => MOST_CHUNK,
-            Knob::Line => u32::MAX,
+            Knob::Line | Knob::LoopNumber => u32::MAX,
             Knob::IterSteps | Knob::Steps => MOST_STEPS,
         }
     }
@@ -61,7 +84,7 @@ impl Knob {
     {
         match self {
             Knob::Line => is_line_size(n),
-            Knob::Lanes | Knob::Chunk | Knob::IterSteps | Knob::Steps => true,
+            Knob::Lanes | Knob::Chunk | Knob::IterSteps | Knob::Steps | Knob::LoopNumber => true,
         }
     }
 
@@ -69,7 +92,7 @@ impl Knob {
     pub fn value(self, word: &str) -> Option<u32>
         ensures { result ≡ spec.value_of self word.now }
     {
-        let n = number_in(1, self.greatest(), word.as_bytes())?;
+        let n = number_in(self.least(), self.greatest(), word.as_bytes())?;
         if self.takes(n) { Some(n) } else { None }
     }
 }
@@ -84,6 +107,7 @@ impl Given {
             line: None,
             iter_steps: None,
             steps: None,
+            loop_number: None,
         }
     }
 
@@ -97,6 +121,7 @@ impl Given {
             Knob::Line => self.line,
             Knob::IterSteps => self.iter_steps,
             Knob::Steps => self.steps,
+            Knob::LoopNumber => self.loop_number,
         }
     }
 
@@ -109,7 +134,15 @@ impl Given {
             Knob::Line => self.line = Some(n),
             Knob::IterSteps => self.iter_steps = Some(n),
             Knob::Steps => self.steps = Some(n),
+            Knob::LoopNumber => self.loop_number = Some(n),
         }
+    }
+
+    /// The number of the loop: the one that was given, and else 0.
+    pub fn number(&self) -> u32
+        ensures { result ≡ spec.loop_of self.now }
+    {
+        self.loop_number.unwrap_or(0)
     }
 
     /// The numbers of a run: those that were given, and else the defaults.

@@ -47,16 +47,17 @@ fn ended(words: &[String], walk: &Walk) -> Result<Command, WordFault>
         count: walk.count as u32,
         knobs: walk.given.knobs(),
     };
-    asked(words, walk.verb, job)
+    asked(words, walk.verb, job, walk.given.number())
 }
 
-fn asked(words: &[String], verb: Verb, job: Job) -> Result<Command, WordFault>
-    ensures { result ≡ spec.asked (map string_bytes words.now) verb job }
+fn asked(words: &[String], verb: Verb, job: Job, loop_number: u32) -> Result<Command, WordFault>
+    ensures { result ≡ spec.asked (map string_bytes words.now) verb job loop_number }
 {
     match verb {
         Verb::Run => Ok(Command::Run(job)),
         Verb::Plain => Ok(Command::Plain(job)),
         Verb::Trace => Ok(Command::Trace(job)),
+        Verb::Infer => Ok(Command::Infer(job, loop_number)),
         Verb::Check => Ok(Command::Check(job)),
         Verb::Demo => demo(words, job),
     }

@@ -22,6 +22,11 @@ const SET: Knobs = Knobs {
     serial_steps: 1000000000,
 };
 
+const LINES_OF_TWO: Knobs = Knobs {
+    line: 2,
+    ..DEFAULTS
+};
+
 /// A job whose names stand at these two places; 0 is none.
 fn job(first: u32, second: u32, knobs: Knobs) -> Job {
     let mut names = [0; 17];
@@ -48,7 +53,7 @@ fn gives(
 
 #[test]
 fn words_are_commands(rt: HostRuntime) -> Result<(), Fail> {
-    let rows: [(&str, Command); 7] = [
+    let rows: [(&str, Command); 10] = [
         ("run p1.c", Command::Run(job(1, 0, DEFAULTS))),
         ("plain p9.c n.txt", Command::Plain(job(1, 2, DEFAULTS))),
         (
@@ -62,6 +67,15 @@ fn words_are_commands(rt: HostRuntime) -> Result<(), Fail> {
             Command::Demo(2147483647, 100000, DEFAULTS),
         ),
         ("run run", Command::Run(job(1, 0, DEFAULTS))),
+        ("infer p9.c n.txt", Command::Infer(job(1, 2, DEFAULTS), 0)),
+        (
+            "infer --loop 4294967295 p9.c --line 2 n.txt",
+            Command::Infer(job(3, 6, LINES_OF_TWO), 4294967295),
+        ),
+        (
+            "infer p9.c n.txt --loop 0",
+            Command::Infer(job(1, 2, DEFAULTS), 0),
+        ),
     ];
     for (text, command) in rows {
         assert!(rt; gives(rt.alloc(), text, Ok(command))?, "{text}");
@@ -71,9 +85,9 @@ fn words_are_commands(rt: HostRuntime) -> Result<(), Fail> {
 
 #[test]
 fn words_have_faults(rt: HostRuntime) -> Result<(), Fail> {
-    let rows: [(&str, WordFault); 29] = [
+    let rows: [(&str, WordFault); 38] = [
         ("walk p1.c", WordFault::BadCommand(0)),
-        ("infer p1.c", WordFault::BadCommand(0)),
+        ("infers p1.c n.txt", WordFault::BadCommand(0)),
         ("", WordFault::BadCommand(0)),
         ("run --lanes 65 p1.c", WordFault::BadValue(1)),
         ("run --lanes 0 p1.c", WordFault::BadValue(1)),
@@ -95,6 +109,18 @@ fn words_have_faults(rt: HostRuntime) -> Result<(), Fail> {
         ("check p1.c --lanes 2", WordFault::Unknown(2)),
         ("demo -1 3", WordFault::Unknown(1)),
         ("run", WordFault::Names),
+        ("infer p1.c", WordFault::Names),
+        (
+            "infer a 1 2 3 4 5 6 7 8 9 10 11 12 13 14 15 16 17",
+            WordFault::Names,
+        ),
+        ("infer a b --loop 4294967296", WordFault::BadValue(3)),
+        ("infer a b --loop 00", WordFault::BadValue(3)),
+        ("infer a b --loop 1 --loop 1", WordFault::Repeated(5)),
+        ("infer a b --loop", WordFault::NoValue(3)),
+        ("run a --loop 0", WordFault::Unknown(2)),
+        ("demo 1 1 --loop 0", WordFault::Unknown(3)),
+        ("check a --loop 0", WordFault::Unknown(2)),
         ("run a b c", WordFault::Names),
         ("check a b", WordFault::Names),
         ("demo 1", WordFault::Names),
@@ -106,5 +132,21 @@ fn words_have_faults(rt: HostRuntime) -> Result<(), Fail> {
         assert!(rt; gives(rt.alloc(), text, Err(fault))?, "{text}");
     }
     assert!(rt; read_words(&[]) == Err(WordFault::NoCommand));
+    Ok(())
+}
+
+#[test]
+fn a_search_has_at_most_16_inputs(rt: HostRuntime) -> Result<(), Fail> {
+    let mut names = [0; 17];
+    for (k, place) in names.iter_mut().enumerate() {
+        *place = k as u32 + 1;
+    }
+    let job = Job {
+        names,
+        count: 17,
+        knobs: DEFAULTS,
+    };
+    let words = "infer a 1 2 3 4 5 6 7 8 9 10 11 12 13 14 15 16";
+    assert!(rt; gives(rt.alloc(), words, Ok(Command::Infer(job, 0)))?);
     Ok(())
 }

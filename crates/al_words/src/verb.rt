@@ -1,12 +1,16 @@
 ghost use Rattle.std.specs.Prelude.{◌≡◌, string_bytes};
 ghost use Rattle.al_words.specs.Words as spec;
 
-/// The first word.
+use crate::option::Knob;
+use al_source::limits::MOST_TESTS;
+
+/// The first word: what is asked for.
 #[derive(Clone, Copy, Debug, PartialEq, Eq)]
 pub enum Verb {
     Run,
     Plain,
     Trace,
+    Infer,
     Check,
     Demo,
 }
@@ -20,18 +24,21 @@ impl Verb {
             "run" => Some(Verb::Run),
             "plain" => Some(Verb::Plain),
             "trace" => Some(Verb::Trace),
+            "infer" => Some(Verb::Infer),
             "check" => Some(Verb::Check),
             "demo" => Some(Verb::Demo),
             _ => None,
         }
     }
 
-    /// Whether the command runs a program, and so has options.
-    pub fn has_options(self) -> bool
-        ensures { result ≡ spec.has_options self }
+    /// Whether the command has the option: one that runs a program has those of a run, and the search also the number
+    /// of a loop.
+    pub fn has_option(self, knob: Knob) -> bool
+        ensures { result ≡ spec.has_option self knob }
     {
         match self {
-            Verb::Run | Verb::Plain | Verb::Trace | Verb::Demo => true,
+            Verb::Run | Verb::Plain | Verb::Trace | Verb::Demo => knob.is_of_run(),
+            Verb::Infer => true,
             Verb::Check => false,
         }
     }
@@ -42,6 +49,7 @@ impl Verb {
     {
         match self {
             Verb::Run | Verb::Plain | Verb::Trace => count == 1 || count == 2,
+            Verb::Infer => 2 <= count && count <= u64::from(MOST_TESTS) + 1,
             Verb::Check => count == 1,
             Verb::Demo => count == 2,
         }

@@ -83,8 +83,9 @@ impl Walk {
     fn knob(&self, word: &str) -> Option<Knob>
         ensures { result ≡ spec.knob_for self.now.verb word.now }
     {
-        if self.verb.has_options() {
-            Knob::of(word)
+        let knob = Knob::of(word)?;
+        if self.verb.has_option(knob) {
+            Some(knob)
         } else {
             None
         }
