@@ -40,7 +40,7 @@ fn verdict_name(verdict: Verdict) -> &'static [u8]
 
 impl Text {
     #[tactic(auto, unfolding(crate::specs::Traces::labelled))]
-    fn push_labelled(&mut self, label: &[u8], n: u128) -> Result<(), AllocError>
+    pub(crate) fn push_labelled(&mut self, label: &[u8], n: u128) -> Result<(), AllocError>
         ensures { OnOk result (self.new ≡ self.old ++ spec.labelled label.now n) }
     {
         self.push(label)?;
