@@ -1,5 +1,5 @@
 -- Where a token of a source lies.
-use Rattle.std.proofs.Common.{◌≡◌, ℕ, zero, suc, ◌≤◌, List, [], ◌∷◌, length, Option, Some, None, ap, arith}
+use Rattle.std.proofs.Common.{◌≡◌, ℕ, zero, suc, ◌≤◌, List, [], ◌∷◌, length, Some, arith}
 use Rattle.std.specs.List.{slice_get}
 use Rattle.al_source.specs.declared.tokens.Token.{Token}
 use Rattle.al_grammar.specs.Characters.{Bytes}

@@ -23,12 +23,7 @@ fn token_text<'a>(source: &'a [u8], token: &Token) -> &'a [u8]
     }
 }
 
-fn bad_token(
-    alloc: Global,
-    name: &str,
-    source: &[u8],
-    token: &Token,
-) -> Result<Bytes, AllocError>
+fn bad_token(alloc: Global, name: &str, source: &[u8], token: &Token) -> Result<Bytes, AllocError>
     requires in_order { token.now.start ≤ token.now.end }
     requires within { token.now.end ≤ length source.now }
     ensures { IfOk result (λ text. text ≡ spec.bad_token name.now source.now token.now) }
