@@ -1,6 +1,6 @@
 -- Where the grammar refuses a source, and that nothing else does as it does.
-use Rattle.std.proofs.Common.{◌≡◌, ◌⊎◌, inl, inr, ℕ, ◌<◌, ◌≤◌, ◌-◌, Bool, true, false, nat_lt, List, length, Option, Some, None, Result, Ok, Err, IsSomeAnd, refl, sym, ap, subst, ◌∙◌, arith}
-use Rattle.al_source.specs.Answers.{Fails}
+use Rattle.std.proofs.Common.{◌≡◌, ◌⊎◌, inl, inr, ℕ, ◌<◌, ◌≤◌, ◌-◌, Bool, true, false, if◌then◌else◌, nat_lt, List, length, Option, Some, None, Result, Ok, Err, IsSomeAnd, IfErr, refl, sym, ap, subst, ◌∙◌, arith}
+use Rattle.al_source.specs.Answers.{Fails, Gives}
 use Rattle.al_source.specs.Steps.{and_then}
 use Rattle.al_source.specs.declared.limits.TheConstants.{SOURCE_BYTES, SOURCE_NODES}
 use Rattle.al_source.specs.declared.source_tree.Item.{Item}
@@ -15,12 +15,12 @@ use Rattle.al_grammar.specs.ProgramParser.{all_items}
 use Rattle.al_grammar.proofs.TokenLaws.{reading_spells}
 use Rattle.al_grammar_laws.specs.Places.{place_of}
 use Rattle.al_grammar_laws.proofs.FirstBad.{stops_at_first_bad, one_place}
-use Rattle.al_core.specs.declared.choices.LoopInfo.{LoopInfo}
 use Rattle.al_core.specs.declared.typed_tree.Typed.{Typed}
 use Rattle.al_rules.specs.declared.faults.Refusal.{Refusal}
-use Rattle.al_rules.specs.declared.faults.Refusal.TheVariants.{Grammar, Layout, Types, Notes}
+use Rattle.al_rules.specs.declared.faults.Refusal.TheVariants.{Grammar, Layout, Types, Notes, TooManyNodes}
 use Rattle.al_rules.specs.Layouts.{layout_of}
 use Rattle.al_rules.specs.Notes.{notes_of}
+use Rattle.al_rules.specs.Programs.{typed_with}
 use Rattle.al_rules.specs.Refusals.{Noted, because, tokens_of, derived, program_of, tree_of, small_enough, annotated_well, accepted}
 use Rattle.al_front.specs.declared.fault.BadTokens.{BadTokens}
 use Rattle.al_front.specs.declared.fault.FrontFault.{FrontFault}
@@ -46,23 +46,26 @@ tokens_not source e = by_length (le_or_lt (length source) SOURCE_BYTES)
     by_length (inl short) = because_not lexical (λ f same. cc) (reading source) (sym (within source short) ∙ e)
     by_length (inr long) = let both = sym (beyond source long) ∙ e in cc
 
+then_not : {A B : Type 0} (part : Result A Refusal) (next : A → Result B Refusal) → (part ≡ Err Grammar → ⊥)
+    → ((a : A) → next a ≡ Err Grammar → ⊥) → and_then part next ≡ Err Grammar → ⊥
+then_not (Ok a) next none rest e = rest a e
+then_not (Err cause) next none rest e = none (ap Err cc)
+
 pub tree_not : (p : Program) → tree_of p ≡ Err Grammar → ⊥
-tree_not p e = by_layout (because Layout (layout_of p)) (because_not Layout (λ f same. cc) (layout_of p)) e
+tree_not p e =
+    then_not (because Layout (layout_of p)) _ (because_not Layout (λ f same. cc) (layout_of p))
+    (λ layout. because_not Types (λ f same. cc) (typed_with layout p)) e
+
+small_not : (t : Noted) → small_enough t ≡ Err Grammar → ⊥
+small_not t e = by_size (nat_lt SOURCE_NODES t.0.nodes) e
   where
-    by_layout : (r : Result _ Refusal) → (r ≡ Err Grammar → ⊥) → and_then r _ ≡ Err Grammar → ⊥
-    by_layout (Ok layout) none e = because_not Types (λ f same. cc) _ e
-    by_layout (Err cause) none e = none (ap Err cc)
+    by_size : (b : Bool) → (if b then Err TooManyNodes else Ok t) ≡ Err Grammar → ⊥
+    by_size true e = cc
+    by_size false e = cc
 
 pub annotated_not : (typed : Typed) → annotated_well typed ≡ Err Grammar → ⊥
-annotated_not typed e = by_notes (because Notes (notes_of typed)) (because_not Notes (λ f same. cc) (notes_of typed)) e
-  where
-    by_size : (b : Bool) (infos : List LoopInfo) → (if b then Err TooManyNodes else Ok (typed, infos)) ≡ Err Grammar → ⊥
-    by_size true infos e = cc
-    by_size false infos e = cc
-
-    by_notes : (r : Result (List LoopInfo) Refusal) → (r ≡ Err Grammar → ⊥) → and_then r (λ infos. small_enough (typed, infos)) ≡ Err Grammar → ⊥
-    by_notes (Ok infos) none e = by_size (nat_lt SOURCE_NODES typed.nodes) infos e
-    by_notes (Err cause) none e = none (ap Err cc)
+annotated_not typed e =
+    then_not (because Notes (notes_of typed)) _ (because_not Notes (λ f same. cc) (notes_of typed)) (λ infos. small_not (typed, infos)) e
 
 -- ---- a source that the grammar refuses
 
@@ -73,7 +76,7 @@ tokens_read source tokens is = by_length (le_or_lt (length source) SOURCE_BYTES)
     by_length (inl short) = (short, reading_spells source tokens (because_ok lexical (reading source) tokens (sym (within source short) ∙ is)))
     by_length (inr long) = let both = sym (beyond source long) ∙ is in absurd cc
 
-HasNoProgram : Bytes → Type 0
+abbrev HasNoProgram : Bytes → Type 0
 HasNoProgram source = (tokens : Tokens) × (tokens_of source ≡ Ok tokens) × (program_of tokens ≡ Err Grammar)
 
 no_program : (source : Bytes) → accepted source ≡ Err Grammar → HasNoProgram source
@@ -116,11 +119,11 @@ bad_read : (source : Bytes) (bad : BadTokens) → IsBadIn source bad → tokens_
 bad_read source bad h = spelled_tokens source bad.tokens (λ long. absurd (omega (arith, h.short))) h.spelled
 
 pub bad_one : (source : Bytes) (bad : BadTokens) → IsBadIn source bad → bad_tokens source ≡ Some bad
-bad_one source bad h = ap placed_in (bad_read source bad h) ∙ ap (placed bad.tokens) (one_place bad.tokens _ _ (stops_at_first_bad bad.tokens) h.first)
+bad_one source bad h = ap placed_in (bad_read source bad h) ∙ ap (placed bad.tokens) (one_place bad.tokens (place_of bad.tokens (all_items bad.tokens)) (Some bad.place) (stops_at_first_bad bad.tokens) h.first)
 
 pub bad_refused : (source : Bytes) (bad : BadTokens) → IsBadIn source bad → accepted source ≡ Err Grammar
 unfolding accepted
-bad_refused source bad h = rw (bad_read source bad h, refused_program bad.tokens h.first.1.0) refl
+bad_refused source bad h = rw (bad_read source bad h, refused_program bad.tokens h.first.1) refl
 
 -- ---- faults
 
@@ -145,5 +148,7 @@ tokens_tell source fault is = tells_no_place source (tokens_of source) fault (to
 pub tree_tells : (source : Bytes) (p : Program) (fault : FrontFault) → Fails (tree_of p) (refused fault) → TellsPlace source fault
 tree_tells source p fault is = tells_no_place source (tree_of p) fault (tree_not p) is
 
-pub annotated_tells : (source : Bytes) (typed : Typed) (fault : FrontFault) → Fails (annotated_well typed) (refused fault) → TellsPlace source fault
-annotated_tells source typed fault is = tells_no_place source (annotated_well typed) fault (annotated_not typed) is
+pub annotated_gives : (source : Bytes) (typed : Typed) (r : Result Noted FrontFault) → Gives refused (annotated_well typed) r
+    → IfErr r (TellsPlace source)
+annotated_gives source typed (Ok t) is = tt
+annotated_gives source typed (Err fault) is = tells_no_place source (annotated_well typed) fault (annotated_not typed) is
