@@ -68,7 +68,11 @@ const STATEMENTS: [Place; 30] = [
     ("int main(void) {\n x = 1;\n", 2, "unfinished"),
     ("int main(void) {\n int a[2] = {1};\n}", 2, "bad token {"),
     ("int main(void) {\n x = y = 0;\n}", 2, "bad token ="),
-    ("int main(void) {\n while ((c = f())) ;\n}", 2, "bad token ="),
+    (
+        "int main(void) {\n while ((c = f())) ;\n}",
+        2,
+        "bad token =",
+    ),
     ("int main(void) {\n do { } while (1);\n}", 2, "bad token do"),
     ("int main(void) {\n goto end;\n}", 2, "bad token goto"),
     ("int main(void) {\n if x > 0 ;\n}", 2, "bad token x"),
@@ -139,22 +143,10 @@ const STATEMENTS: [Place; 30] = [
 const EXPRESSIONS: [Place; 16] = [
     ("int main(void) { return sizeof x; }", 1, "bad token x"),
     ("int main(void) { return sizeof(x); }", 1, "bad token x"),
-    (
-        "int main(void) { x = calloc(1, 8); }",
-        1,
-        "bad token 8",
-    ),
-    (
-        "int main(void) { long x = (long) 1; }",
-        1,
-        "bad token long",
-    ),
+    ("int main(void) { x = calloc(1, 8); }", 1, "bad token 8"),
+    ("int main(void) { long x = (long) 1; }", 1, "bad token long"),
     ("int main(void) { printf(x); }", 1, "bad token x"),
-    (
-        "int main(void) { printf(\"%d\\n\" 1); }",
-        1,
-        "bad token 1",
-    ),
+    ("int main(void) { printf(\"%d\\n\" 1); }", 1, "bad token 1"),
     (
         "int main(void) { puts(\"caf\u{e9} %d\\n\"); }",
         1,
@@ -173,12 +165,36 @@ const EXPRESSIONS: [Place; 16] = [
 
 /// An annotation ends where the source does.
 const ANNOTATIONS: [Place; 7] = [
-    ("int f() {\n#pragma alter reduce", 2, "bad token end of pragma"),
-    ("int f() {\n#pragma alter reduce(", 2, "bad token end of pragma"),
-    ("int f() {\n#pragma alter reduce(min", 2, "bad token end of pragma"),
-    ("int f() {\n#pragma alter reduce(+:", 2, "bad token end of pragma"),
-    ("int f() {\n#pragma alter reduce(+: s", 2, "bad token end of pragma"),
-    ("int f() {\n#pragma alter reduce(+: s,", 2, "bad token end of pragma"),
+    (
+        "int f() {\n#pragma alter reduce",
+        2,
+        "bad token end of pragma",
+    ),
+    (
+        "int f() {\n#pragma alter reduce(",
+        2,
+        "bad token end of pragma",
+    ),
+    (
+        "int f() {\n#pragma alter reduce(min",
+        2,
+        "bad token end of pragma",
+    ),
+    (
+        "int f() {\n#pragma alter reduce(+:",
+        2,
+        "bad token end of pragma",
+    ),
+    (
+        "int f() {\n#pragma alter reduce(+: s",
+        2,
+        "bad token end of pragma",
+    ),
+    (
+        "int f() {\n#pragma alter reduce(+: s,",
+        2,
+        "bad token end of pragma",
+    ),
     ("int f() {\n#pragma alter reduce(+: s, t)", 2, "unfinished"),
 ];
 
@@ -224,7 +240,11 @@ const LIMITS: [Place; 27] = [
     ("int f() { 128**{ ; 128**} }", 1, "bad token ;"),
     ("int f() { 128**{ \n { } 128**} }", 2, "bad token {"),
     ("int f() { 128**{ int x ; 128**} }", 1, "bad token int"),
-    ("int f() { 128**{ free ( p ) ; 128**} }", 1, "bad token free"),
+    (
+        "int f() { 128**{ free ( p ) ; 128**} }",
+        1,
+        "bad token free",
+    ),
     ("int f() { 128**{", 1, "unfinished"),
     (
         "int f() { 126**{ if ( 1 ) ; else \n if ( 2 ) ; 126**} }",

@@ -40,7 +40,12 @@ fn another_cause_has_no_place(rt: HostRuntime) -> Result<(), Fail> {
     let alloc = rt.alloc();
     let cause = Refusal::Lexical(LexicalCause::BadByte(1));
     assert_eq!(rt; refusal(alloc, "int x @")?, Some(cause));
-    for source in ["int x @", "", "int main(void) { x = 1; }", "int main(void) { }"] {
+    for source in [
+        "int x @",
+        "",
+        "int main(void) { x = 1; }",
+        "int main(void) { }",
+    ] {
         assert_eq!(rt; place_of(alloc, source)?, None);
     }
     Ok(())
