@@ -4,6 +4,7 @@
 mod builder;
 mod faults;
 mod lines;
+mod places;
 mod tables;
 #[cfg(test)]
 mod tests;
@@ -13,5 +14,6 @@ pub use faults::{
     input_cause_text, input_text, layout_text, lex_text, lower_text, note_text, parse_text,
     refusal_text, type_text,
 };
+pub use places::bad_text;
 pub use tables::table_text;
 pub use traces::{totals_text, trace_text, trap_text};
