@@ -1,36 +1,34 @@
--- What `alter run` computes, said by itself.
-use Rattle.std.specs.Prelude.{◌≡◌, ℕ, List, [], Option, Some, None, Ok, ℤ}
-use Rattle.al_core.specs.declared.choices.Knobs.{Knobs}
+-- What valid words do, said by itself.
+use Rattle.std.specs.Prelude.{⊤, ◌≡◌, ℕ, true, List, [], ◌∷◌, Option, Some, None, Ok, ℤ}
 use Rattle.al_rules.specs.Refusals.{Noted, accepted}
 use Rattle.al_gen.specs.Generated.{source as made_source}
 use Rattle.al_io.specs.Contents.{Contents, contents_of}
 use Rattle.al_text.specs.Numbers.{numbers_of}
-use Rattle.al_words.specs.declared.command.Command.TheVariants.{Check, Demo}
+use Rattle.al_words.specs.declared.command.Command.{Command}
 use Rattle.al_words.specs.declared.command.Job.{Job}
 use Rattle.al_words.specs.Words.{command}
-use Rattle.al_cli.specs.declared.tasks.Task.{Task}
-use Rattle.al_cli.specs.Shown.{source_name, input_name}
-use Rattle.al_cli.specs.Why.{asks}
+use Rattle.al_words.specs.Jobs.{job_of, source_name, input_names}
+use Rattle.al_cli.specs.Shown.{has_loop}
 
--- the numbers of an input in these files; no input means no numbers
-abbrev pub HasInput : Contents → Option (List ℕ) → List ℤ → Type 0
-HasInput files None input = input ≡ []
-HasInput files (Some name) input = (text : List ℕ) × (contents_of files name ≡ Some text) × (numbers_of text ≡ Ok input)
+-- the inputs of these names are there, and are these numbers, one after another
+abbrev pub HaveInputs : Contents → List (List ℕ) → List (List ℤ) → Type 0
+HaveInputs files [] [] = ⊤
+HaveInputs files (name ∷ names) (ns ∷ others) =
+    ((text : List ℕ) × (contents_of files name ≡ Some text) × (numbers_of text ≡ Ok ns)) × HaveInputs files names others
+HaveInputs files _ _ = ⊥
 
--- The files hold the source of an accepted program, and an input that is a list of numbers.
+-- The files hold the source of an accepted program, and inputs that are lists of numbers.
 pub record Holds (words : List (List ℕ)) (files : Contents) (job : Job) (program : Noted)
-    (input : List ℤ) : Type 0 where
+    (inputs : List (List ℤ)) : Type 0 where
   pub source : List ℕ
   pub there : contents_of files (source_name words job) ≡ Some source
   pub is_accepted : accepted source ≡ Ok program
-  pub has_input : HasInput files (input_name words job) input
+  pub have_inputs : HaveInputs files (input_names words job) inputs
 
--- Words, source and input are valid: what they ask for is done.
+-- Words, source and inputs are valid: what they ask for is done.
 pub data IsValid (words : List (List ℕ)) (files : Contents) : Type 0 where
-  to_run : (t : Task) (job : Job) (program : Noted) (input : List ℤ) → command words ≡ Ok (asks t job)
-      → Holds words files job program input → IsValid words files
-  to_check : (job : Job) (source : List ℕ) (program : Noted) → command words ≡ Ok (Check job)
-      → contents_of files (source_name words job) ≡ Some source → accepted source ≡ Ok program → IsValid words files
+  to_do : (c : Command) (job : Job) (program : Noted) (inputs : List (List ℤ)) → command words ≡ Ok c
+      → job_of c ≡ Some job → Holds words files job program inputs → has_loop c program ≡ true → IsValid words files
   -- that the generated program is accepted is a premise
-  to_show : (start size : ℕ) (knobs : Knobs) (program : Noted) → command words ≡ Ok (Demo start size knobs)
+  to_show : (c : Command) (program : Noted) → command words ≡ Ok c → job_of c ≡ None
       → accepted made_source ≡ Ok program → IsValid words files

@@ -1,27 +1,30 @@
 -- What is promised of a call of `alter` with these words.
-use Rattle.std.specs.Prelude.{◌≡◌, ◌⊎◌, ℕ, List, [], ◌∷◌, length, Some, Ok, IsErr, ℤ}
+use Rattle.std.specs.Prelude.{◌≡◌, ◌<◌, ◌⊎◌, ℕ, List, [], ◌∷◌, length, Some, Ok, IsErr, ℤ}
 use Rattle.al_laws.specs.Rounds.{RoundsFit}
 use Rattle.al_rules.specs.Refusals.{Noted}
 use Rattle.al_front.specs.declared.fault.BadTokens.{BadTokens}
 use Rattle.al_front.specs.Places.{IsBadIn}
 use Rattle.al_io.specs.Contents.{contents_of}
-use Rattle.al_words.specs.declared.command.Command.TheVariants.{Run, Check}
+use Rattle.al_words.specs.declared.command.Command.TheVariants.{Run, Infer, Check}
 use Rattle.al_words.specs.declared.command.Job.{Job}
 use Rattle.al_words.specs.Words.{command}
+use Rattle.al_words.specs.Jobs.{source_name}
+use Rattle.al_search.specs.Search.{searched}
 use Rattle.al_answers.specs.Calls.{Call, OverTold, NoReadFails, ReadFails, ReadMayFail, PutFails, PutMayFail, HasNoPut, IsSilent, IsQuiet, HasMemory, IsAnswered}
 use Rattle.al_answers.specs.Plans.{failed, reads_on}
 use Rattle.al_answers.specs.Tried.{ReadAtMost}
 use Rattle.al_answers.specs.Written.{IsOneOf, Writes, WritesPart, HasOnePutAtMost, Answered, Unread, UnreadInPart, Absent}
 use Rattle.al_cli.specs.Headline.{Holds, IsValid}
-use Rattle.al_cli.specs.Shown.{lockstep_report, bytes_of, bad_line, source_name, names_of, plan, shown}
+use Rattle.al_cli.specs.Shown.{lockstep_report, first_input, done, bytes_of, bad_line, names_of, plan, shown}
 use Rattle.al_cli.specs.Why.{Why}
 
 pub record Promises (words : List (List ℕ)) (c : Call) : Type 0 where
   -- Where no file or sink fails and memory is found, `alter run` of an accepted program writes the bytes and ends with
   -- the status of the one-thread lockstep machine, traps and spent budgets included.
-  pub headline : (job : Job) (program : Noted) (input : List ℤ) → command words ≡ Ok (Run job) → IsQuiet c → HasMemory c
-      → OverTold c (λ files. Holds words files job program input
-      → Writes (bytes_of (source_name words job) (lockstep_report program input job.knobs)) c)
+  pub headline : (job : Job) (program : Noted) (inputs : List (List ℤ)) → command words ≡ Ok (Run job) → IsQuiet c
+      → HasMemory c
+      → OverTold c (λ files. Holds words files job program inputs
+      → Writes (bytes_of (source_name words job) (lockstep_report program (first_input inputs) job.knobs)) c)
   -- In that run no execution of a loop has more rounds than chunks.
   pub rounds : (job : Job) (program : Noted) (input : List ℤ) → command words ≡ Ok (Run job)
       → RoundsFit (lockstep_report program input job.knobs).events
@@ -32,7 +35,12 @@ pub record Promises (words : List (List ℕ)) (c : Call) : Type 0 where
       → IsQuiet c → HasMemory c
       → OverTold c (λ files. contents_of files (source_name words job) ≡ Some source
       → Writes (failed 1 (bad_line (source_name words job) source bad)) c)
-  -- Valid words, source and input are done, unless memory runs out.
+  -- `alter infer` writes the table of the search, each trial a run by the definition.
+  pub table : (job : Job) (k : ℕ) (program : Noted) (inputs : List (List ℤ)) → command words ≡ Ok (Infer job k)
+      → IsQuiet c → HasMemory c → k < length program.1
+      → OverTold c (λ files. Holds words files job program inputs
+      → Writes (done (searched program k inputs job.knobs)) c)
+  -- Valid words, source and inputs are done, unless memory runs out.
   pub complete : IsQuiet c → OverTold c (λ files. IsValid words files → IsOneOf (0 ∷ 3 ∷ 6 ∷ []) c.status)
   -- Which status comes, and why: but for a fault and want of memory an answer was written that has its cause.
   pub statuses : IsOneOf (0 ∷ 1 ∷ 2 ∷ 3 ∷ 4 ∷ 5 ∷ 6 ∷ 7 ∷ []) c.status

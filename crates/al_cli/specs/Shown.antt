@@ -1,5 +1,5 @@
 -- What words show, over files of known contents: a status, and what is written to standard output and standard error.
-use Rattle.std.specs.Prelude.{ℕ, ◌+◌, ◌==◌, if◌then◌else◌, List, [], ◌∷◌, ◌++◌, map, codes, Option, Some, None, Result, Ok, Err, ℤ}
+use Rattle.std.specs.Prelude.{ℕ, ◌+◌, nat_lt, length, Bool, true, if◌then◌else◌, List, [], ◌∷◌, ◌++◌, map, codes, Option, Some, None, Result, Ok, Err, ℤ}
 use Rattle.al_source.specs.declared.limits.TheConstants.{SOURCE_BYTES, INPUT_BYTES}
 use Rattle.al_core.specs.declared.choices.Choice.{Choice}
 use Rattle.al_core.specs.declared.choices.Knobs.{Knobs}
@@ -16,6 +16,7 @@ use Rattle.al_io.specs.Contents.{Contents}
 use Rattle.al_report.specs.Traces.{trace_text, totals_text, trap_text}
 use Rattle.al_report.specs.Faults.{refusal_text, input_cause_text}
 use Rattle.al_report.specs.Places.{bad_text}
+use Rattle.al_report.specs.Tables.{no_loop_text}
 use Rattle.al_rules.specs.declared.faults.Refusal.{Refusal}
 use Rattle.al_rules.specs.declared.faults.Refusal.TheVariants.{Grammar}
 use Rattle.al_front.specs.declared.fault.BadTokens.{BadTokens}
@@ -25,14 +26,12 @@ use Rattle.al_answers.specs.Plans.{Plan, Reads, Answers, failed, played}
 use Rattle.al_text.specs.declared.faults.InputCause.{InputCause}
 use Rattle.al_text.specs.Numbers.{numbers_of}
 use Rattle.al_words.specs.declared.command.Command.{Command}
-use Rattle.al_words.specs.declared.command.Command.TheVariants.{Run, Plain, Trace, Check, Demo}
+use Rattle.al_words.specs.declared.command.Command.TheVariants.{Run, Plain, Trace, Infer, Check, Demo}
 use Rattle.al_words.specs.declared.command.Job.{Job}
 use Rattle.al_words.specs.declared.command.WordFault.{WordFault}
-use Rattle.al_words.specs.Words.{command, word_at, place}
-use Rattle.al_cli.specs.declared.tasks.Task.{Task}
-use Rattle.al_cli.specs.declared.tasks.Task.TheVariants as task
-use Rattle.al_cli.specs.declared.tasks.Detail.{Detail}
-use Rattle.al_cli.specs.declared.tasks.Detail.TheVariants as detail
+use Rattle.al_words.specs.Words.{command}
+use Rattle.al_words.specs.Jobs.{job_of, source_name, input_names}
+use Rattle.al_search.specs.Search.{searched}
 use Rattle.al_cli.specs.Lines.{word_line}
 
 -- ---- runs
@@ -74,10 +73,20 @@ trace_of name r = ended name r.ending (trace_text r)
 abbrev pub totals_of : List ℕ → Report → Answer
 totals_of name r = ended name r.ending (r.output ++ totals_text r)
 
-abbrev pub task_of : Task → Knobs → List ℕ → Noted → List ℤ → Answer
-task_of task.Run knobs name program input = bytes_of name (lockstep_report program input knobs)
-task_of task.Plain knobs name program input = bytes_of name (plain_report program input knobs)
-task_of task.Trace knobs name program input = trace_of name (lockstep_report program input knobs)
+-- the numbers of a run: those of the first input, or none where there is no input
+abbrev pub first_input : List (List ℤ) → List ℤ
+first_input [] = []
+first_input (ns ∷ others) = ns
+
+-- what is written where the source of this name is the program, and its inputs are these numbers
+abbrev pub answer_of : Command → List ℕ → Noted → List (List ℤ) → Answer
+answer_of (Run job) name program inputs = bytes_of name (lockstep_report program (first_input inputs) job.knobs)
+answer_of (Plain job) name program inputs = bytes_of name (plain_report program (first_input inputs) job.knobs)
+answer_of (Trace job) name program inputs = trace_of name (lockstep_report program (first_input inputs) job.knobs)
+answer_of (Infer job k) name program inputs = done (searched program k inputs job.knobs)
+answer_of (Check job) name program inputs = done (codes "ok\n")
+answer_of (Demo start size knobs) name program inputs =
+    totals_of name (lockstep_report program (first_input inputs) knobs)
 
 -- ---- what is read
 
@@ -97,9 +106,9 @@ abbrev pub bad_line_or_none : List ℕ → List ℕ → Option BadTokens → Lis
 bad_line_or_none name source (Some bad) = bad_line name source bad
 bad_line_or_none name source None = refusal_text name Grammar
 
--- what is said of a source that is refused: where the grammar refuses it, its first bad token, if that is told
-abbrev pub refused_line : Detail → List ℕ → List ℕ → Refusal → List ℕ
-refused_line detail.Token name source Grammar = bad_line_or_none name source (bad_tokens source)
+-- what is said of a source that is refused: where the grammar refuses it, `check` tells its first bad token
+abbrev pub refused_line : Command → List ℕ → List ℕ → Refusal → List ℕ
+refused_line (Check job) name source Grammar = bad_line_or_none name source (bad_tokens source)
 refused_line _ name source cause = refusal_text name cause
 
 abbrev pub if_accepted : (Refusal → List ℕ) → (Noted → Plan) → Result Noted Refusal → Plan
@@ -107,51 +116,62 @@ if_accepted line next (Ok program) = next program
 if_accepted line next (Err cause) = Answers (failed 1 (line cause))
 
 -- A source is read, and refused or gone on with.
-abbrev pub source_plan : Detail → List ℕ → (Noted → Plan) → Plan
-source_plan d name next =
-    Reads name most_of_source (λ source. if_accepted (refused_line d name source) next (accepted source))
+abbrev pub source_plan : Command → List ℕ → (Noted → Plan) → Plan
+source_plan c name next =
+    Reads name most_of_source (λ source. if_accepted (refused_line c name source) next (accepted source))
+
+-- a search is of a loop that the program has
+abbrev pub has_loop : Command → Noted → Bool
+has_loop (Infer job k) program = nat_lt k (length program.1)
+has_loop _ program = true
+
+-- what is said where it has none of the number
+abbrev pub no_loop_line : Command → List ℕ → List ℕ
+no_loop_line (Infer job k) name = no_loop_text name k
+no_loop_line _ name = []
 
 abbrev pub if_numbers : List ℕ → (List ℤ → Plan) → Result (List ℤ) InputCause → Plan
 if_numbers name next (Ok input) = next input
 if_numbers name next (Err fault) = Answers (failed 7 (input_cause_text name fault))
 
--- no input means no numbers
-abbrev pub input_plan : Option (List ℕ) → (List ℤ → Plan) → Plan
-input_plan (Some name) next = Reads name most_of_input (λ text. if_numbers name next (numbers_of text))
-input_plan None next = next []
+-- An input is read, and refused or gone on with.
+abbrev pub input_plan : List ℕ → (List ℤ → Plan) → Plan
+input_plan name next = Reads name most_of_input (λ text. if_numbers name next (numbers_of text))
 
-abbrev pub source_name : List (List ℕ) → Job → List ℕ
-source_name words job = word_at words (place job.names 0)
+-- the inputs of these names, one after another
+abbrev pub inputs_plan : List (List ℕ) → (List (List ℤ) → Plan) → Plan
+inputs_plan [] next = next []
+inputs_plan (name ∷ names) next = input_plan name (λ ns. inputs_plan names (λ others. next (ns ∷ others)))
 
-abbrev pub input_name : List (List ℕ) → Job → Option (List ℕ)
-input_name words job = if job.count == 2 then Some (word_at words (place job.names 1)) else None
+-- the inputs, and then what is done
+abbrev pub after_source : Command → List (List ℕ) → Job → Noted → Plan
+after_source c words job program =
+    if has_loop c program
+    then inputs_plan (input_names words job)
+    (λ inputs. Answers (answer_of c (source_name words job) program inputs))
+    else Answers (failed 1 (no_loop_line c (source_name words job)))
 
--- the input, and then the run
-abbrev pub after_source : Task → List (List ℕ) → Job → Noted → Plan
-after_source t words job program =
-    input_plan (input_name words job) (λ input. Answers (task_of t job.knobs (source_name words job) program input))
+abbrev pub job_plan : Command → List (List ℕ) → Job → Plan
+job_plan c words job = source_plan c (source_name words job) (after_source c words job)
 
-abbrev pub job_plan : Task → List (List ℕ) → Job → Plan
-job_plan t words job = source_plan detail.File (source_name words job) (after_source t words job)
-
--- `check` alone tells the first bad token
-abbrev pub check_plan : List (List ℕ) → Job → Plan
-check_plan words job =
-    source_plan detail.Token (source_name words job) (λ program. Answers (done (codes "ok\n")))
+-- the numbers that are generated
+abbrev pub made_inputs : Command → List (List ℤ)
+made_inputs (Demo start size knobs) = made_input start size ∷ []
+made_inputs _ = []
 
 -- the generated program, by the name `demo`
-abbrev pub demo_plan : ℕ → ℕ → Knobs → Plan
-demo_plan start size knobs =
-    if_accepted (refusal_text (codes "demo"))
-    (λ program. Answers (totals_of (codes "demo") (lockstep_report program (made_input start size) knobs)))
+abbrev pub made_plan : Command → Plan
+made_plan c =
+    if_accepted (refused_line c (codes "demo") made_source)
+    (λ program. Answers (answer_of c (codes "demo") program (made_inputs c)))
     (accepted made_source)
 
+abbrev pub plan_by : Command → List (List ℕ) → Option Job → Plan
+plan_by c words (Some job) = job_plan c words job
+plan_by c words None = made_plan c
+
 abbrev pub plan_of : List (List ℕ) → Result Command WordFault → Plan
-plan_of words (Ok (Run job)) = job_plan task.Run words job
-plan_of words (Ok (Plain job)) = job_plan task.Plain words job
-plan_of words (Ok (Trace job)) = job_plan task.Trace words job
-plan_of words (Ok (Check job)) = check_plan words job
-plan_of words (Ok (Demo start size knobs)) = demo_plan start size knobs
+plan_of words (Ok c) = plan_by c words (job_of c)
 plan_of words (Err fault) = Answers (failed 2 (word_line words fault))
 
 -- what the words ask to be read, and what comes of it
@@ -159,15 +179,12 @@ unfoldable pub plan : List (List ℕ) → Plan
 plan words = plan_of words (command words)
 
 -- the names of the files that a command reads, in order
-abbrev pub job_names : List (List ℕ) → Job → List (List ℕ)
-job_names words job = source_name words job ∷ elim (input_name words job) [ Some name ↦ name ∷ [] | None ↦ [] ]
+abbrev pub job_names : List (List ℕ) → Option Job → List (List ℕ)
+job_names words (Some job) = source_name words job ∷ input_names words job
+job_names words None = []
 
 abbrev pub names_by : List (List ℕ) → Result Command WordFault → List (List ℕ)
-names_by words (Ok (Run job)) = job_names words job
-names_by words (Ok (Plain job)) = job_names words job
-names_by words (Ok (Trace job)) = job_names words job
-names_by words (Ok (Check job)) = source_name words job ∷ []
-names_by words (Ok (Demo start size knobs)) = []
+names_by words (Ok c) = job_names words (job_of c)
 names_by words (Err fault) = []
 
 abbrev pub names_of : List (List ℕ) → List (List ℕ)

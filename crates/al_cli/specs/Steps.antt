@@ -1,32 +1,47 @@
 -- A part of a plan: what it gives, and that whatever comes next comes of the whole.
-use Rattle.std.specs.Prelude.{ℕ, List, Option, ℤ}
-use Rattle.al_rules.specs.Refusals.{Noted}
+use Rattle.std.specs.Prelude.{⊤, ◌≡◌, ℕ, List, length, Ok, ℤ}
+use Rattle.al_rules.specs.Refusals.{Noted, accepted}
 use Rattle.al_answers.specs.declared.answers.Answer.{Answer}
 use Rattle.al_answers.specs.Plans.{Plan}
 use Rattle.al_answers.specs.Seen.{FilesSeen}
 use Rattle.al_answers.specs.Outcome.{Came, Starved}
+use Rattle.al_words.specs.declared.command.Command.{Command}
+use Rattle.al_words.specs.declared.command.Command.TheVariants.{Infer}
 use Rattle.al_cli.specs.declared.reading.SourceStep.{SourceStep}
 use Rattle.al_cli.specs.declared.reading.SourceStep.TheVariants as source
 use Rattle.al_cli.specs.declared.reading.InputStep.{InputStep}
 use Rattle.al_cli.specs.declared.reading.InputStep.TheVariants as input
-use Rattle.al_cli.specs.declared.tasks.Detail.{Detail}
-use Rattle.al_cli.specs.Shown.{source_plan, input_plan}
+use Rattle.al_cli.specs.declared.reading.InputsStep.{InputsStep}
+use Rattle.al_cli.specs.declared.reading.InputsStep.TheVariants as inputs
+use Rattle.al_cli.specs.Shown.{source_plan, input_plan, inputs_plan}
 
 pub record GoesOn {A : Type 0} (whole : (A → Plan) → Plan) (old new : FilesSeen) (a : A) : Type 0 where
   pub came : (next : A → Plan) (last : FilesSeen) (answer : Answer) → Came (next a) new last answer
       → Came (whole next) old last answer
   pub starved : (next : A → Plan) (last : FilesSeen) → Starved (next a) new last → Starved (whole next) old last
 
-abbrev pub SourceComes : Detail → List ℕ → FilesSeen → FilesSeen → SourceStep → Type 0
-SourceComes d name old new (source.Accepted program) = GoesOn (source_plan d name) old new program
-SourceComes d name old new (source.Answered a) = (next : Noted → Plan) → Came (source_plan d name next) old new a
+-- the answer comes of it, whatever comes next
+abbrev pub Ends : {A : Type 0} → ((A → Plan) → Plan) → FilesSeen → FilesSeen → Answer → Type 0
+Ends {A} whole old new a = (next : A → Plan) → Came (whole next) old new a
 
-abbrev pub SourceStarved : Detail → List ℕ → FilesSeen → FilesSeen → Type 0
-SourceStarved d name old new = (next : Noted → Plan) → Starved (source_plan d name next) old new
+-- memory runs out in it, whatever comes next
+abbrev pub Starves : {A : Type 0} → ((A → Plan) → Plan) → FilesSeen → FilesSeen → Type 0
+Starves {A} whole old new = (next : A → Plan) → Starved (whole next) old new
 
-abbrev pub InputComes : Option (List ℕ) → FilesSeen → FilesSeen → InputStep → Type 0
+abbrev pub SourceComes : Command → List ℕ → FilesSeen → FilesSeen → SourceStep → Type 0
+SourceComes c name old new (source.Accepted bytes program) =
+    GoesOn (source_plan c name) old new program × (accepted bytes ≡ Ok program)
+SourceComes c name old new (source.Answered a) = Ends (source_plan c name) old new a
+
+abbrev pub InputComes : List ℕ → FilesSeen → FilesSeen → InputStep → Type 0
 InputComes name old new (input.Numbers ns) = GoesOn (input_plan name) old new ns
-InputComes name old new (input.Answered a) = (next : List ℤ → Plan) → Came (input_plan name next) old new a
+InputComes name old new (input.Answered a) = Ends (input_plan name) old new a
 
-abbrev pub InputStarved : Option (List ℕ) → FilesSeen → FilesSeen → Type 0
-InputStarved name old new = (next : List ℤ → Plan) → Starved (input_plan name next) old new
+abbrev pub InputsCome : List (List ℕ) → FilesSeen → FilesSeen → InputsStep → Type 0
+InputsCome names old new (inputs.Numbers all) =
+    GoesOn (inputs_plan names) old new all × (length all ≡ length names)
+InputsCome names old new (inputs.Answered a) = Ends (inputs_plan names) old new a
+
+abbrev pub IsSearch : Command → Type 0
+IsSearch (Infer job k) = ⊤
+IsSearch _ = ⊥

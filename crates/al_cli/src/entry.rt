@@ -9,6 +9,7 @@ use al_answers::Status;
 use al_io::{Files, Sink};
 use std::alloc::Global;
 use std::rt::Env;
+use std::thread::Threads;
 use std::{env, io};
 
 /// Why the words after the program's name cannot be had.
@@ -43,7 +44,8 @@ fn cause_of(error: &io::Error) -> NoWords {
 /// The whole program, given its words: it ends with the status of `alter`, with 6 where there is no memory for the
 /// words,
 /// and with 10 where a word is no text. With the latter two nothing is read or written.
-pub fn program<F: Files, O: Sink, E: Sink>(
+pub fn program<R: Threads + Sync, F: Files, O: Sink, E: Sink>(
+    rt: &R,
     alloc: Global,
     words: &Result<Vec<String>, NoWords>,
     files: &mut F,
@@ -58,7 +60,7 @@ pub fn program<F: Files, O: Sink, E: Sink>(
     }) }
 {
     match words {
-        Ok(words) => alter(alloc, words.as_slice(), files, out, err),
+        Ok(words) => alter(rt, alloc, words.as_slice(), files, out, err),
         Err(NoWords::Memory) => Status::NoMemory.code(),
         Err(NoWords::NotText) => Status::NotText.code(),
     }

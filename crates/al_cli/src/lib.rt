@@ -6,7 +6,6 @@ mod lines;
 mod reading;
 mod runs;
 mod serving;
-mod tasks;
 mod top_call;
 
 pub use al_words::{Command, Job, WordFault, read_words};

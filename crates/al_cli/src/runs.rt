@@ -1,86 +1,89 @@
 //! Runs, and what is written of them.
-ghost use Rattle.std.specs.Prelude.{◌≡◌, IfOk, codes, false, map};
+ghost use Rattle.std.specs.Prelude.{◌≡◌, ◌≤◌, IfOk, Ok, length, false, map};
 ghost use Rattle.al_core.specs.Limits.{AreInRange};
 ghost use Rattle.al_core.specs.Lines.{with_line};
 ghost use Rattle.al_core.specs.Report.{watched};
-ghost use Rattle.al_answers.specs.Plans.{Answers};
-ghost use Rattle.al_words.specs.Ranges.{IsDemo};
+ghost use Rattle.al_rules.specs.Refusals.{accepted};
+ghost use Rattle.al_source.specs.declared.limits.TheConstants.{MOST_TESTS};
+ghost use Rattle.al_words.specs.Ranges.{HasRanges};
 ghost use Rattle.al_cli.specs.Shown as spec;
+ghost use Rattle.al_cli.specs.Steps.{IsSearch};
 
-use crate::tasks::Task;
-use al_answers::{Answer, Status, failed};
+use al_answers::{Answer, Status};
 use al_core::{Choice, Ending, Knobs, Report};
-use al_front::{Noted, resolve};
-use al_gen::make;
+use al_front::Noted;
 use al_plain::runs::run;
-use al_report::{refusal_text, totals_text, trace_text, trap_text};
+use al_report::{totals_text, trace_text, trap_text};
+use al_search::searched;
+use al_source::Bytes;
+use al_words::Command;
 use sqlite_items::Items;
 use std::alloc::{AllocError, Global};
+use std::thread::Threads;
 
-/// What is written of a run with these numbers.
-pub fn task_of(
+/// What is written where the source of this name is the program, and its inputs are these numbers.
+pub fn answer_of<R: Threads + Sync>(
+    rt: &R,
     alloc: Global,
-    task: Task,
-    knobs: &Knobs,
+    command: Command,
     name: &str,
+    source: &[u8],
     program: &Noted,
-    input: &[i64],
+    inputs: &[Items<i64>],
 ) -> Result<Answer, AllocError>
-    requires { AreInRange knobs.now }
-    ensures { IfOk result (λ a. a ≡ spec.task_of task knobs.now name.now program.now input.now) }
+    requires ranges { HasRanges command }
+    requires source { accepted source.now ≡ Ok program.now }
+    requires inputs { IsSearch command → (1 ≤ length inputs.now) × (length inputs.now ≤ MOST_TESTS) }
+    ensures { IfOk result (λ a. a ≡ spec.answer_of command name.now program.now inputs.now) }
 {
-    match task {
-        Task::Run => {
-            let report = in_lockstep(alloc, program, input, knobs, false)?;
+    match command {
+        Command::Run(job) => {
+            let report = in_lockstep(alloc, program, first_input(inputs), &job.knobs, false)?;
             ended(alloc, name, report.ending, report.output)
         }
-        Task::Plain => {
-            let report = plain(alloc, program, input, knobs)?;
+        Command::Plain(job) => {
+            let report = plain(alloc, program, first_input(inputs), &job.knobs)?;
             ended(alloc, name, report.ending, report.output)
         }
-        Task::Trace => {
-            let report = in_lockstep(alloc, program, input, knobs, true)?;
+        Command::Trace(job) => {
+            let report = in_lockstep(alloc, program, first_input(inputs), &job.knobs, true)?;
             let text = trace_text(alloc, &report)?;
             ended(alloc, name, report.ending, text)
         }
+        Command::Infer(job, number) => {
+            let text = searched(rt, alloc, source, program, number, inputs, job.knobs)?;
+            Ok(done(alloc, text))
+        }
+        Command::Check(_) => Ok(done(alloc, Items::from_slice(alloc, b"ok\n")?)),
+        Command::Demo(_, _, knobs) => {
+            let report = in_lockstep(alloc, program, first_input(inputs), &knobs, false)?;
+            let totals = totals_text(alloc, &report)?;
+            let mut out = report.output;
+            out.append(totals)?;
+            ended(alloc, name, report.ending, out)
+        }
     }
 }
 
-/// What is written of the generated program.
-pub fn demo_of(alloc: Global, start: u32, size: u32, knobs: &Knobs) -> Result<Answer, AllocError>
-    requires demo { IsDemo start size }
-    requires ranges { AreInRange knobs.now }
-    ensures { IfOk result (λ a. Answers a ≡ spec.demo_plan start size knobs.now) }
+/// The numbers of the first input, or none where there is no input.
+fn first_input(inputs: &[Items<i64>]) -> &[i64]
+    ensures { result.now ≡ spec.first_input inputs.now }
 {
-    let made = make(alloc, start, size)?;
-    match resolve(alloc, made.source.as_slice()) {
-        Ok(program) => shown_of(alloc, &program, made.input.as_slice(), knobs),
-        Err(fault) => match fault.cause() {
-            Some(cause) => {
-                let line = refusal_text(alloc, "demo", cause)?;
-                Ok(failed(alloc, Status::ProgramRefused, line))
-            }
-            None => Err(AllocError),
-        },
+    match inputs {
+        [input, ..] => input.as_slice(),
+        [] => &[],
     }
 }
 
-/// What is written of the generated program, where it is accepted.
-fn shown_of(
-    alloc: Global,
-    program: &Noted,
-    input: &[i64],
-    knobs: &Knobs,
-) -> Result<Answer, AllocError>
-    requires { AreInRange knobs.now }
-    ensures { IfOk result
-        (λ a. a ≡ spec.totals_of (codes "demo") (spec.lockstep_report program.now input.now knobs.now)) }
+/// These bytes to standard output, and nothing to standard error.
+fn done(alloc: Global, out: Bytes) -> Answer
+    ensures { result ≡ spec.done out }
 {
-    let report = in_lockstep(alloc, program, input, knobs, false)?;
-    let totals = totals_text(alloc, &report)?;
-    let mut out = report.output;
-    out.append(totals)?;
-    ended(alloc, "demo", report.ending, out)
+    Answer {
+        status: Status::Done.code(),
+        out,
+        err: Items::new(alloc),
+    }
 }
 
 /// What is written of a run; a trap that ends it has a line.

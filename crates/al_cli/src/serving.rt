@@ -1,41 +1,55 @@
 //! All that a call of `alter` does before it writes: it reads, and gathers what is to be written.
-ghost use Rattle.std.specs.Prelude.{◌≡◌, ◌<◌, ◌≤◌, map, string_bytes, IfOk, OnErr, Some, None};
+ghost use Rattle.std.specs.Prelude.{◌≡◌, map, string_bytes, IfOk, OnErr, Ok, Some};
 ghost use Rattle.al_core.specs.Limits.{AreInRange};
 ghost use Rattle.al_rules.specs.Refusals.{accepted};
-ghost use Rattle.al_answers.specs.Plans.{failed as spec_failed};
+ghost use Rattle.al_answers.specs.Plans.{Answers, failed as spec_failed};
 ghost use Rattle.al_answers.specs.Outcome.{Came, Starved};
 ghost use Rattle.al_answers.specs.Seen.{files_seen};
-ghost use Rattle.al_words.specs.Ranges.{IsDemo};
+ghost use Rattle.al_words.specs.declared.command.Command.TheVariants.{Demo};
+ghost use Rattle.al_words.specs.Jobs.{job_of};
+ghost use Rattle.al_words.specs.Ranges.{HasRanges, IsDemo};
 ghost use Rattle.al_cli.specs.Lines as line_spec;
 ghost use Rattle.al_cli.specs.Shown as spec;
 
 use crate::lines::word_line;
-use crate::reading::{InputStep, SourceStep, input_step, source_name, source_step};
-use crate::runs::{demo_of, task_of};
-use crate::tasks::{Detail, Task};
+use crate::reading::{InputsStep, SourceStep, inputs_step, refused_line, source_name, source_step};
+use crate::runs::answer_of;
 use al_answers::{Answer, Status, failed};
 use al_core::Knobs;
-use al_front::Noted;
+use al_front::{Noted, resolve};
+use al_gen::make;
 use al_io::Files;
+use al_report::no_loop_text;
+use al_source::Bytes;
 use al_words::{Command, Job, WordFault, read_words};
 use sqlite_items::Items;
 use std::alloc::{AllocError, Global};
+use std::thread::Threads;
 
 /// What is to be written for these words: all that `alter` does before its puts.
 #[tactic(auto, unfolding(crate::specs::Shown::plan))]
-pub fn serve<F: Files>(alloc: Global, words: &[String], files: &mut F) -> Result<Answer, AllocError>
+pub fn serve<R: Threads + Sync, F: Files>(
+    rt: &R,
+    alloc: Global,
+    words: &[String],
+    files: &mut F,
+) -> Result<Answer, AllocError>
     ensures ok { IfOk result (Came (spec.plan (map string_bytes words.now))
         (files_seen F.contents F.calls F.faults files.old) (files_seen F.contents F.calls F.faults files.new)) }
     ensures err { OnErr result (Starved (spec.plan (map string_bytes words.now))
         (files_seen F.contents F.calls F.faults files.old) (files_seen F.contents F.calls F.faults files.new)) }
 {
-    match read_words(words) {
-        Ok(Command::Run(job)) => job_answer(alloc, words, &job, Task::Run, files),
-        Ok(Command::Plain(job)) => job_answer(alloc, words, &job, Task::Plain, files),
-        Ok(Command::Trace(job)) => job_answer(alloc, words, &job, Task::Trace, files),
-        Ok(Command::Check(job)) => check_answer(alloc, words, &job, files),
-        Ok(Command::Demo(start, size, knobs)) => demo_of(alloc, start, size, &knobs),
-        Err(fault) => words_refused(alloc, words, fault),
+    let command = match read_words(words) {
+        Ok(command) => command,
+        Err(fault) => return words_refused(alloc, words, fault),
+    };
+    match command {
+        Command::Run(job)
+        | Command::Plain(job)
+        | Command::Trace(job)
+        | Command::Infer(job, _)
+        | Command::Check(job) => job_answer(rt, alloc, words, command, &job, files),
+        Command::Demo(start, size, knobs) => made_answer(rt, alloc, start, size, knobs),
     }
 }
 
@@ -45,76 +59,124 @@ fn words_refused(alloc: Global, words: &[String], fault: WordFault) -> Result<An
     Ok(failed(alloc, Status::WordsRefused, word_line(alloc, words, fault)?))
 }
 
-/// The answer of a command that runs a program.
-fn job_answer<F: Files>(
+/// The answer of a command that reads files.
+fn job_answer<R: Threads + Sync, F: Files>(
+    rt: &R,
     alloc: Global,
     words: &[String],
+    command: Command,
     job: &Job,
-    task: Task,
     files: &mut F,
 ) -> Result<Answer, AllocError>
-    requires { AreInRange job.now.knobs }
-    ensures ok { IfOk result (Came (spec.job_plan task (map string_bytes words.now) job.now)
+    requires ranges { HasRanges command }
+    requires job { job_of command ≡ Some job.now }
+    ensures ok { IfOk result (Came (spec.job_plan command (map string_bytes words.now) job.now)
         (files_seen F.contents F.calls F.faults files.old) (files_seen F.contents F.calls F.faults files.new)) }
-    ensures err { OnErr result (Starved (spec.job_plan task (map string_bytes words.now) job.now)
+    ensures err { OnErr result (Starved (spec.job_plan command (map string_bytes words.now) job.now)
         (files_seen F.contents F.calls F.faults files.old) (files_seen F.contents F.calls F.faults files.new)) }
 {
     let name = source_name(words, job);
-    match source_step(alloc, Detail::File, name, files)? {
-        SourceStep::Accepted(program) => input_answer(alloc, words, job, task, &program, files),
+    match source_step(alloc, command, name, files)? {
+        SourceStep::Accepted(source, program) => {
+            accepted_answer(
+                rt,
+                alloc,
+                words,
+                command,
+                job,
+                source.as_slice(),
+                &program,
+                files,
+            )
+        }
         SourceStep::Answered(answer) => Ok(answer),
     }
 }
 
 /// The answer where the source was read and accepted.
-fn input_answer<F: Files>(
+fn accepted_answer<R: Threads + Sync, F: Files>(
+    rt: &R,
     alloc: Global,
     words: &[String],
+    command: Command,
     job: &Job,
-    task: Task,
+    source: &[u8],
     program: &Noted,
     files: &mut F,
 ) -> Result<Answer, AllocError>
-    requires { AreInRange job.now.knobs }
-    ensures ok { IfOk result (Came (spec.after_source task (map string_bytes words.now) job.now program.now)
+    requires ranges { HasRanges command }
+    requires job { job_of command ≡ Some job.now }
+    requires source { accepted source.now ≡ Ok program.now }
+    ensures ok { IfOk result (Came (spec.after_source command (map string_bytes words.now) job.now program.now)
         (files_seen F.contents F.calls F.faults files.old) (files_seen F.contents F.calls F.faults files.new)) }
-    ensures err { OnErr result (Starved (spec.after_source task (map string_bytes words.now) job.now program.now)
-        (files_seen F.contents F.calls F.faults files.old) (files_seen F.contents F.calls F.faults files.new)) }
-{
-    match input_step(alloc, words, job, files)? {
-        InputStep::Numbers(input) => {
-            let name = source_name(words, job);
-            task_of(alloc, task, &job.knobs, name, program, input.as_slice())
-        }
-        InputStep::Answered(answer) => Ok(answer),
-    }
-}
-
-fn check_answer<F: Files>(
-    alloc: Global,
-    words: &[String],
-    job: &Job,
-    files: &mut F,
-) -> Result<Answer, AllocError>
-    ensures ok { IfOk result (Came (spec.check_plan (map string_bytes words.now) job.now)
-        (files_seen F.contents F.calls F.faults files.old) (files_seen F.contents F.calls F.faults files.new)) }
-    ensures err { OnErr result (Starved (spec.check_plan (map string_bytes words.now) job.now)
+    ensures err { OnErr result (Starved (spec.after_source command (map string_bytes words.now) job.now program.now)
         (files_seen F.contents F.calls F.faults files.old) (files_seen F.contents F.calls F.faults files.new)) }
 {
     let name = source_name(words, job);
-    match source_step(alloc, Detail::Token, name, files)? {
-        SourceStep::Accepted(_) => done(alloc, b"ok\n"),
-        SourceStep::Answered(answer) => Ok(answer),
+    if !has_loop(command, program) {
+        let line = no_loop_line(alloc, command, name)?;
+        return Ok(failed(alloc, Status::ProgramRefused, line));
+    }
+    match inputs_step(alloc, words, &job.names[1..job.count as usize], files)? {
+        InputsStep::Numbers(inputs) => {
+            answer_of(rt, alloc, command, name, source, program, inputs.as_slice())
+        }
+        InputsStep::Answered(answer) => Ok(answer),
     }
 }
 
-/// These bytes to standard output, and nothing to standard error.
-fn done(alloc: Global, out: &[u8]) -> Result<Answer, AllocError>
-    ensures { IfOk result (λ a. a ≡ spec.done out.now) }
+/// Whether a search is of a loop that the program has. Any other command needs none.
+fn has_loop(command: Command, program: &Noted) -> bool
+    ensures { result ≡ spec.has_loop command program.now }
 {
-    Ok(Answer {
-        status: Status::Done.code(),
-        out: Items::from_slice(alloc, out)?,
-        err: Items::new(alloc),
-    })
+    match command {
+        Command::Infer(_, number) => (number as usize) < program.1.len(),
+        _ => true,
+    }
+}
+
+/// The line about a program that has no loop of the number.
+fn no_loop_line(alloc: Global, command: Command, name: &str) -> Result<Bytes, AllocError>
+    ensures { IfOk result (λ line. line ≡ spec.no_loop_line command name.now) }
+{
+    match command {
+        Command::Infer(_, number) => no_loop_text(alloc, name, number),
+        _ => Ok(Items::new(alloc)),
+    }
+}
+
+/// The answer of the command that runs the generated program.
+fn made_answer<R: Threads + Sync>(
+    rt: &R,
+    alloc: Global,
+    start: u32,
+    size: u32,
+    knobs: Knobs,
+) -> Result<Answer, AllocError>
+    requires demo { IsDemo start size }
+    requires ranges { AreInRange knobs }
+    ensures { IfOk result (λ a. Answers a ≡ spec.made_plan (Demo start size knobs)) }
+{
+    let command = Command::Demo(start, size, knobs);
+    let made = make(alloc, start, size)?;
+    let source = made.source.as_slice();
+    match resolve(alloc, source) {
+        Ok(program) => {
+            let mut inputs = Items::new(alloc);
+            inputs.push(made.input)?;
+            answer_of(
+                rt,
+                alloc,
+                command,
+                "demo",
+                source,
+                &program,
+                inputs.as_slice(),
+            )
+        }
+        Err(fault) => {
+            let line = refused_line(alloc, command, "demo", source, &fault)?;
+            Ok(failed(alloc, Status::ProgramRefused, line))
+        }
+    }
 }

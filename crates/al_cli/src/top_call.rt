@@ -7,13 +7,15 @@ use crate::serving::serve;
 use al_answers::{Status, deliver};
 use al_io::{Files, Sink};
 use std::alloc::Global;
+use std::thread::Threads;
 
 /// Does what the words after the program's name ask for, and gives the status to end with: 0 done, 1 program refused,
 /// 2 words refused, 3 ended by a trap, 4 not read, 5 not written, 6 want of memory, 7 input refused. All bytes are
 /// gathered first, and each sink gets at most one put, standard output before standard error.
 ///
 /// What is promised of the call, clause by clause, stands in `specs/Promises.antt`.
-pub fn alter<F: Files, O: Sink, E: Sink>(
+pub fn alter<R: Threads + Sync, F: Files, O: Sink, E: Sink>(
+    rt: &R,
     alloc: Global,
     words: &[String],
     files: &mut F,
@@ -27,7 +29,7 @@ pub fn alter<F: Files, O: Sink, E: Sink>(
       status = result;
     }) }
 {
-    match serve(alloc, words, files) {
+    match serve(rt, alloc, words, files) {
         Ok(answer) => deliver(&answer, out, err),
         Err(_) => Status::NoMemory.code(),
     }

@@ -22,6 +22,7 @@ use Rattle.al_infer.specs.declared.tables.Found.TheVariants.{Accepted, Refused}
 use Rattle.al_infer.specs.declared.tables.Table.{Table}
 use Rattle.al_infer.specs.declared.tables.Why.{Why}
 use Rattle.al_infer.specs.declared.tables.Why.TheVariants.{Output, Conflicts, Steps}
+use Rattle.al_report.specs.Lines.{of_file}
 use Rattle.al_report.specs.Traces.{labelled}
 
 -- ---- annotations
@@ -96,6 +97,10 @@ rows_text typed func k [] fs = []
 abbrev pub best_text : Option ℕ → List ℕ
 best_text (Some k) = labelled (codes "best ") k ++ codes "\n"
 best_text None = codes "best none\n"
+
+-- a program has no loop of the number
+abbrev pub no_loop_text : List ℕ → ℕ → List ℕ
+no_loop_text name k = of_file name (labelled (codes "no loop ") k)
 
 -- the table for a loop of a function
 unfoldable pub table_text : Typed → ℕ → List Choice → Table → List ℕ

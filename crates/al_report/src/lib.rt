@@ -15,5 +15,5 @@ pub use faults::{
     refusal_text, type_text,
 };
 pub use places::bad_text;
-pub use tables::table_text;
+pub use tables::{no_loop_text, table_text};
 pub use traces::{totals_text, trace_text, trap_text};

@@ -4,6 +4,7 @@ ghost use Rattle.std.specs.Prelude.{◌≡◌, ◌++◌, slice_get, IfOk, OnOk};
 ghost use Rattle.al_report.specs.Tables as spec;
 
 use crate::builder::Text;
+use crate::lines::of_file;
 use al_core::{Addr, Bytes, Choice, LoopInfo, Obj, Red, Typed};
 use al_infer::{Found, Table, Why};
 use al_source::{CommitOrder, Policy, RedOp};
@@ -190,4 +191,13 @@ pub fn table_text(
     text.push_rows(typed, info.func, choices, table.rows.as_slice())?;
     text.push_best(table.best)?;
     Ok(text.finish())
+}
+
+/// The line about a program that has no annotated loop of the number.
+pub fn no_loop_text(alloc: Global, name: &str, number: u32) -> Result<Bytes, AllocError>
+    ensures { IfOk result (λ text. text ≡ spec.no_loop_text name.now number) }
+{
+    let mut text = Text::new(alloc);
+    text.push_labelled(b"no loop ", u128::from(number))?;
+    of_file(alloc, name, text.finish().as_slice())
 }

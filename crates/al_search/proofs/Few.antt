@@ -1,6 +1,6 @@
 -- At most 80 choices are tried.
-use Rattle.std.proofs.Common.{◌≡◌, ◌≤◌, ◌+◌, ◌*◌, ℕ, List, [], ◌∷◌, ◌++◌, Option, Some, None, length, map, take, refl, ap, subst, sym, ◌∙◌, arith, rules}
-use Rattle.std.proofs.lemmas.List.{length-append, length-map}
+use Rattle.std.proofs.Common.{◌≡◌, ◌≤◌, ◌+◌, ◌*◌, ℕ, suc, List, [], ◌∷◌, ◌++◌, Option, Some, None, length, map, take, min, Result, Ok, Err, IfOk, refl, ap, subst, sym, ◌∙◌, arith, rules}
+use Rattle.std.proofs.lemmas.List.{length-append, length-map, length-take}
 use Rattle.std.specs.List.{flat_map, filter_map}
 use Rattle.al_source.specs.declared.limits.TheConstants.{TRIED_REDUCTIONS}
 use Rattle.al_core.specs.declared.choices.Choice.{Choice}
@@ -11,6 +11,7 @@ use Rattle.al_core.specs.Lines.{with_line}
 use Rattle.al_core.specs.Loops.{PlacedLoop, program_loops}
 use Rattle.al_rules.specs.Candidates.{with_reductions, reduction_lists, all_together, reductions_of, reduction_of, firsts, variables, choices_of, choices}
 use Rattle.std.specs.Prelude.{slice_get}
+use Rattle.std.specs.declared.alloc.AllocError.{AllocError}
 
 eight_each : (ls : List (List Red)) → length (flat_map with_reductions ls) ≡ 8 * length ls
 eight_each [] = refl
@@ -21,13 +22,16 @@ eight_each (reds ∷ ls) =
 lists_few : (rs : List Red) → length rs ≤ 8 → length (reduction_lists rs) ≤ 10
 lists_few rs h = rw (length-append (map (λ (r : Red). r ∷ []) rs) (all_together rs), length-map rs (λ (r : Red). r ∷ [])) (by_length rs h)
   where
-    by_length : (rs : List Red) → length rs ≤ 8 → 1 + (length rs + length (all_together rs)) ≤ 10
+    by_length : (rs : List Red) → length rs ≤ 8 → suc (length rs + length (all_together rs)) ≤ 10
     by_length [] h = omega arith
     by_length (r ∷ []) h = omega arith
     by_length (r ∷ q ∷ rs) h = omega arith
 
 taken : {A : Type 0} (n : ℕ) (xs : List A) → length (take n xs) ≤ n
-taken n xs = search rules
+taken n xs = rw (length-take n xs) (min-le n (length xs))
+  where
+    min-le : (m n : ℕ) → min m n ≤ m
+    min-le m n = grind arith
 
 of_loop : (typed : Typed) (info : LoopInfo) (l : Option PlacedLoop) → length (choices_of typed info l) ≤ 80
 of_loop typed info None = omega arith
@@ -43,3 +47,8 @@ choices_few typed info = of_loop typed info (slice_get (program_loops typed) inf
 
 pub few : (line : ℕ) (typed : Typed) (info : LoopInfo) → length (map (with_line line) (choices typed info)) ≤ 80
 few line typed info = rw (length-map (choices typed info) (with_line line)) (choices_few typed info)
+
+pub few_lined : (line : ℕ) (typed : Typed) (info : LoopInfo) (xs : List Choice) (r : Result (List Choice) AllocError)
+    → xs ≡ choices typed info → IfOk r (λ cs. cs ≡ map (with_line line) xs) → IfOk r (λ cs. length cs ≤ 80)
+few_lined line typed info xs (Ok cs) is h = rw (h, is) (few line typed info)
+few_lined line typed info xs (Err e) is h = tt

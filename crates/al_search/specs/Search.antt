@@ -55,8 +55,13 @@ module _ (program : Noted) (number : ℕ) (cs : List Choice) (tests : List (List
   abbrev pub table_of : Table
   table_of = table told (length cs) (length tests)
 
--- its text, for the loop of a number and its entry
-abbrev pub searched : Noted → ℕ → LoopInfo → List (List ℤ) → Knobs → List ℕ
-searched program number info tests knobs =
+-- the text for an entry; a loop that is not there has no table
+abbrev pub text_by : Noted → ℕ → List (List ℤ) → Knobs → Option LoopInfo → List ℕ
+text_by program number tests knobs (Some info) =
     let cs = tried knobs.line program.0 info in
     table_text program.0 info.func cs (table_of program number cs tests knobs)
+text_by program number tests knobs None = []
+
+-- the text of the table for the loop of a number
+abbrev pub searched : Noted → ℕ → List (List ℤ) → Knobs → List ℕ
+searched program number tests knobs = text_by program number tests knobs (slice_get program.1 number)

@@ -1,8 +1,9 @@
 //! The search, and its table as a text.
-ghost use Rattle.std.specs.Prelude.{◌≡◌, ◌≤◌, IfOk, Ok, length};
+ghost use Rattle.std.specs.Prelude.{◌≡◌, ◌≤◌, IfOk, Ok, length, map};
 ghost use Rattle.al_core.specs.Limits.{AreInRange};
 ghost use Rattle.al_rules.specs.Refusals.{accepted};
 ghost use Rattle.al_source.specs.declared.limits.TheConstants.{MOST_TESTS};
+ghost use Rattle.al_core.specs.Lines.{with_line};
 ghost use Rattle.al_search.specs.Search as spec;
 
 use crate::trials::{Runs, with_line};
@@ -16,23 +17,25 @@ use std::alloc::{AllocError, Global};
 use std::snapshot::Snapshot;
 use std::thread::Threads;
 
-/// The text of the table for the loop of a number, with its entry: each choice that is tried for it runs on each test,
-/// beside the plain run, with these numbers. The error is want of memory.
+/// The text of the table for the loop of a number: each choice that is tried for it runs on each test, beside the plain
+/// run, with these numbers. There is no text where the program has no such loop. The error is want of memory.
 pub fn searched<R: Threads + Sync>(
     rt: &R,
     alloc: Global,
     source: &[u8],
     program: &Noted,
     number: u32,
-    info: &LoopInfo,
     tests: &[Items<i64>],
     knobs: Knobs,
 ) -> Result<Bytes, AllocError>
     requires source { accepted source.now ≡ Ok program.now }
     requires tests { (1 ≤ length tests.now) × (length tests.now ≤ MOST_TESTS) }
     requires ranges { AreInRange knobs }
-    ensures { IfOk result (λ text. text ≡ spec.searched program.now number info.now tests.now knobs) }
+    ensures { IfOk result (λ text. text ≡ spec.searched program.now number tests.now knobs) }
 {
+    let Some(info) = program.1.as_slice().get(number as usize) else {
+        return Ok(Items::new(alloc));
+    };
     let tried = tried(alloc, knobs.line, &program.0, info)?;
     let table = table_of(
         rt,
@@ -77,7 +80,6 @@ fn table_of<R: Threads + Sync>(
 }
 
 /// The choices that are tried, with lines of so many words.
-#[tactic(auto, using(crate::proofs::Few::few))]
 fn tried(
     alloc: Global,
     line: u32,
@@ -88,9 +90,16 @@ fn tried(
     ensures few { IfOk result (λ cs. length cs ≤ 80) }
 {
     let list = candidates(alloc, typed, info)?;
-    let mut tried = Items::new(alloc);
-    for choice in list.as_slice() {
-        tried.push(with_line(alloc, line, choice)?)?;
+    with_lines(alloc, line, list.as_slice())
+}
+
+/// The choices, each with lines of so many words.
+fn with_lines(alloc: Global, line: u32, list: &[Choice]) -> Result<Items<Choice>, AllocError>
+    ensures { IfOk result (λ cs. cs ≡ map (with_line line) list.now) }
+{
+    let mut lined = Items::new(alloc);
+    for choice in list {
+        lined.push(with_line(alloc, line, choice)?)?;
     }
-    Ok(tried)
+    Ok(lined)
 }

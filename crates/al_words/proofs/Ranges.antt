@@ -1,5 +1,5 @@
 -- Every number that a walk takes is in its range.
-use Rattle.std.proofs.Common.{◌≡◌, ◌≤◌, ℕ, ◌+◌, Option, None, Some, Result, Ok, Err, IfOk, IfSome, is_some, Bool, true, false, ◌&&◌, if◌then◌else◌, nat_le, List, [], ◌∷◌, unwrap_or, codes, nat_eq, refl, sym, subst, arith, rules}
+use Rattle.std.proofs.Common.{◌≡◌, ◌≤◌, ℕ, ◌+◌, Option, None, Some, Result, Ok, Err, IfOk, IfSome, is_some, Bool, true, false, ◌&&◌, ◌||◌, ◌==◌, if◌then◌else◌, nat_le, List, [], ◌∷◌, unwrap_or, codes, nat_eq, refl, sym, subst, arith, rules}
 use Rattle.std.specs.Bool.{⊤}
 use Rattle.std.specs.List.{starts_with}
 use Rattle.al_source.specs.Steps.{and_then}
@@ -19,7 +19,7 @@ use Rattle.al_words.specs.declared.verb.Verb.TheVariants as verb
 use Rattle.al_words.specs.declared.walk.Waiting.{Waiting}
 use Rattle.al_words.specs.declared.walk.Walk.{Walk}
 use Rattle.al_words.specs.Words.{within, number_in, value_of, taken, takes_number, least, greatest, give, knobs_of, begin, valued, optioned, named, step_by, step, walked, word_at, place, with_size, with_start, asked, job_of, ended, after_walk, by_verb, command, verb_of, takes, loop_of, given_to, knob_for}
-use Rattle.al_words.specs.Ranges.{HasRanges, HasTests}
+use Rattle.al_words.specs.Ranges.{HasRanges, IsJob}
 
 abbrev IsIn : ℕ → ℕ → ℕ → Type 0
 IsIn least most n = (least ≤ n) × (n ≤ most)
@@ -138,21 +138,36 @@ start_in words j (Some start) i f =
     size_in (place j.names 1) start j _ (f start refl).1 i (λ n e. is_within 1 MOST_SIZE (numeral (word_at words (place j.names 1))) n e)
 start_in words j None i f = tt
 
-has_tests : (j : Job) → (nat_le 2 j.count && nat_le j.count (MOST_TESTS + 1)) ≡ true → HasTests j
-has_tests j t = by_test (nat_le 2 j.count) (nat_le j.count (MOST_TESTS + 1)) refl refl t
+-- the number of names that a command takes
+one_or_two : (n : ℕ) → (n == 1 || n == 2) ≡ true → (1 ≤ n) × (n ≤ MOST_TESTS + 1)
+one_or_two n t = by_test (n == 1) (n == 2) refl refl t
   where
-    by_test : (a b : Bool) → nat_le 2 j.count ≡ a → nat_le j.count (MOST_TESTS + 1) ≡ b → (a && b) ≡ true → HasTests j
+    by_test : (a b : Bool) → (n == 1) ≡ a → (n == 2) ≡ b → (a || b) ≡ true → (1 ≤ n) × (n ≤ MOST_TESTS + 1)
+    by_test true b p q t = let is : n ≡ 1 = search (rules, p) in rw is (omega arith, omega arith)
+    by_test false true p q t = let is : n ≡ 2 = search (rules, q) in rw is (omega arith, omega arith)
+    by_test false false p q t = absurd cc
+
+two_to_most : (n : ℕ) → (nat_le 2 n && nat_le n (MOST_TESTS + 1)) ≡ true → (2 ≤ n) × (n ≤ MOST_TESTS + 1)
+two_to_most n t = by_test (nat_le 2 n) (nat_le n (MOST_TESTS + 1)) refl refl t
+  where
+    by_test : (a b : Bool) → nat_le 2 n ≡ a → nat_le n (MOST_TESTS + 1) ≡ b → (a && b) ≡ true → (2 ≤ n) × (n ≤ MOST_TESTS + 1)
     by_test true true p q t = (search (rules, p), search (rules, q))
     by_test true false p q t = absurd cc
     by_test false b p q t = absurd cc
 
+one : (n : ℕ) → (n == 1) ≡ true → (1 ≤ n) × (n ≤ MOST_TESTS + 1)
+one n t = let is : n ≡ 1 = search (rules, t) in rw is (omega arith, omega arith)
+
 asked_in : (words : List (List ℕ)) (v : Verb) (j : Job) (k : ℕ) → takes v j.count ≡ true → AreInRange j.knobs
     → IfOk (asked words v j k) HasRanges
-asked_in words verb.Run j k t i = i
-asked_in words verb.Plain j k t i = i
-asked_in words verb.Trace j k t i = i
-asked_in words verb.Infer j k t i = (has_tests j t, i)
-asked_in words verb.Check j k t i = i
+asked_in words verb.Run j k t i = record { names = one_or_two j.count t; knobs = i }
+asked_in words verb.Plain j k t i = record { names = one_or_two j.count t; knobs = i }
+asked_in words verb.Trace j k t i = record { names = one_or_two j.count t; knobs = i }
+asked_in words verb.Infer j k t i =
+    let many = two_to_most j.count t in
+    let least = many.0 in
+    (record { names = (omega arith, many.1); knobs = i }, many.0)
+asked_in words verb.Check j k t i = record { names = one j.count t; knobs = i }
 asked_in words verb.Demo j k t i = start_in words j _ i (λ n e. is_within 0 MOST_START (numeral (word_at words (place j.names 0))) n e)
 
 ended_in : (words : List (List ℕ)) (w : Walk) (r : Option Waiting) → InRange w.given → IfOk (ended words w r) HasRanges

@@ -11,14 +11,16 @@ pub record IsDemo (start size : ℕ) : Type 0 where
   pub start_fits : start ≤ MOST_START
   pub size_fits : (1 ≤ size) × (size ≤ MOST_SIZE)
 
--- behind the source stands at least one input, and at most as many as there may be tests
-abbrev pub HasTests : Job → Type 0
-HasTests job = (2 ≤ job.count) × (job.count ≤ MOST_TESTS + 1)
+-- it names a source, and behind it at most as many inputs as there may be tests
+pub record IsJob (job : Job) : Type 0 where
+  pub names : (1 ≤ job.count) × (job.count ≤ MOST_TESTS + 1)
+  pub knobs : AreInRange job.knobs
 
+-- a search has at least one input
 abbrev pub HasRanges : Command → Type 0
-HasRanges (Run job) = AreInRange job.knobs
-HasRanges (Plain job) = AreInRange job.knobs
-HasRanges (Trace job) = AreInRange job.knobs
-HasRanges (Infer job k) = HasTests job × AreInRange job.knobs
-HasRanges (Check job) = AreInRange job.knobs
+HasRanges (Run job) = IsJob job
+HasRanges (Plain job) = IsJob job
+HasRanges (Trace job) = IsJob job
+HasRanges (Infer job k) = IsJob job × (2 ≤ job.count)
+HasRanges (Check job) = IsJob job
 HasRanges (Demo start size knobs) = IsDemo start size × AreInRange knobs

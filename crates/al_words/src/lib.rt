@@ -10,7 +10,6 @@ mod walk;
 
 pub use command::{Command, Job, WordFault};
 pub use read::read_words;
-pub use verb::Verb;
 
 #[cfg(test)]
 mod tests;

@@ -8,6 +8,7 @@ use std::process::ExitCode;
 fn main(rt: HostRuntime) -> ExitCode {
     let (mut out, mut err) = (HostOut::new(rt.stdout()), HostErr::new(rt.stderr()));
     ExitCode::from(program(
+        &rt,
         rt.alloc(),
         &words(&rt),
         &mut HostFiles::new(&rt),

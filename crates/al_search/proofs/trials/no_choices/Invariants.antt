@@ -6,4 +6,4 @@ use Rattle.al_search.proofs.trials.no_choices.Given as goal
 abbrev pub invariant-loop : goal.invariant-loop
 invariant-loop l =
     let none : LoopInfo → Option Choice = λ info. None in
-    l.choices.items ++ map none (drop l.index l.items) ≡ map none l.items
+    l.choices.items ++ map none (drop l.index l.infos) ≡ map none l.infos
