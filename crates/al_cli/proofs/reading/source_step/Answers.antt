@@ -18,5 +18,5 @@ returns-in_err-line-in-Err-clause-err g c =
     on_any_err c.from_residual-in_err-line-in-Err.result _
     (source_starved c.args.detail c.args.name.now c.in-Bytes.source _ _ c.in_ok-source.field-0 c.in-Bytes.is c.in_ok-source.ensures.ok)
 
-pub returns-in-Err-clause-ok : goal.returns-in-Err-clause-ok
-returns-in-Err-clause-ok g c = ?
+pub returns-clause-ok : goal.returns-clause-ok
+returns-clause-ok g c = ?
