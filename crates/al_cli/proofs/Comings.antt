@@ -1,5 +1,5 @@
 -- What the parts of a plan come to.
-use Rattle.std.proofs.Common.{◌≡◌, ◌≢◌, ℕ, List, [], Option, None, Some, Result, Ok, Err, IfOk, OnErr, ℤ, refl, sym, ap, subst, ◌∙◌}
+use Rattle.std.proofs.Common.{◌≡◌, ◌≢◌, ℕ, List, [], Option, None, Some, Result, Ok, Err, IfOk, OnErr, IsSomeAnd, ℤ, refl, sym, ap, subst, ◌∙◌}
 use Rattle.std.specs.declared.alloc.AllocError.{AllocError}
 use Rattle.al_core.specs.declared.choices.Knobs.{Knobs}
 use Rattle.al_rules.specs.Refusals.{Noted, accepted}
@@ -73,10 +73,16 @@ module _ (d : Detail) (name bytes : List ℕ) (f g : FilesSeen) (r : FileRead) (
     starved = λ next last s. later name most_of_source (on_source d name next) f g last bytes source_read.0 source_read.1 (rw is s);
   }
 
-  pub source_refused : (cause : Refusal) (a : Answer) → accepted bytes ≡ Err cause → a ≡ failed 1 (refused_line d name bytes cause)
+  source_refused : (cause : Refusal) (a : Answer) → accepted bytes ≡ Err cause → a ≡ failed 1 (refused_line d name bytes cause)
       → (next : Noted → Plan) → Came (source_plan d name next) f g a
   source_refused cause a is same next = read_on name most_of_source (on_source d name next) f g g bytes a source_read.0 source_read.1
       (rw is (came_answer _ a g same))
+
+  -- of the cause of a fault, and the line about it
+  pub source_told : (cause : Option Refusal) (line : List ℕ) (a : Answer) → Fails (accepted bytes) cause
+      → IsSomeAnd cause (λ of. line ≡ refused_line d name bytes of) → a ≡ failed 1 line → (next : Noted → Plan) → Came (source_plan d name next) f g a
+  source_told (Some cause) line a is told same = source_refused cause a is (same ∙ ap (failed 1) told)
+  source_told None line a is told same = absurd told
 
   pub source_starved : (next : Noted → Plan) → Starved (source_plan d name next) f g
   source_starved next = later name most_of_source (on_source d name next) f g g bytes source_read.0 source_read.1 (at_once _ g)
