@@ -1,5 +1,5 @@
 -- What the parts of a plan come to.
-use Rattle.std.proofs.Common.{◌≡◌, ◌≢◌, ℕ, List, [], Option, None, Some, Result, Ok, Err, IfOk, OnErr, ℤ, refl, sym, ap, subst, ◌∙◌}
+use Rattle.std.proofs.Common.{◌≡◌, ◌≢◌, ℕ, List, [], Option, None, Some, Result, Ok, Err, IfOk, OnErr, IsSomeAnd, ℤ, refl, sym, ap, subst, ◌∙◌}
 use Rattle.std.specs.declared.alloc.AllocError.{AllocError}
 use Rattle.al_core.specs.declared.choices.Knobs.{Knobs}
 use Rattle.al_rules.specs.Refusals.{Noted, accepted}
@@ -59,30 +59,36 @@ task_shown t knobs name own program ns ms a same numbers is = is ∙ ap (λ n. t
 
 -- ---- a source
 
+abbrev on_source : Detail → List ℕ → (Noted → Plan) → List ℕ → Plan
+on_source d name next source = if_accepted (refused_line d name source) next (accepted source)
+
 module _ (d : Detail) (name bytes : List ℕ) (f g : FilesSeen) (r : FileRead) (read : r ≡ file.Bytes bytes)
     (reading : Reading name most_of_source f g r) where
-  on_source : (Noted → Plan) → List ℕ → Plan
-  on_source next source = if_accepted (refused_line d name source) next (accepted source)
-
   source_read : ReadsOnce f g × IsBeginning f name most_of_source bytes
   source_read = read_bytes name most_of_source f g r bytes read reading
 
   pub source_goes : (program : Noted) → accepted bytes ≡ Ok program → GoesOn (source_plan d name) f g program
   source_goes program is = record {
-    came = λ next last a c. read_on name most_of_source (on_source next) f g last bytes a source_read.0 source_read.1 (rw is c);
-    starved = λ next last s. later name most_of_source (on_source next) f g last bytes source_read.0 source_read.1 (rw is s);
+    came = λ next last a c. read_on name most_of_source (on_source d name next) f g last bytes a source_read.0 source_read.1 (rw is c);
+    starved = λ next last s. later name most_of_source (on_source d name next) f g last bytes source_read.0 source_read.1 (rw is s);
   }
 
-  pub source_refused : (cause : Refusal) (a : Answer) → accepted bytes ≡ Err cause → a ≡ failed 1 (refused_line d name bytes cause)
+  source_refused : (cause : Refusal) (a : Answer) → accepted bytes ≡ Err cause → a ≡ failed 1 (refused_line d name bytes cause)
       → (next : Noted → Plan) → Came (source_plan d name next) f g a
-  source_refused cause a is same next = read_on name most_of_source (on_source next) f g g bytes a source_read.0 source_read.1
+  source_refused cause a is same next = read_on name most_of_source (on_source d name next) f g g bytes a source_read.0 source_read.1
       (rw is (came_answer _ a g same))
 
+  -- of the cause of a fault, and the line about it
+  pub source_told : (cause : Option Refusal) (line : List ℕ) (a : Answer) → Fails (accepted bytes) cause
+      → IsSomeAnd cause (λ of. line ≡ refused_line d name bytes of) → a ≡ failed 1 line → (next : Noted → Plan) → Came (source_plan d name next) f g a
+  source_told (Some cause) line a is told same = source_refused cause a is (same ∙ ap (failed 1) told)
+  source_told None line a is told same = absurd told
+
   pub source_starved : (next : Noted → Plan) → Starved (source_plan d name next) f g
-  source_starved next = later name most_of_source (on_source next) f g g bytes source_read.0 source_read.1 (at_once _ g)
+  source_starved next = later name most_of_source (on_source d name next) f g g bytes source_read.0 source_read.1 (at_once _ g)
 
 pub source_untried : (d : Detail) (name : List ℕ) (f g : FilesSeen) → TriesOnce f g → (next : Noted → Plan) → Starved (source_plan d name next) f g
-source_untried d name f g once next = at_read name most_of_source (λ source. if_accepted (refused_line d name source) next (accepted source)) f g once
+source_untried d name f g once next = at_read name most_of_source (on_source d name next) f g once
 
 -- the source of this name was accepted
 pub source_accepted : (d : Detail) (name own : List ℕ) (f g : FilesSeen) (r : SourceStep) (program : Noted) → name ≡ own

@@ -99,11 +99,19 @@ valid_status words files (to_show start size knobs program e is) =
 
 -- ---- a source whose tokens derive no program
 
+bad_next : (name source : List ℕ) (bad : BadTokens) (next : Noted → Plan) → IsBadIn source bad
+    → if_accepted (refused_line detail.Token name source) next (accepted source) ≡ Answers (failed 1 (bad_line name source bad))
+bad_next name source bad next h =
+    ap (if_accepted (refused_line detail.Token name source) next) (bad_refused source bad h)
+    ∙ ap (λ r. Answers (failed 1 (bad_line_or_none name source r))) (bad_one source bad h)
+
 bad_played : (files : Contents) (name source : List ℕ) (bad : BadTokens) (next : Noted → Plan) → contents_of files name ≡ Some source
     → IsBadIn source bad → played files (source_plan detail.Token name next) ≡ failed 1 (bad_line name source bad)
 bad_played files name source bad next there h =
     let whole : take most_of_source source ≡ source = take_all most_of_source source (omega (arith, h.short)) in
-    rw (there, whole, bad_refused source bad h, bad_one source bad h) refl
+    rw there (subst
+    (λ bytes. played files (if_accepted (refused_line detail.Token name bytes) next (accepted bytes)) ≡ failed 1 (bad_line name source bad))
+    (sym whole) (ap (played files) (bad_next name source bad next h)))
 
 pub bad_shows : (words : List (List ℕ)) (files : Contents) (job : Job) (source : List ℕ) (bad : BadTokens) → command words ≡ Ok (Check job)
     → contents_of files (source_name words job) ≡ Some source → IsBadIn source bad

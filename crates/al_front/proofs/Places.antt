@@ -14,7 +14,7 @@ use Rattle.al_grammar.specs.Beginnings.{IsFirstBad}
 use Rattle.al_grammar.specs.ProgramParser.{all_items}
 use Rattle.al_grammar.proofs.TokenLaws.{reading_spells}
 use Rattle.al_grammar_laws.specs.Places.{place_of}
-use Rattle.al_grammar_laws.proofs.FirstBad.{stops_at_first_bad, one_place}
+use Rattle.al_grammar_laws.proofs.FirstBad.{stops_at_first_bad, one_place, place_within}
 use Rattle.al_core.specs.declared.typed_tree.Typed.{Typed}
 use Rattle.al_rules.specs.declared.faults.Refusal.{Refusal}
 use Rattle.al_rules.specs.declared.faults.Refusal.TheVariants.{Grammar, Layout, Types, Notes, TooManyNodes}
@@ -120,6 +120,9 @@ bad_read source bad h = spelled_tokens source bad.tokens (λ long. absurd (omega
 
 pub bad_one : (source : Bytes) (bad : BadTokens) → IsBadIn source bad → bad_tokens source ≡ Some bad
 bad_one source bad h = ap placed_in (bad_read source bad h) ∙ ap (placed bad.tokens) (one_place bad.tokens (place_of bad.tokens (all_items bad.tokens)) (Some bad.place) (stops_at_first_bad bad.tokens) h.first)
+
+pub bad_within : (source : Bytes) (bad : BadTokens) → IsBadIn source bad → (0 < length bad.tokens) × (bad.place ≤ length bad.tokens)
+bad_within source bad h = place_within bad.tokens bad.place h.first
 
 pub bad_refused : (source : Bytes) (bad : BadTokens) → IsBadIn source bad → accepted source ≡ Err Grammar
 unfolding accepted
