@@ -1,5 +1,5 @@
 -- Clauses of the top call that speak of valid words, and of refused ones.
-use Rattle.std.proofs.Common.{◌≡◌, ◌≢◌, ◌⊎◌, inl, inr, ℕ, List, [], ◌∷◌, Option, None, Some, Result, Ok, Err, IfSome, IsErr, ℤ, refl, sym, ap, subst, ◌∙◌, arith}
+use Rattle.std.proofs.Common.{◌≡◌, ◌≢◌, ◌⊎◌, inl, inr, ℕ, ◌<◌, length, true, List, [], ◌∷◌, Option, None, Some, Result, Ok, Err, IfSome, IsErr, ℤ, refl, sym, ap, subst, ◌∙◌, arith, rules}
 use Rattle.al_rules.specs.Refusals.{Noted}
 use Rattle.al_front.specs.declared.fault.BadTokens.{BadTokens}
 use Rattle.al_front.specs.Places.{IsBadIn}
@@ -13,23 +13,35 @@ use Rattle.al_answers.specs.Written.{IsOneOf, Writes}
 use Rattle.al_answers.proofs.Options.{if_so}
 use Rattle.al_answers.proofs.Outcomes.{at, is_as_played, only_answer}
 use Rattle.al_words.specs.declared.command.Command.{Command}
-use Rattle.al_words.specs.declared.command.Command.TheVariants.{Run, Check}
+use Rattle.al_words.specs.declared.command.Command.TheVariants.{Run, Infer, Check}
 use Rattle.al_words.specs.declared.command.Job.{Job}
 use Rattle.al_words.specs.declared.command.WordFault.{WordFault}
 use Rattle.al_words.specs.Words.{command}
-use Rattle.al_cli.specs.declared.tasks.Task.TheVariants as task
+use Rattle.al_words.specs.Jobs.{source_name}
+use Rattle.al_search.specs.Search.{searched}
 use Rattle.al_cli.specs.Lines.{word_line}
-use Rattle.al_cli.specs.Shown.{lockstep_report, bytes_of, bad_line, source_name, plan_of, plan, shown}
+use Rattle.al_cli.specs.Shown.{lockstep_report, first_input, done, bytes_of, has_loop, bad_line, plan_of, plan, shown}
 use Rattle.al_cli.specs.Headline.{Holds, IsValid}
 use Rattle.al_cli.proofs.Valid.{holds_shows, bad_shows, valid_status}
 
 module _ (words : List (List ℕ)) (f g : FilesSeen) (o p e q : SinkSeen) where
-  pub headline : (s : ℕ) → Outcome (plan words) (at f g o p e q s) → (job : Job) → (program : Noted) → (input : List ℤ) → command words ≡ Ok (Run job)
+  pub headline : (s : ℕ) → Outcome (plan words) (at f g o p e q s) → (job : Job) → (program : Noted) → (inputs : List (List ℤ)) → command words ≡ Ok (Run job)
       → DidNotRise f.faults g.faults → DidNotRise o.faults p.faults → DidNotRise e.faults q.faults → s ≢ 6
-      → IfSome f.contents (λ files. Holds words files job program input → Writes (bytes_of (source_name words job) (lockstep_report program input job.knobs))
-      (at f g o p e q s))
-  headline s outcome job program input is still still_out still_err not_six =
-      if_so f.contents _ _ (λ files w h. subst (λ a. Writes a (at f g o p e q s)) (holds_shows words files task.Run job program input is h) w)
+      → IfSome f.contents (λ files. Holds words files job program inputs
+      → Writes (bytes_of (source_name words job) (lockstep_report program (first_input inputs) job.knobs)) (at f g o p e q s))
+  headline s outcome job program inputs is still still_out still_err not_six =
+      if_so f.contents _ _
+      (λ files w h. subst (λ a. Writes a (at f g o p e q s)) (holds_shows words files (Run job) job program inputs is refl refl h) w)
+      (is_as_played (plan words) f g o p e q s outcome still still_out still_err not_six)
+
+  pub table : (s : ℕ) → Outcome (plan words) (at f g o p e q s) → (job : Job) (k : ℕ) (program : Noted) (inputs : List (List ℤ))
+      → command words ≡ Ok (Infer job k) → DidNotRise f.faults g.faults → DidNotRise o.faults p.faults → DidNotRise e.faults q.faults → s ≢ 6
+      → k < length program.1
+      → IfSome f.contents (λ files. Holds words files job program inputs → Writes (done (searched program k inputs job.knobs)) (at f g o p e q s))
+  table s outcome job k program inputs is still still_out still_err not_six there =
+      let has : has_loop (Infer job k) program ≡ true = search (rules, there) in
+      if_so f.contents _ _
+      (λ files w h. subst (λ a. Writes a (at f g o p e q s)) (holds_shows words files (Infer job k) job program inputs is refl has h) w)
       (is_as_played (plan words) f g o p e q s outcome still still_out still_err not_six)
 
   pub bad_token : (s : ℕ) → Outcome (plan words) (at f g o p e q s) → (job : Job) (source : List ℕ) (bad : BadTokens) → command words ≡ Ok (Check job)

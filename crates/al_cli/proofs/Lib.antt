@@ -1,5 +1,6 @@
 pub mod Plans
 pub mod Valid
+pub mod Onward
 pub mod Comings
 pub mod Told
 pub mod Clauses

@@ -1,10 +1,9 @@
 -- What holds of all answers of the plan of words.
-use Rattle.std.proofs.Common.{◌≡◌, ◌⊎◌, inl, inr, ℕ, ◌==◌, Bool, true, false, if◌then◌else◌, List, [], ◌∷◌, codes, Option, None, Some, Result, Ok, Err, IsErr, IsSomeAnd, ℤ, refl, sym, ap, subst, ◌∙◌, arith}
-use Rattle.al_core.specs.declared.choices.Knobs.{Knobs}
+use Rattle.std.proofs.Common.{◌≡◌, ◌⊎◌, inl, inr, ℕ, Bool, true, false, if◌then◌else◌, nat_lt, length, List, [], ◌∷◌, codes, Option, None, Some, Result, Ok, Err, IsSomeAnd, ℤ, refl, ap, subst}
 use Rattle.al_core.specs.declared.reports.Ending.{Ending}
 use Rattle.al_core.specs.declared.reports.Ending.TheVariants as ending
 use Rattle.al_rules.specs.Refusals.{Noted, accepted}
-use Rattle.al_gen.specs.Generated.{source as made_source, input as made_input}
+use Rattle.al_gen.specs.Generated.{source as made_source}
 use Rattle.al_report.specs.Faults.{refusal_text, input_cause_text}
 use Rattle.al_rules.specs.declared.faults.Refusal.{Refusal}
 use Rattle.al_rules.specs.declared.faults.Refusal.TheVariants.{Lexical, Grammar, Layout, Types, Notes, TooManyNodes}
@@ -17,81 +16,126 @@ use Rattle.al_answers.specs.Written.{IsOneOf}
 use Rattle.al_text.specs.declared.faults.InputCause.{InputCause}
 use Rattle.al_text.specs.Numbers.{numbers_of}
 use Rattle.al_words.specs.declared.command.Command.{Command}
-use Rattle.al_words.specs.declared.command.Command.TheVariants.{Run, Plain, Trace, Check, Demo}
+use Rattle.al_words.specs.declared.command.Command.TheVariants.{Run, Plain, Trace, Infer, Check, Demo}
 use Rattle.al_words.specs.declared.command.Job.{Job}
 use Rattle.al_words.specs.declared.command.WordFault.{WordFault}
 use Rattle.al_words.specs.Words.{command}
-use Rattle.al_cli.specs.declared.tasks.Task.{Task}
-use Rattle.al_cli.specs.declared.tasks.Task.TheVariants as task
-use Rattle.al_cli.specs.declared.tasks.Detail.{Detail}
-use Rattle.al_cli.specs.declared.tasks.Detail.TheVariants as detail
+use Rattle.al_words.specs.Jobs.{job_of, source_name, input_names}
 use Rattle.al_cli.specs.Lines.{word_line}
-use Rattle.al_cli.specs.Shown.{lockstep_report, done, ended, totals_of, task_of, bad_line_or_none, refused_line, if_accepted, source_plan, if_numbers, input_plan, source_name, input_name, after_source, job_plan, check_plan, demo_plan, plan_of, plan, job_names, names_by, names_of}
-use Rattle.al_cli.specs.Why.{asks, to_run, to_check, to_show, AreNumbers, Why, words_refused, source_refused, token_bad, input_refused, program_run, program_accepted, program_shown}
+use Rattle.al_cli.specs.Shown.{answer_of, ended, bad_line_or_none, refused_line, if_accepted, source_plan, has_loop, no_loop_line, if_numbers, input_plan, inputs_plan, after_source, job_plan, made_inputs, made_plan, plan_by, plan_of, plan, job_names, names_by, names_of}
+use Rattle.al_cli.specs.Why.{IsSource, TellsCause, IsNamed, AreNumbers, Why, words_refused, source_refused, token_bad, no_loop, input_refused, all_done, made_done}
 
 -- ---- parts of plans
 
-source_all : (P : Answer → Type 0) (d : Detail) (name : List ℕ) (next : Noted → Plan)
-    → ((source : List ℕ) (cause : Refusal) → accepted source ≡ Err cause → P (failed 1 (refused_line d name source cause)))
+source_all : (P : Answer → Type 0) (c : Command) (name : List ℕ) (next : Noted → Plan)
+    → ((source : List ℕ) (cause : Refusal) → accepted source ≡ Err cause → P (failed 1 (refused_line c name source cause)))
     → ((source : List ℕ) (program : Noted) → accepted source ≡ Ok program → AllAnswers P (next program))
-    → AllAnswers P (source_plan d name next)
-source_all P d name next refused on = λ source. by_result source (accepted source) refl
+    → AllAnswers P (source_plan c name next)
+source_all P c name next refused on = λ source. by_result source (accepted source) refl
   where
-    by_result : (source : List ℕ) (r : Result Noted Refusal) → accepted source ≡ r → AllAnswers P (if_accepted (refused_line d name source) next r)
+    by_result : (source : List ℕ) (r : Result Noted Refusal) → accepted source ≡ r → AllAnswers P (if_accepted (refused_line c name source) next r)
     by_result source (Ok program) e = on source program e
     by_result source (Err cause) e = refused source cause e
 
-input_all : (P : Answer → Type 0) (name : Option (List ℕ)) (next : List ℤ → Plan)
-    → ((n text : List ℕ) (fault : InputCause) → name ≡ Some n → numbers_of text ≡ Err fault → P (failed 7 (input_cause_text n fault)))
-    → ((input : List ℤ) → AreNumbers name input → AllAnswers P (next input))
+input_all : (P : Answer → Type 0) (name : List ℕ) (next : List ℤ → Plan)
+    → ((text : List ℕ) (fault : InputCause) → numbers_of text ≡ Err fault → P (failed 7 (input_cause_text name fault)))
+    → ((ns : List ℤ) → ((text : List ℕ) × (numbers_of text ≡ Ok ns)) → AllAnswers P (next ns))
     → AllAnswers P (input_plan name next)
-input_all P None next refused on = on [] refl
-input_all P (Some n) next refused on = λ text. by_result text (numbers_of text) refl
+input_all P name next refused on = λ text. by_result text (numbers_of text) refl
   where
-    by_result : (text : List ℕ) (r : Result (List ℤ) InputCause) → numbers_of text ≡ r → AllAnswers P (if_numbers n next r)
-    by_result text (Ok input) e = on input (text, e)
-    by_result text (Err fault) e = refused n text fault refl e
+    by_result : (text : List ℕ) (r : Result (List ℤ) InputCause) → numbers_of text ≡ r → AllAnswers P (if_numbers name next r)
+    by_result text (Ok ns) e = on ns (text, e)
+    by_result text (Err fault) e = refused text fault e
+
+inputs_all : (P : Answer → Type 0) (names : List (List ℕ)) (next : List (List ℤ) → Plan)
+    → ((name text : List ℕ) (fault : InputCause) → IsNamed name names → numbers_of text ≡ Err fault → P (failed 7 (input_cause_text name fault)))
+    → ((inputs : List (List ℤ)) → AreNumbers names inputs → AllAnswers P (next inputs))
+    → AllAnswers P (inputs_plan names next)
+inputs_all P [] next refused on = on [] tt
+inputs_all P (name ∷ names) next refused on =
+    input_all P name (λ ns. inputs_plan names (λ others. next (ns ∷ others))) (λ text fault e. refused name text fault (inl refl) e)
+    (λ ns is. inputs_all P names (λ others. next (ns ∷ others)) (λ n text fault among e. refused n text fault (inr among) e)
+    (λ others are. on (ns ∷ others) (is, are)))
 
 -- ---- every answer has its cause
 
 module _ (words : List (List ℕ)) where
-  job_why : (t : Task) (job : Job) → command words ≡ Ok (asks t job) → AllAnswers (Why words) (job_plan t words job)
-  job_why t job e =
-      source_all (Why words) detail.File (source_name words job) (after_source t words job)
-      (λ source cause h. source_refused (source_name words job) source cause (to_run t job e refl) h) (λ source program h.
-      input_all (Why words) (input_name words job) _ (λ n text fault is g. input_refused t job n text fault e is g)
-      (λ input g. program_run t job source program input e h g))
-
   checked_why : (job : Job) (source : List ℕ) (cause : Refusal) → command words ≡ Ok (Check job) → accepted source ≡ Err cause
-      → Why words (failed 1 (refused_line detail.Token (source_name words job) source cause))
+      → Why words (failed 1 (refused_line (Check job) (source_name words job) source cause))
   checked_why job source Grammar e h = by_tokens (bad_tokens source) (bad_told source h)
     where
       by_tokens : (r : Option BadTokens) → IsSomeAnd r (IsBadIn source) → Why words (failed 1 (bad_line_or_none (source_name words job) source r))
       by_tokens (Some bad) is = token_bad job source bad e is
       by_tokens None is = absurd is
-  checked_why job source (Lexical cause) e h = source_refused _ source (Lexical cause) (to_check job e refl (λ same. cc)) h
-  checked_why job source (Layout cause) e h = source_refused _ source (Layout cause) (to_check job e refl (λ same. cc)) h
-  checked_why job source (Types cause) e h = source_refused _ source (Types cause) (to_check job e refl (λ same. cc)) h
-  checked_why job source (Notes cause) e h = source_refused _ source (Notes cause) (to_check job e refl (λ same. cc)) h
-  checked_why job source TooManyNodes e h = source_refused _ source TooManyNodes (to_check job e refl (λ same. cc)) h
+  checked_why job source (Lexical cause) e h = source_refused (Check job) _ source (Lexical cause) e refl h (λ same. cc)
+  checked_why job source (Layout cause) e h = source_refused (Check job) _ source (Layout cause) e refl h (λ same. cc)
+  checked_why job source (Types cause) e h = source_refused (Check job) _ source (Types cause) e refl h (λ same. cc)
+  checked_why job source (Notes cause) e h = source_refused (Check job) _ source (Notes cause) e refl h (λ same. cc)
+  checked_why job source TooManyNodes e h = source_refused (Check job) _ source TooManyNodes e refl h (λ same. cc)
 
-  check_why : (job : Job) → command words ≡ Ok (Check job) → AllAnswers (Why words) (check_plan words job)
-  check_why job e =
-      source_all (Why words) detail.Token (source_name words job) _ (λ source cause h. checked_why job source cause e h)
-      (λ source program h. program_accepted job source program e h)
+  refused_why : (c : Command) (job : Job) (source : List ℕ) (cause : Refusal) → command words ≡ Ok c → job_of c ≡ Some job
+      → accepted source ≡ Err cause → Why words (failed 1 (refused_line c (source_name words job) source cause))
+  refused_why (Run job) own source cause e is h =
+      let same : own ≡ job = cc in source_refused (Run job) _ source cause e (ap (source_name words) same) h tt
+  refused_why (Plain job) own source cause e is h =
+      let same : own ≡ job = cc in source_refused (Plain job) _ source cause e (ap (source_name words) same) h tt
+  refused_why (Trace job) own source cause e is h =
+      let same : own ≡ job = cc in source_refused (Trace job) _ source cause e (ap (source_name words) same) h tt
+  refused_why (Infer job k) own source cause e is h =
+      let same : own ≡ job = cc in source_refused (Infer job k) _ source cause e (ap (source_name words) same) h tt
+  refused_why (Check job) own source cause e is h =
+      let same : job ≡ own = cc in
+      subst (λ j. Why words (failed 1 (refused_line (Check job) (source_name words j) source cause))) same (checked_why job source cause e h)
+  refused_why (Demo start size knobs) own source cause e is h = absurd cc
 
-  demo_why : (start size : ℕ) (knobs : Knobs) → command words ≡ Ok (Demo start size knobs) → (r : Result Noted Refusal) → accepted made_source ≡ r
-      → AllAnswers (Why words)
-      (if_accepted (refusal_text (codes "demo")) (λ program. Answers (totals_of (codes "demo") (lockstep_report program (made_input start size) knobs))) r)
-  demo_why start size knobs e (Ok program) h = program_shown start size knobs program e h
-  demo_why start size knobs e (Err cause) h = source_refused (codes "demo") made_source cause (to_show start size knobs e refl) h
+  lacks_why : (c : Command) (job : Job) (source : List ℕ) (program : Noted) → command words ≡ Ok c → job_of c ≡ Some job
+      → accepted source ≡ Ok program → has_loop c program ≡ false → Why words (failed 1 (no_loop_line c (source_name words job)))
+  lacks_why (Infer job k) own source program e is h lacks =
+      let same : job ≡ own = cc in
+      subst (λ j. Why words (failed 1 (no_loop_line (Infer job k) (source_name words j)))) same (no_loop job k source program e h lacks)
+  lacks_why (Run job) own source program e is h lacks = absurd cc
+  lacks_why (Plain job) own source program e is h lacks = absurd cc
+  lacks_why (Trace job) own source program e is h lacks = absurd cc
+  lacks_why (Check job) own source program e is h lacks = absurd cc
+  lacks_why (Demo start size knobs) own source program e is h lacks = absurd cc
+
+  after_why : (c : Command) (job : Job) (source : List ℕ) (program : Noted) → command words ≡ Ok c → job_of c ≡ Some job
+      → accepted source ≡ Ok program → AllAnswers (Why words) (after_source c words job program)
+  after_why c job source program e is h = by_loop (has_loop c program) refl
+    where
+      by_loop : (b : Bool) → has_loop c program ≡ b
+          → AllAnswers (Why words)
+          (if b then inputs_plan (input_names words job) (λ inputs. Answers (answer_of c (source_name words job) program inputs))
+          else Answers (failed 1 (no_loop_line c (source_name words job))))
+      by_loop true has =
+          inputs_all (Why words) (input_names words job) (λ inputs. Answers (answer_of c (source_name words job) program inputs))
+          (λ name text fault among wrong. input_refused c job name text fault e is among wrong)
+          (λ inputs are. all_done c job source program inputs e is h has are)
+      by_loop false lacks = lacks_why c job source program e is h lacks
+
+  made_why : (c : Command) → command words ≡ Ok c → job_of c ≡ None → AllAnswers (Why words) (made_plan c)
+  made_why (Demo start size knobs) e is = by_result (accepted made_source) refl
+    where
+      by_result : (r : Result Noted Refusal) → accepted made_source ≡ r
+          → AllAnswers (Why words)
+          (if_accepted (refused_line (Demo start size knobs) (codes "demo") made_source)
+          (λ program. Answers (answer_of (Demo start size knobs) (codes "demo") program (made_inputs (Demo start size knobs)))) r)
+      by_result (Ok program) h = made_done (Demo start size knobs) program e refl h
+      by_result (Err cause) h = source_refused (Demo start size knobs) (codes "demo") made_source cause e (refl, refl) h tt
+  made_why (Run job) e is = absurd cc
+  made_why (Plain job) e is = absurd cc
+  made_why (Trace job) e is = absurd cc
+  made_why (Infer job k) e is = absurd cc
+  made_why (Check job) e is = absurd cc
+
+  by_job : (c : Command) (r : Option Job) → command words ≡ Ok c → job_of c ≡ r → AllAnswers (Why words) (plan_by c words r)
+  by_job c (Some job) e is =
+      source_all (Why words) c (source_name words job) (after_source c words job) (λ source cause h. refused_why c job source cause e is h)
+      (λ source program h. after_why c job source program e is h)
+  by_job c None e is = made_why c e is
 
   command_why : (r : Result Command WordFault) → command words ≡ r → AllAnswers (Why words) (plan_of words r)
-  command_why (Ok (Run job)) e = job_why task.Run job e
-  command_why (Ok (Plain job)) e = job_why task.Plain job e
-  command_why (Ok (Trace job)) e = job_why task.Trace job e
-  command_why (Ok (Check job)) e = check_why job e
-  command_why (Ok (Demo start size knobs)) e = demo_why start size knobs e (accepted made_source) refl
+  command_why (Ok c) e = by_job c (job_of c) e refl
   command_why (Err fault) e = words_refused fault e
 
 pub every_why : (words : List (List ℕ)) → AllAnswers (Why words) (plan words)
@@ -108,15 +152,14 @@ ended_status : (name : List ℕ) (e : Ending) (out : List ℕ) → IsOneOf (0 �
 ended_status name ending.Done out = inl refl
 ended_status name (ending.Trap t line) out = inr (inl refl)
 
-pub task_status : (t : Task) (knobs : Knobs) (name : List ℕ) (program : Noted) (input : List ℤ)
-    → IsOneOf (0 ∷ 3 ∷ []) (task_of t knobs name program input).status
-task_status task.Run knobs name program input = ended_status name _ _
-task_status task.Plain knobs name program input = ended_status name _ _
-task_status task.Trace knobs name program input = ended_status name _ _
-
-pub totals_status : (name : List ℕ) (program : Noted) (input : List ℤ) (knobs : Knobs)
-    → IsOneOf (0 ∷ 3 ∷ []) (totals_of name (lockstep_report program input knobs)).status
-totals_status name program input knobs = ended_status name _ _
+pub done_status : (c : Command) (name : List ℕ) (program : Noted) (inputs : List (List ℤ))
+    → IsOneOf (0 ∷ 3 ∷ []) (answer_of c name program inputs).status
+done_status (Run job) name program inputs = ended_status name _ _
+done_status (Plain job) name program inputs = ended_status name _ _
+done_status (Trace job) name program inputs = ended_status name _ _
+done_status (Infer job k) name program inputs = inl refl
+done_status (Check job) name program inputs = inl refl
+done_status (Demo start size knobs) name program inputs = ended_status name _ _
 
 of_run : (n : ℕ) → IsOneOf (0 ∷ 3 ∷ []) n → IsOneOf (0 ∷ 1 ∷ 2 ∷ 3 ∷ 7 ∷ []) n
 of_run n (inl h) = inl h
@@ -125,54 +168,68 @@ of_run n (inr (inr h)) = elim h [ ]
 
 why_status : (words : List (List ℕ)) (a : Answer) → Why words a → IsOneOf (0 ∷ 1 ∷ 2 ∷ 3 ∷ 7 ∷ []) a.status
 why_status words _ (words_refused fault e) = inr (inr (inl refl))
-why_status words _ (source_refused name source cause reads e) = inr (inl refl)
+why_status words _ (source_refused c name source cause e is h tells) = inr (inl refl)
 why_status words _ (token_bad job source bad e is) = inr (inl refl)
-why_status words _ (input_refused t job name text fault e is h) = inr (inr (inr (inr (inl refl))))
-why_status words _ (program_run t job source program input e h g) = of_run _ (task_status t job.knobs (source_name words job) program input)
-why_status words _ (program_accepted job source program e h) = inl refl
-why_status words _ (program_shown start size knobs program e h) = of_run _ (totals_status (codes "demo") program (made_input start size) knobs)
+why_status words _ (no_loop job k source program e h lacks) = inr (inl refl)
+why_status words _ (input_refused c job name text fault e is among h) = inr (inr (inr (inr (inl refl))))
+why_status words _ (all_done c job source program inputs e is h has are) = of_run _ (done_status c (source_name words job) program inputs)
+why_status words _ (made_done c program e is h) = of_run _ (done_status c (codes "demo") program (made_inputs c))
 
 pub own_statuses : (words : List (List ℕ)) → AllAnswers (λ a. IsOneOf (0 ∷ 1 ∷ 2 ∷ 3 ∷ 7 ∷ []) a.status) (plan words)
 own_statuses words = weaker (Why words) _ (why_status words) (plan words) (every_why words)
 
 -- ---- the order of reads
 
-source_order : (d : Detail) (name : List ℕ) (names : List (List ℕ)) (next : Noted → Plan)
-    → ((program : Noted) → ReadsInOrder names (next program)) → ReadsInOrder (name ∷ names) (source_plan d name next)
-source_order d name names next on = (refl, λ source. by_result (refused_line d name source) (accepted source))
+none_left : (a : Answer) (ns : List (List ℕ)) → ReadsInOrder ns (Answers a)
+none_left a [] = tt
+none_left a (n ∷ ns) = tt
+
+source_order : (c : Command) (name : List ℕ) (names : List (List ℕ)) (next : Noted → Plan)
+    → ((program : Noted) → ReadsInOrder names (next program)) → ReadsInOrder (name ∷ names) (source_plan c name next)
+source_order c name names next on = (refl, λ source. by_result (refused_line c name source) (accepted source))
   where
     by_result : (line : Refusal → List ℕ) (r : Result Noted Refusal) → ReadsInOrder names (if_accepted line next r)
     by_result line (Ok program) = on program
-    by_result line (Err cause) = none names
-      where
-        none : (ns : List (List ℕ)) → ReadsInOrder ns (Answers (failed 1 (line cause)))
-        none [] = tt
-        none (n ∷ ns) = tt
+    by_result line (Err cause) = none_left (failed 1 (line cause)) names
 
-input_order : (r : Option (List ℕ)) (f : List ℤ → Answer)
-    → ReadsInOrder (elim r [ Some name ↦ name ∷ [] | None ↦ [] ]) (input_plan r (λ input. Answers (f input)))
-input_order None f = tt
-input_order (Some name) f = (refl, λ text. by_result (numbers_of text))
+inputs_order : (names : List (List ℕ)) (next : List (List ℤ) → Plan) → ((inputs : List (List ℤ)) → ReadsInOrder [] (next inputs))
+    → ReadsInOrder names (inputs_plan names next)
+inputs_order [] next on = on []
+inputs_order (name ∷ names) next on =
+    (refl, λ text. by_result (λ ns. inputs_order names (λ others. next (ns ∷ others)) (λ others. on (ns ∷ others))) (numbers_of text))
   where
-    by_result : (r : Result (List ℤ) InputCause) → ReadsInOrder [] (if_numbers name (λ input. Answers (f input)) r)
-    by_result (Ok input) = tt
-    by_result (Err fault) = tt
+    by_result : ((ns : List ℤ) → ReadsInOrder names (inputs_plan names (λ others. next (ns ∷ others)))) → (r : Result (List ℤ) InputCause)
+        → ReadsInOrder names (if_numbers name (λ ns. inputs_plan names (λ others. next (ns ∷ others))) r)
+    by_result goes (Ok ns) = goes ns
+    by_result goes (Err fault) = none_left (failed 7 (input_cause_text name fault)) names
 
-job_order : (t : Task) (words : List (List ℕ)) (job : Job) → ReadsInOrder (job_names words job) (job_plan t words job)
-job_order t words job = source_order detail.File (source_name words job) _ (after_source t words job)
-    (λ program. input_order (input_name words job) (task_of t job.knobs (source_name words job) program))
+after_order : (c : Command) (words : List (List ℕ)) (job : Job) (program : Noted)
+    → ReadsInOrder (input_names words job) (after_source c words job program)
+after_order c words job program = by_loop (has_loop c program)
+  where
+    by_loop : (b : Bool)
+        → ReadsInOrder (input_names words job)
+        (if b then inputs_plan (input_names words job) (λ inputs. Answers (answer_of c (source_name words job) program inputs))
+        else Answers (failed 1 (no_loop_line c (source_name words job))))
+    by_loop true = inputs_order (input_names words job) (λ inputs. Answers (answer_of c (source_name words job) program inputs)) (λ inputs. tt)
+    by_loop false = none_left (failed 1 (no_loop_line c (source_name words job))) (input_names words job)
 
-demo_order : (start size : ℕ) (knobs : Knobs) (r : Result Noted Refusal)
-    → ReadsInOrder [] (if_accepted (refusal_text (codes "demo")) (λ program. Answers (totals_of (codes "demo") (lockstep_report program (made_input start size) knobs))) r)
-demo_order start size knobs (Ok program) = tt
-demo_order start size knobs (Err cause) = tt
+made_order : (c : Command) → ReadsInOrder [] (made_plan c)
+made_order c = by_result (accepted made_source)
+  where
+    by_result : (r : Result Noted Refusal)
+        → ReadsInOrder []
+        (if_accepted (refused_line c (codes "demo") made_source) (λ program. Answers (answer_of c (codes "demo") program (made_inputs c))) r)
+    by_result (Ok program) = tt
+    by_result (Err cause) = tt
+
+job_order : (c : Command) (words : List (List ℕ)) (r : Option Job) → ReadsInOrder (job_names words r) (plan_by c words r)
+job_order c words (Some job) =
+    source_order c (source_name words job) (input_names words job) (after_source c words job) (after_order c words job)
+job_order c words None = made_order c
 
 command_order : (words : List (List ℕ)) (r : Result Command WordFault) → ReadsInOrder (names_by words r) (plan_of words r)
-command_order words (Ok (Run job)) = job_order task.Run words job
-command_order words (Ok (Plain job)) = job_order task.Plain words job
-command_order words (Ok (Trace job)) = job_order task.Trace words job
-command_order words (Ok (Check job)) = source_order detail.Token (source_name words job) [] _ (λ program. tt)
-command_order words (Ok (Demo start size knobs)) = demo_order start size knobs (accepted made_source)
+command_order words (Ok c) = job_order c words (job_of c)
 command_order words (Err fault) = tt
 
 pub in_order : (words : List (List ℕ)) → ReadsInOrder (names_of words) (plan words)

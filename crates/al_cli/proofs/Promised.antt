@@ -7,7 +7,7 @@ use Rattle.al_cli.specs.Promises.{Promises}
 use Rattle.al_cli.specs.Shown.{names_of, plan}
 use Rattle.al_cli.specs.Why.{Why}
 use Rattle.al_cli.proofs.Plans.{every_why, own_statuses, in_order}
-use Rattle.al_cli.proofs.Clauses.{headline, bad_token, complete, words_give}
+use Rattle.al_cli.proofs.Clauses.{headline, table, bad_token, complete, words_give}
 use Rattle.al_cli.proofs.LockstepRounds.{lockstep_fits}
 
 module _ (words : List (List ℕ)) (c : Call) (outcome : Outcome (plan words) c) where
@@ -24,7 +24,9 @@ module _ (words : List (List ℕ)) (c : Call) (outcome : Outcome (plan words) c)
       let own = own_statuses words in
       let order = in_order words in
       record {
-        headline = λ job program input is quiet fed. headline words f g o p e q s outcome job program input is quiet.files quiet.out quiet.err fed;
+        headline = λ job program inputs is quiet fed. headline words f g o p e q s outcome job program inputs is quiet.files quiet.out quiet.err fed;
+        table = λ job k program inputs is quiet fed there.
+            table words f g o p e q s outcome job k program inputs is quiet.files quiet.out quiet.err fed there;
         rounds = λ job program input is. lockstep_fits program input job.knobs;
         shows = λ quiet fed. is_as_played w f g o p e q s outcome quiet.files quiet.out quiet.err fed;
         bad_token = λ job source bad is h quiet fed. bad_token words f g o p e q s outcome job source bad is h quiet.files quiet.out quiet.err fed;

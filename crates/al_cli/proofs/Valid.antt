@@ -14,17 +14,14 @@ use Rattle.al_answers.specs.Plans.{Plan, Answers, failed, played}
 use Rattle.al_answers.specs.Written.{IsOneOf, Writes}
 use Rattle.al_text.specs.declared.faults.InputCause.TheVariants.{TooLong}
 use Rattle.al_text.specs.Numbers.{numbers_of}
+use Rattle.al_words.specs.declared.command.Command.{Command}
 use Rattle.al_words.specs.declared.command.Command.TheVariants.{Check}
 use Rattle.al_words.specs.declared.command.Job.{Job}
 use Rattle.al_words.specs.Words.{command}
-use Rattle.al_cli.specs.declared.tasks.Task.{Task}
-use Rattle.al_cli.specs.declared.tasks.Task.TheVariants as task
-use Rattle.al_cli.specs.declared.tasks.Detail.{Detail}
-use Rattle.al_cli.specs.declared.tasks.Detail.TheVariants as detail
-use Rattle.al_cli.specs.Shown.{task_of, bad_line, bad_line_or_none, refused_line, if_accepted, source_plan, input_plan, most_of_source, most_of_input, source_name, input_name, after_source, job_plan, plan_of, plan, shown}
-use Rattle.al_cli.specs.Why.{asks}
-use Rattle.al_cli.specs.Headline.{HasInput, Holds, IsValid, to_run, to_check, to_show}
-use Rattle.al_cli.proofs.Plans.{task_status, totals_status}
+use Rattle.al_words.specs.Jobs.{job_of, source_name, input_names}
+use Rattle.al_cli.specs.Shown.{answer_of, bad_line, bad_line_or_none, refused_line, if_accepted, source_plan, inputs_plan, most_of_source, most_of_input, has_loop, after_source, made_inputs, plan_by, plan_of, plan, shown}
+use Rattle.al_cli.specs.Headline.{HaveInputs, Holds, IsValid, to_do, to_show}
+use Rattle.al_cli.proofs.Plans.{done_status}
 
 le_or_lt : (m n : ℕ) → (m ≤ n) ⊎ (n < m)
 le_or_lt m n = grind arith
@@ -59,62 +56,61 @@ same_input text = input_by_length text (le_or_lt (length text) most_of_input)
 
 -- ---- plans over these files
 
-source_played : (files : Contents) (d : Detail) (name source : List ℕ) (program : Noted) (next : Noted → Plan) → contents_of files name ≡ Some source
-    → accepted source ≡ Ok program → played files (source_plan d name next) ≡ played files (next program)
-source_played files d name source program next there is = rw (there, same_source source, is) refl
+source_played : (files : Contents) (c : Command) (name source : List ℕ) (program : Noted) (next : Noted → Plan) → contents_of files name ≡ Some source
+    → accepted source ≡ Ok program → played files (source_plan c name next) ≡ played files (next program)
+source_played files c name source program next there is = rw (there, same_source source, is) refl
 
-input_played : (files : Contents) (r : Option (List ℕ)) (input : List ℤ) (f : List ℤ → Answer) → HasInput files r input
-    → played files (input_plan r (λ ns. Answers (f ns))) ≡ f input
-input_played files None input f h = ap f (sym h)
-input_played files (Some name) input f h = rw (h.1, same_input h.0, h.2) refl
-
-plan_asks : (words : List (List ℕ)) (t : Task) (job : Job) → plan_of words (Ok (asks t job)) ≡ job_plan t words job
-plan_asks words task.Run job = refl
-plan_asks words task.Plain job = refl
-plan_asks words task.Trace job = refl
+inputs_played : (files : Contents) (names : List (List ℕ)) (inputs : List (List ℤ)) (f : List (List ℤ) → Answer) → HaveInputs files names inputs
+    → played files (inputs_plan names (λ all. Answers (f all))) ≡ f inputs
+inputs_played files [] [] f h = refl
+inputs_played files (name ∷ names) (ns ∷ others) f h =
+    let text = h.0 in
+    rw (text.1, same_input text.0, text.2) (inputs_played files names others (λ all. f (ns ∷ all)) h.1)
+inputs_played files [] (ns ∷ others) f h = absurd h
+inputs_played files (name ∷ names) [] f h = absurd h
 
 shown_by : (words : List (List ℕ)) (files : Contents) → shown words files ≡ played files (plan_of words (command words))
 unfolding plan
 shown_by words files = refl
 
-pub holds_shows : (words : List (List ℕ)) (files : Contents) (t : Task) (job : Job) (program : Noted) (input : List ℤ) → command words ≡ Ok (asks t job)
-    → Holds words files job program input
-    → shown words files ≡ task_of t job.knobs (source_name words job) program input
-holds_shows words files t job program input e h =
-    shown_by words files
-    ∙ ap (λ r. played files (plan_of words r)) e
-    ∙ ap (played files) (plan_asks words t job)
-    ∙ source_played files detail.File (source_name words job) h.source program (after_source t words job) h.there h.is_accepted
-    ∙ input_played files (input_name words job) input (task_of t job.knobs (source_name words job) program) h.has_input
+shown_of : (words : List (List ℕ)) (files : Contents) (c : Command) (r : Option Job) → command words ≡ Ok c → job_of c ≡ r
+    → shown words files ≡ played files (plan_by c words r)
+shown_of words files c r e is =
+    shown_by words files ∙ ap (λ x. played files (plan_of words x)) e ∙ ap (λ x. played files (plan_by c words x)) is
+
+pub holds_shows : (words : List (List ℕ)) (files : Contents) (c : Command) (job : Job) (program : Noted) (inputs : List (List ℤ)) → command words ≡ Ok c
+    → job_of c ≡ Some job → has_loop c program ≡ true → Holds words files job program inputs
+    → shown words files ≡ answer_of c (source_name words job) program inputs
+holds_shows words files c job program inputs e is has h =
+    shown_of words files c (Some job) e is
+    ∙ source_played files c (source_name words job) h.source program (after_source c words job) h.there h.is_accepted
+    ∙ rw has (inputs_played files (input_names words job) inputs (answer_of c (source_name words job) program) h.have_inputs)
 
 pub valid_status : (words : List (List ℕ)) (files : Contents) → IsValid words files → IsOneOf (0 ∷ 3 ∷ []) (shown words files).status
-valid_status words files (to_run t job program input e h) = subst (λ (a : Answer). IsOneOf (0 ∷ 3 ∷ []) a.status)
-    (sym (holds_shows words files t job program input e h)) (task_status t job.knobs (source_name words job) program input)
-valid_status words files (to_check job source program e there is) =
-    let same = shown_by words files ∙ ap (λ r. played files (plan_of words r)) e ∙ source_played files detail.Token (source_name words job) source program _ there is in
-    inl (ap (λ (a : Answer). a.status) same)
-valid_status words files (to_show start size knobs program e is) =
-    let same = shown_by words files ∙ ap (λ r. played files (plan_of words r)) e in
-    subst (λ (a : Answer). IsOneOf (0 ∷ 3 ∷ []) a.status) (sym same) (rw is (totals_status (codes "demo") program _ knobs))
+valid_status words files (to_do c job program inputs e is h has) = subst (λ (a : Answer). IsOneOf (0 ∷ 3 ∷ []) a.status)
+    (sym (holds_shows words files c job program inputs e is has h)) (done_status c (source_name words job) program inputs)
+valid_status words files (to_show c program e is h) =
+    subst (λ (a : Answer). IsOneOf (0 ∷ 3 ∷ []) a.status) (sym (shown_of words files c None e is))
+    (rw h (done_status c (codes "demo") program (made_inputs c)))
 
 -- ---- a source whose tokens derive no program
 
-bad_next : (name source : List ℕ) (bad : BadTokens) (next : Noted → Plan) → IsBadIn source bad
-    → if_accepted (refused_line detail.Token name source) next (accepted source) ≡ Answers (failed 1 (bad_line name source bad))
-bad_next name source bad next h =
-    ap (if_accepted (refused_line detail.Token name source) next) (bad_refused source bad h)
+bad_next : (job : Job) (name source : List ℕ) (bad : BadTokens) (next : Noted → Plan) → IsBadIn source bad
+    → if_accepted (refused_line (Check job) name source) next (accepted source) ≡ Answers (failed 1 (bad_line name source bad))
+bad_next job name source bad next h =
+    ap (if_accepted (refused_line (Check job) name source) next) (bad_refused source bad h)
     ∙ ap (λ r. Answers (failed 1 (bad_line_or_none name source r))) (bad_one source bad h)
 
-bad_played : (files : Contents) (name source : List ℕ) (bad : BadTokens) (next : Noted → Plan) → contents_of files name ≡ Some source
-    → IsBadIn source bad → played files (source_plan detail.Token name next) ≡ failed 1 (bad_line name source bad)
-bad_played files name source bad next there h =
+bad_played : (files : Contents) (job : Job) (name source : List ℕ) (bad : BadTokens) (next : Noted → Plan) → contents_of files name ≡ Some source
+    → IsBadIn source bad → played files (source_plan (Check job) name next) ≡ failed 1 (bad_line name source bad)
+bad_played files job name source bad next there h =
     let whole : take most_of_source source ≡ source = take_all most_of_source source (omega (arith, h.short)) in
     rw there (subst
-    (λ bytes. played files (if_accepted (refused_line detail.Token name bytes) next (accepted bytes)) ≡ failed 1 (bad_line name source bad))
-    (sym whole) (ap (played files) (bad_next name source bad next h)))
+    (λ bytes. played files (if_accepted (refused_line (Check job) name bytes) next (accepted bytes)) ≡ failed 1 (bad_line name source bad))
+    (sym whole) (ap (played files) (bad_next job name source bad next h)))
 
 pub bad_shows : (words : List (List ℕ)) (files : Contents) (job : Job) (source : List ℕ) (bad : BadTokens) → command words ≡ Ok (Check job)
     → contents_of files (source_name words job) ≡ Some source → IsBadIn source bad
     → shown words files ≡ failed 1 (bad_line (source_name words job) source bad)
 bad_shows words files job source bad e there h =
-    shown_by words files ∙ ap (λ r. played files (plan_of words r)) e ∙ bad_played files (source_name words job) source bad _ there h
+    shown_by words files ∙ ap (λ r. played files (plan_of words r)) e ∙ bad_played files job (source_name words job) source bad _ there h

@@ -17,7 +17,7 @@ use crate::runs::answer_of;
 use al_answers::{Answer, Status, failed};
 use al_core::Knobs;
 use al_front::{Noted, resolve};
-use al_gen::make;
+use al_gen::{Made2, make};
 use al_io::Files;
 use al_report::no_loop_text;
 use al_source::Bytes;
@@ -158,24 +158,24 @@ fn made_answer<R: Threads + Sync>(
     ensures { IfOk result (λ a. Answers a ≡ spec.made_plan (Demo start size knobs)) }
 {
     let command = Command::Demo(start, size, knobs);
-    let made = make(alloc, start, size)?;
-    let source = made.source.as_slice();
-    match resolve(alloc, source) {
+    let Made2 { source, input } = make(alloc, start, size)?;
+    match resolve(alloc, source.as_slice()) {
         Ok(program) => {
             let mut inputs = Items::new(alloc);
-            inputs.push(made.input)?;
+            inputs.push(input)?;
+            let text = source.as_slice();
             answer_of(
                 rt,
                 alloc,
                 command,
                 "demo",
-                source,
+                text,
                 &program,
                 inputs.as_slice(),
             )
         }
         Err(fault) => {
-            let line = refused_line(alloc, command, "demo", source, &fault)?;
+            let line = refused_line(alloc, command, "demo", source.as_slice(), &fault)?;
             Ok(failed(alloc, Status::ProgramRefused, line))
         }
     }
