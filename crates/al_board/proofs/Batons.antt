@@ -21,13 +21,15 @@ use Rattle.al_board.specs.declared.view.Slot.TheVariants.{Empty, Piece, Shelf}
 use Rattle.al_count.specs.Counts.{below, times, total, present}
 use Rattle.al_count.proofs.Totals.{one_other, below_yes, below_no, below_next, times_snoc, times_length, total_set, total_same, member_le, two_members, some_member, is_present, at_end}
 use Rattle.al_board.specs.Core.{piece_of}
+use Rattle.al_board.specs.Journal.{Account}
+use Rattle.al_board.specs.Logs.{HasLogged, MetBaton, SkippedLane, HandedBaton}
 use Rattle.al_board.specs.Counted.{drawn_times, put_times, held_count, share_of, allowance_of, turn_count}
 use Rattle.al_board.specs.Helps.{IsCarried, HasShelfFirst}
 use Rattle.al_board.specs.Rule.{Terms, terms, Stage, AreFirst, IsTurn, IsSound, AllSound, IsSlot, Baton, IsHome, IsBaton, IsKept, baton_of}
 use Rattle.al_board.specs.Steps.{IsMet, IsSeizure, IsTaken, IsSkipped, IsTry, IsHanding, spared}
 use Rattle.al_board.specs.Views.{IsFull, missed, at_turn, unlogged}
 use Rattle.al_board.proofs.Entries.{IsTold, told_seized, told_met, told_took, told_skipped, told_handed}
-use Rattle.al_board.proofs.Logs.{logs_entry}
+use Rattle.al_board.proofs.Logs.{all_ends, logs_entry}
 use Rattle.al_board.proofs.Pieces.{none_some, the_same}
 use Rattle.al_board.proofs.Parts.{AllNamed, turnless, sound_set, sound_one, named_set, named_same, still_baton, same_baton, same_slot, at_most_one, full_puts, full_alone, told_of}
 
@@ -98,7 +100,7 @@ module _ {T H K : Type 0} (b : Terms T H K) where
 
   -- the view then
   abbrev changed : Change → List (Entry T) → View T K → View T K
-  changed x journal v = record v { misses = x.misses; given = x.given; turn = x.turn; log = x.entry ∷ journal }
+  changed x journal v = record v { misses = x.misses; given = x.given; turn = x.turn; logs = (x.entry ∷ journal) ∷ [] }
 
   -- the views then
   abbrev changed_views : (s : State (Slot T H) (View T K)) → IsKept b s → Change → ℕ → View T K → List (View T K)
@@ -106,10 +108,10 @@ module _ {T H K : Type 0} (b : Terms T H K) where
 
   -- where the words and the homes stay, a view may note a miss
   miss_keeps : (s : State (Slot T H) (View T K)) (k : IsKept b s) (id : ℕ) (v : View T K) → get_elem? s.views id ≡ some v → (ms : List Miss) (e : Entry T)
-      → IsTold b.fits b.key.lanes k.stage k.holder (set s.views id record v { misses = ms; log = e ∷ k.journal }) (e ∷ k.journal)
-      → Kept record { words = s.words; homes = s.homes; views = set s.views id record v { misses = ms; log = e ∷ k.journal } }
+      → IsTold b.fits b.key.lanes k.stage k.holder (set s.views id record v { misses = ms; logs = (e ∷ k.journal) ∷ [] }) (e ∷ k.journal)
+      → Kept record { words = s.words; homes = s.homes; views = set s.views id record v { misses = ms; logs = (e ∷ k.journal) ∷ [] } }
   miss_keeps s k id v at ms e told =
-      let w : View T K = record v { misses = ms; log = e ∷ k.journal } in
+      let w : View T K = record v { misses = ms; logs = (e ∷ k.journal) ∷ [] } in
       let so = k.sound id v at in
       let p : (x : ℕ) → total (put_times x) (set s.views id w) ≡ total (put_times x) s.views = λ x. total_same (put_times x) s.views id v w at refl in
       record {
@@ -201,6 +203,11 @@ module _ {T H K : Type 0} (b : Terms T H K) where
         logs = logs_entry s.views k.journal id v w x.entry at refl k.logs;
       }
 
+  -- an entry that a pass logs now
+  abbrev logged_now : (s : State (Slot T H) (View T K)) (k : IsKept b s) (id : ℕ) (v : View T K) → get_elem? s.views id ≡ some v → (entry : ℕ → Entry T)
+      → HasLogged entry v.logs ((entry id ∷ k.journal) ∷ [])
+  logged_now s k id v at entry = record { pass = id; since = k.journal; before = all_ends s.views k.journal id v at k.logs; last = refl }
+
   -- what a swap of the baton's word gives
   abbrev Seizes : State (Slot T H) (View T K) → ℕ → View T K → Held → ℕ → Type 0
   Seizes s id v c n = (w : View T K)
@@ -214,7 +221,8 @@ module _ {T H K : Type 0} (b : Terms T H K) where
       × (unlogged w ≡ at_turn (get_or s.words (n + 1) 0) (get_or s.words (n + 1) 0) (b.laid shelf) (unlogged v))
       × (carried_after c a ≡ (n, Shelf shelf) ∷ c)
       × (length (b.laid shelf) ≡ get_or s.words (n + 1) 0)
-      × b.stands shelf))
+      × b.stands shelf
+      × HasLogged Seized v.logs w.logs))
 
   -- the pass that has the baton
   holder_of : (s : State (Slot T H) (View T K)) (k : IsKept b s) → 1 ≤ total turn_count s.views
@@ -242,7 +250,7 @@ module _ {T H K : Type 0} (b : Terms T H K) where
       met : (get_or s.words (b.key.lanes + 1) 0 ≡ 1025) × (total turn_count s.views ≡ 1) → Seizes s id v c b.key.lanes
       met h =
           let ms : List Miss = v.misses ++ miss.Baton ∷ [] in
-          let w : View T K = record v { misses = ms; log = Met id ∷ k.journal } in
+          let w : View T K = record v { misses = ms; logs = (Met id ∷ k.journal) ∷ [] } in
           let o = holder_of s k (let e = h.1 in omega arith) in
           let apart : o.0 ≢ id = λ e.
           let is : o.1 ≡ v = some-injective o.1 v (sym o.2 ∙ ap (get_elem? s.views) e ∙ at) in
@@ -259,9 +267,20 @@ module _ {T H K : Type 0} (b : Terms T H K) where
             tt,
             subst (λ (ws : List ℕ). Kept record { words = ws; homes = s.homes; views = set s.views id w }) (sym same)
                 (miss_keeps s k id v at ms (Met id) told),
-            (λ _. record { view = refl; slots = refl; not_full = λ full. let z = full_alone b s k id v at live idle full in let e = h.1 in omega arith }),
+            (λ _. record { view = refl; slots = refl; logged = logged o.0 o.4 apart; not_full = λ full. let z = full_alone b s k id v at live idle full in let e = h.1 in omega arith }),
             (λ ne. absurd (ne h.0)),
           )
+
+        where
+          logged : (q : ℕ) → k.holder ≡ Some q → q ≢ id → MetBaton v.lanes v.logs ((Met id ∷ k.journal) ∷ [])
+          logged q e ne =
+              subst (λ (z : ℕ). MetBaton z v.logs ((Met id ∷ k.journal) ∷ [])) (sym (so.about live).1)
+              record {
+                logged = logged_now s k id v at Met;
+                holder = q;
+                holds = ap (λ (a : Account T). a.holder) k.told ∙ e;
+                other = ne;
+              }
 
       -- it is at home
       home : IsHome b k.stage (baton_of b s k.holder) → Seizes s id v c b.key.lanes
@@ -299,7 +318,7 @@ module _ {T H K : Type 0} (b : Terms T H K) where
                 (λ i u ne at'. let l = member_le turn_count s.views i u at' in let o = none.0 in inl (omega arith)) k.holds (λ _ _. refl))
                 told,
             (λ full. absurd (omega arith)),
-            (λ _. (omega arith, (h.shelf, refl, refl, h.first.many ∙ sym is, h.standing))),
+            (λ _. (omega arith, (h.shelf, refl, refl, h.first.many ∙ sym is, h.standing, logged_now s k id v at Seized))),
           )
 
       go : IsBaton b k.stage true (baton_of b s k.holder) → Seizes s id v c b.key.lanes
@@ -340,7 +359,7 @@ module _ {T H K : Type 0} (b : Terms T H K) where
   -- the view after a lane was taken
   abbrev took_view : List (Entry T) → ℕ → Turn T → T → View T K → View T K
   took_view journal id t piece
-      v = record v { turn = Some record { found = t.found; next = t.next + 1; laid = t.laid ++ piece ∷ [] }; log = Took id ∷ journal }
+      v = record v { turn = Some record { found = t.found; next = t.next + 1; laid = t.laid ++ piece ∷ [] }; logs = (Took id ∷ journal) ∷ [] }
 
   abbrev took_views : (s : State (Slot T H) (View T K)) → IsKept b s → ℕ → Turn T → T → View T K → List (View T K)
   took_views s k id t piece v = set s.views id (took_view k.journal id t piece v)
@@ -473,11 +492,13 @@ module _ {T H K : Type 0} (b : Terms T H K) where
         × (unlogged w ≡ at_turn t.found (t.next + 1) (t.laid ++ piece ∷ []) (unlogged v))
         × (c' ≡ (t.next, Piece piece) ∷ c)
         × b.fits t.next piece
+        × HasLogged Took v.logs w.logs
     pub missing : get_or s.words (t.next + 1) 0 ≢ 2
         → (unlogged w ≡ missed (Lane t.next) (unlogged v))
         × (c' ≡ c)
         × (times t.next v.put ≡ 0)
         × ¬ (IsFull v)
+        × SkippedLane b.key.lanes t.next v.logs w.logs
 
   -- a view that has a turn meets a lane that is filled, or one that it has not put
   abbrev Tries : State (Slot T H) (View T K) → ℕ → View T K → Turn T → Held → Held → ℕ → Type 0
@@ -505,7 +526,7 @@ module _ {T H K : Type 0} (b : Terms T H K) where
             takes t.next (Piece full.0),
             full.1,
             onward_keeps s k id v t has full.0 near is2 full.3,
-            record { filled = λ _. (full.0, refl, refl, full.2); missing = λ ne. absurd (ne is2) },
+            record { filled = λ _. (full.0, refl, refl, full.2, logged_now s k id v has.at Took); missing = λ ne. absurd (ne is2) },
           )
 
       put_before : 1 ≤ total (put_times t.next) s.views → get_or s.words (t.next + 1) 0 ≡ 2
@@ -519,7 +540,7 @@ module _ {T H K : Type 0} (b : Terms T H K) where
       miss : get_or s.words (t.next + 1) 0 ≢ 2 → Tries s id v t c c (get_or s.words (t.next + 1) 0)
       miss not2 =
           let ms : List Miss = v.misses ++ Lane k.stage.taken ∷ [] in
-          let w : View T K = record v { misses = ms; log = Skipped id ∷ k.journal } in
+          let w : View T K = record v { misses = ms; logs = (Skipped id ∷ k.journal) ∷ [] } in
           let none : total (put_times t.next) s.views ≡ 0 = unput (dec_le 1 (total (put_times t.next) s.views)) in
           let m = member_le (put_times t.next) s.views id v has.at in
           let q = next_is in
@@ -538,7 +559,12 @@ module _ {T H K : Type 0} (b : Terms T H K) where
                 ap (λ (z : ℕ). missed (Lane z) (unlogged v)) (sym next_is),
                 refl,
                 omega arith,
-                λ full. let p = full_puts b s k id v has.at live full t.next near in omega arith,
+                (λ full. let p = full_puts b s k id v has.at live full t.next near in omega arith),
+                record {
+                  logged = logged_now s k id v has.at Skipped;
+                  next = ap (λ (a : Account T). a.taken) k.told ∙ sym next_is;
+                  none = ap (λ (a : Account T). piece_of t.next a.pieces) k.told ∙ k.unput t.next none;
+                },
               );
             },
           )
@@ -675,6 +701,7 @@ module _ {T H K : Type 0} (fits : K → ℕ → T → Type 0) (laid : H → List
                     shelf = q.1.0;
                     view = q.1.1;
                     slots = q.1.2 ∙ ap (λ (z : ℕ). (z, Shelf q.1.0) ∷ c) (sym about.1);
+                    logged = q.1.5;
                     many = q.1.3;
                     standing = λ task is. subst (λ (z : K × ℕ). stands z.0 z.1 q.1.0) (λ i. (the_same v.task key.task task about.0 is i, sym about.1 i))
                         q.1.4;
@@ -715,11 +742,18 @@ module _ {T H K : Type 0} (fits : K → ℕ → T → Type 0) (laid : H → List
               piece = q.0;
               view = q.1;
               slots = q.2 ∙ ap (λ (l : Carry). (t.next, Piece q.0) ∷ l) (sym e);
+              logged = q.4;
               fit = λ task h. subst (λ (y : K). fits y t.next q.0) (task_is task h) q.3;
             });
         missing = λ u is ne. subst (λ (y : Turn T). IsSkipped y (v, z) (w, c')) (the_same v.turn t u turn is)
             (let q = f.missing ne in
-            record { view = q.0; slots = q.1 ∙ sym e; unput = q.2; not_full = q.3 });
+            record {
+              view = q.0;
+              slots = q.1 ∙ sym e;
+              logged = subst (λ (y : ℕ). SkippedLane y t.next v.logs w.logs) (sym about.1) q.4;
+              unput = q.2;
+              not_full = q.3;
+            });
       }
 
       one : c ≡ (lanes, Empty) ∷ [] → F c
@@ -754,12 +788,19 @@ module _ {T H K : Type 0} (fits : K → ℕ → T → Type 0) (laid : H → List
       lanes_are : key.lanes ≡ lanes
       lanes_are = sym about.1 ∙ many
 
+      handed : HandedBaton m.0.lanes t.next m.0.logs ((Handed id ∷ k.journal) ∷ [])
+      handed = subst (λ (z : ℕ). HandedBaton z t.next m.0.logs ((Handed id ∷ k.journal) ∷ [])) (sym about.1)
+          record {
+            logged = logged_now of_task s k id m.0 at Handed;
+            taken_are = ap (λ (a : Account T). a.taken) k.told ∙ sym ((k.sound id m.0 at).turn t turn).next;
+          }
+
       after : View T K
       after = changed of_task (handing of_task s k id m.0 t) k.journal m.0
 
       one : m.1 ≡ (lanes, Shelf shelf) ∷ [] → F lanes m.1
       one e = subst (F lanes) (sym e) (subst (λ (n : ℕ). F n ((n, Shelf shelf) ∷ [])) lanes_are
-          (after, chain gives gives, (tt, tt), passes_at of_task s k id m.0 t shelf has live standing same, record { view = refl; slots = refl }))
+          (after, chain gives gives, (tt, tt), passes_at of_task s k id m.0 t shelf has live standing same, record { view = refl; slots = refl; logged = handed }))
 
       two : (lane : ℕ) × (lane < t.next) × (m.1 ≡ (lanes, Shelf shelf) ∷ (lane, Empty) ∷ []) → F lanes m.1
       two e = subst (F lanes) (sym e.2) (subst (λ (n : ℕ). F n ((n, Shelf shelf) ∷ (e.0, Empty) ∷ [])) lanes_are (
@@ -767,5 +808,5 @@ module _ {T H K : Type 0} (fits : K → ℕ → T → Type 0) (laid : H → List
         chain gives gives,
         (tt, tt),
         passes_back of_task s k id m.0 t shelf e.0 Empty has live standing same e.1,
-        record { view = refl; slots = refl },
+        record { view = refl; slots = refl; logged = handed },
       ))

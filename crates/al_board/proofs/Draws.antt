@@ -10,15 +10,18 @@ use Rattle.atomic_table.proofs.Lists.{set_else, set_again}
 use Rattle.al_board.specs.declared.view.Entry.TheVariants.{Drew, Split, Joined}
 use Rattle.al_board.specs.declared.view.View.{View}
 use Rattle.al_board.specs.declared.view.Slot.{Slot}
-use Rattle.al_count.specs.Counts.{below, holding, total, present}
-use Rattle.al_count.proofs.Totals.{below_next, times_append, times_snoc, total_set, total_snoc, total_same, set_at}
+use Rattle.al_count.specs.Counts.{times, below, holding, total, present}
+use Rattle.al_count.proofs.Totals.{below_no, below_next, times_append, times_snoc, total_set, total_snoc, total_same, set_at}
 use Rattle.al_board.specs.Counted.{drawn_times, put_times, held_count, share_of, allowance_of, turn_count}
 use Rattle.al_board.specs.Views.{got, keeping, parted, joined, spent_view, unlogged}
 use Rattle.al_board.specs.Rule.{Terms, Stage, IsSound, IsKept}
 use Rattle.al_board.specs.Steps.{IsDraw, IsLook}
+use Rattle.al_board.specs.Core.{of}
+use Rattle.al_board.specs.Journal.{Account, account}
+use Rattle.al_board.specs.Logs.{DrewNumber}
 use Rattle.al_board.proofs.Pieces.{lt_yes, lt_no, none_some}
-use Rattle.al_board.proofs.Entries.{told_draw, told_split, told_join}
-use Rattle.al_board.proofs.Logs.{logs_entry, logs_split, logs_join}
+use Rattle.al_board.proofs.Entries.{told_draw, told_split, told_join, nobody_drew}
+use Rattle.al_board.proofs.Logs.{all_ends, logs_entry, logs_split, logs_join}
 use Rattle.al_board.proofs.Parts.{later, sound_set, sound_one, sound_snoc, named_same, named_snoc, still_baton, later_baton, same_slot, bounded, told_of}
 
 module _ {T H K : Type 0} (b : Terms T H K) where
@@ -30,7 +33,7 @@ module _ {T H K : Type 0} (b : Terms T H K) where
 
   -- the view after a draw
   abbrev drawing : (s : State (Slot T H) (View T K)) → IsKept b s → ℕ → View T K → List ℕ → Bool → ℕ → View T K
-  drawing s k id v drawn ended allowance = record v { drawn = drawn; ended = ended; allowance = allowance; log = Drew id ∷ k.journal }
+  drawing s k id v drawn ended allowance = record v { drawn = drawn; ended = ended; allowance = allowance; logs = (Drew id ∷ k.journal) ∷ [] }
 
   -- a step on word 0 by which the drawn list of a view changes, its allowance, and whether it has ended
   draw_keeps : (s : State (Slot T H) (View T K)) (k : IsKept b s) (id : ℕ) (v : View T K) → get_elem? s.views id ≡ some v
@@ -150,6 +153,21 @@ module _ {T H K : Type 0} (b : Terms T H K) where
   no_wrap : (s : State (Slot T H) (View T K)) (k : IsKept b s) → (get_or s.words 0 0 + 1) % 2 ^ 64 ≡ get_or s.words 0 0 + 1
   no_wrap s k = let r = k.room in let f = k.few in let e = k.first in mod-eq_of_lt (omega arith)
 
+  -- what a draw logs
+  drew : (s : State (Slot T H) (View T K)) (k : IsKept b s) (id : ℕ) (v : View T K) → get_elem? s.views id ≡ some v
+      → (lanes : ℕ) → lanes ≡ b.key.lanes → (number : ℕ) → number ≡ k.stage.draws → DrewNumber lanes number v.logs ((Drew id ∷ k.journal) ∷ [])
+  drew s k id v at lanes same number is =
+      subst (λ (z : ℕ × ℕ). DrewNumber z.0 z.1 v.logs ((Drew id ∷ k.journal) ∷ [])) (λ i. (sym same i, sym is i))
+      record {
+        logged = record { pass = id; since = k.journal; before = all_ends s.views k.journal id v at k.logs; last = refl };
+        number_is = ap (λ (a : Account T). a.drawn) k.told;
+        nobody = λ p.
+            let d : ℕ = k.stage.draws in
+            let e = k.drawn d in
+            let c = below_no d (min d b.key.lanes) (omega arith) in
+            ap (λ (a : Account T). times d (of a.own p)) k.told ∙ nobody_drew d s.views p (omega arith);
+      }
+
   pub draws_one : (slots id : ℕ) (v : View T K) (c : Held) → 0 < v.share → v.ended ≡ false
       → Allows (IsKept b) slots id (v, c) 0 (λ n. (n + 1) % 2 ^ 64) (IsDraw (step slots 0 1 0 maybe.none) (v, c))
   draws_one slots id v c live going s k len at small = go (dec_le b.key.lanes k.stage.draws)
@@ -183,8 +201,8 @@ module _ {T H K : Type 0} (b : Terms T H K) where
               lane = λ lt. absurd (omega arith);
               none = λ _. refl;
               able = able;
-              bounded = bounded b _ kept id w
-                  (set_at s.views id v w at) live;
+              logged = drew s k id v at v.lanes e (get_or s.words 0 0) f;
+              bounded = bounded b _ kept id w (set_at s.views id v w at) live;
             },
           )
       go (no near) =
@@ -202,6 +220,7 @@ module _ {T H K : Type 0} (b : Terms T H K) where
               lane = λ _. ap (λ (z : ℕ). got z (unlogged v)) (sym f);
               none = λ le. absurd (omega arith);
               able = able;
+              logged = drew s k id v at v.lanes e (get_or s.words 0 0) f;
               bounded = bounded b _ kept id w (set_at s.views id v w at) live;
             },
           )

@@ -10,7 +10,8 @@ use Rattle.al_board.specs.declared.view.Entry.TheVariants.{Drew, Put, Split, Joi
 use Rattle.al_board.specs.declared.view.Miss.{Miss}
 use Rattle.al_board.specs.declared.view.Miss.TheVariants.{Baton, Lane}
 use Rattle.al_board.specs.declared.view.View.{View}
-use Rattle.al_count.specs.Counts.{times}
+use Rattle.al_count.specs.Counts.{times, total}
+use Rattle.al_board.specs.Counted.{drawn_times}
 use Rattle.al_board.specs.Core.{piece_of}
 use Rattle.al_board.specs.Journal.{Account, account, entered, adding, merging, MayEnter, IsJournal}
 use Rattle.al_board.specs.Rule.{Stage, shown}
@@ -70,6 +71,12 @@ module _ {T K : Type 0} where
   below_all (x ∷ xs) zero v e = omega arith
   below_all (x ∷ xs) (suc i) v e = let ih = below_all xs i v e in omega arith
 
+  -- a number that no view has drawn stands in no list of drawn numbers
+  pub nobody_drew : (x : ℕ) (vs : List (View T K)) (i : ℕ) → total (drawn_times x) vs ≡ 0 → times x (get_or (map drawn_list vs) i []) ≡ 0
+  nobody_drew x [] i e = refl
+  nobody_drew x (v ∷ vs) zero e = omega arith
+  nobody_drew x (v ∷ vs) (suc i) e = nobody_drew x vs i (omega arith)
+
   module _ (fits : ℕ → T → Type 0) (n : ℕ) where
     -- the journal is one, and leads to this
     abbrev pub IsTold : Stage T → Option ℕ → List (View T K) → List (Entry T) → Type 0
@@ -125,14 +132,15 @@ module _ {T K : Type 0} where
     pub told_put : (g : Stage T) (o : Option ℕ) (vs : List (View T K)) (h : List (Entry T)) (id : ℕ) (v w : View T K) (lane : ℕ) (piece : T)
         → get_elem? vs id ≡ some v
         → w.drawn ≡ v.drawn → w.put ≡ v.put ++ lane ∷ [] → w.misses ≡ v.misses → w.given ≡ v.given
-        → 1 ≤ times lane v.drawn → times lane v.put ≡ 0 → fits lane piece
+        → 1 ≤ times lane v.drawn → times lane v.put ≡ 0 → fits lane piece → piece_of lane g.pieces ≡ None
         → IsTold g o vs h → IsTold record g { pieces = (lane, piece) ∷ g.pieces } o (set vs id w) (Put id lane piece ∷ h)
-    told_put g o vs h id v w lane piece at drawn put misses given has not_put fit =
+    told_put g o vs h id v w lane piece at drawn put misses given has not_put fit none =
         told_entry g record g { pieces = (lane, piece) ∷ g.pieces } o o vs (set vs id w) h (Put id lane piece) (
           below_all vs id v at,
           subst (λ (l : List ℕ). 1 ≤ times lane l) (sym (at_of drawn_list vs id v at)) has,
           subst (λ (l : List ℕ). times lane l ≡ 0) (sym (at_of put_list vs id v at)) not_put,
           fit,
+          none,
         )
         (λ i. record {
           drawn = g.draws;

@@ -15,13 +15,35 @@ use Rattle.al_count.specs.Counts.{one, below, times, holding, total}
 use Rattle.al_count.proofs.Totals.{one_same, one_other, one_le, below_no, times_snoc, total_set, total_same, member_le, set_at}
 use Rattle.al_board.specs.Counted.{drawn_times, put_times, held_count, share_of, allowance_of, turn_count}
 use Rattle.al_board.specs.Core.{piece_of}
+use Rattle.al_board.specs.Logs.{AreEnds, HasLogged}
 use Rattle.al_board.specs.Views.{taking, gave, unlogged}
 use Rattle.al_board.specs.Rule.{Terms, Stage, AllSound, IsSlot, IsBaton, IsKept, AreLogs, baton_of}
 use Rattle.al_board.specs.Steps.{IsTake, IsFill}
 use Rattle.al_board.proofs.Entries.{IsTold, told_same, told_put}
-use Rattle.al_board.proofs.Logs.{logs_entry, logs_same}
+use Rattle.al_board.proofs.Lays.{same_piece}
+use Rattle.al_board.proofs.Logs.{all_ends, logs_entry, logs_same}
 use Rattle.al_board.proofs.Pieces.{piece_here, piece_else}
 use Rattle.al_board.proofs.Parts.{grown, grown_baton, sound_set, sound_one, named_same, still_baton, same_slot, bounded, at_most_one, none_has, ahead, told_of}
+
+module _ {T H : Type 0} where
+  head_lane : List (ℕ × Slot T H) → ℕ
+  head_lane [] = 0
+  head_lane (x ∷ xs) = x.0
+
+  head_slot : List (ℕ × Slot T H) → Slot T H
+  head_slot [] = Empty
+  head_slot (x ∷ xs) = x.1
+
+  -- the slot that is given back has the piece that is logged
+  head_logged : (id lane l : ℕ) (piece p : T) (c d : List (ℕ × Slot T H)) (journal : List (Entry T)) (logs : List (List (Entry T)))
+      → (lane, Piece piece) ∷ c ≡ (l, Piece p) ∷ d → AreEnds logs journal
+      → HasLogged (λ q. Put q l p) logs ((Put id lane piece ∷ journal) ∷ [])
+  unfolding head_lane head_slot
+  head_logged id lane l piece p c d journal logs e ends =
+      let same : lane ≡ l = ap head_lane e in
+      let alike : piece ≡ p = same_piece {H = H} piece p (ap head_slot e) in
+      subst (λ (z : ℕ × T). HasLogged (λ q. Put q z.0 z.1) logs ((Put id lane piece ∷ journal) ∷ [])) (λ i. (same i, alike i))
+      record { pass = id; since = journal; before = ends; last = refl }
 
 module _ {T H K : Type 0} (b : Terms T H K) where
   abbrev Kept : State (Slot T H) (View T K) → Type 0
@@ -34,7 +56,7 @@ module _ {T H K : Type 0} (b : Terms T H K) where
   record Lane : Type 0 where
     pub holds : Option ℕ
     pub put : List ℕ
-    pub log : List (Entry T)
+    pub logs : List (List (Entry T))
     pub pieces : List (ℕ × T)
     pub journal : List (Entry T)
     pub word : ℕ
@@ -42,7 +64,7 @@ module _ {T H K : Type 0} (b : Terms T H K) where
 
   -- the view then
   abbrev put_view_of : Lane → View T K → View T K
-  put_view_of x v = record v { holds = x.holds; put = x.put; log = x.log }
+  put_view_of x v = record v { holds = x.holds; put = x.put; logs = x.logs }
 
   -- the views then
   abbrev put_views : (s : State (Slot T H) (View T K)) → Lane → ℕ → View T K → List (View T K)
@@ -136,7 +158,7 @@ module _ {T H K : Type 0} (b : Terms T H K) where
   held_lane s k v lane = record {
     holds = Some lane;
     put = v.put;
-    log = v.log;
+    logs = v.logs;
     pieces = k.stage.pieces;
     journal = k.journal;
     word = 1;
@@ -198,6 +220,7 @@ module _ {T H K : Type 0} (b : Terms T H K) where
         record {
           view = λ x e. let same : lane ≡ x = omega arith in ap (λ (z : ℕ). taking z (unlogged v)) same;
           slots = λ x e. let same : lane ≡ x = omega arith in ap (λ (z : ℕ). (z, Empty) ∷ c) same;
+          logs = refl;
         },
       )
 
@@ -206,7 +229,7 @@ module _ {T H K : Type 0} (b : Terms T H K) where
   filled_lane s k id v lane piece = record {
     holds = None;
     put = v.put ++ lane ∷ [];
-    log = Put id lane piece ∷ k.journal;
+    logs = (Put id lane piece ∷ k.journal) ∷ [];
     pieces = (lane, piece) ∷ k.stage.pieces;
     journal = Put id lane piece ∷ k.journal;
     word = 2;
@@ -261,7 +284,7 @@ module _ {T H K : Type 0} (b : Terms T H K) where
       (λ e. let p = total_set (put_times lane) s.views id v w at in let t = times_snoc lane lane v.put in absurd (omega arith))
       (grown_baton b k.stage _ lane piece a k.baton)
       (told_put b.fits b.key.lanes k.stage k.holder s.views k.journal id v w lane piece at refl refl refl refl (omega arith) (omega arith) fit
-      (told_of b s k))
+      (k.unput lane none) (told_of b s k))
       (logs_entry s.views k.journal id v w (Put id lane piece) at refl k.logs)
 
   pub fills_lane : (slots id : ℕ) (v w : View T K) (c : Held) (m : View T K × Held) (lane : ℕ) (piece : T) → 0 < v.share → lane < v.lanes
@@ -274,6 +297,9 @@ module _ {T H K : Type 0} (b : Terms T H K) where
       here : Allows (IsKept b) slots id (w, (lane, Piece piece) ∷ c) (lane + 1) (λ _. 2)
           (IsFill (step slots (lane + 1) 2 0 maybe.none) (w, (lane, Piece piece) ∷ c))
       here s k len at small =
+          let logged : (l : ℕ) (p : T) (cs : Held) → (lane, Piece piece) ∷ c ≡ (l, Piece p) ∷ cs
+          → HasLogged (λ q. Put q l p) w.logs ((Put id lane piece ∷ k.journal) ∷ []) =
+          λ l p cs e'. head_logged id lane l piece p c cs k.journal w.logs e' (all_ends s.views k.journal id w at k.logs) in
           let share : w.share ≡ v.share = ap (λ (z : View T K). z.share) e in
           let lanes : w.lanes ≡ v.lanes = ap (λ (z : View T K). z.lanes) e in
           let live' : 0 < w.share = omega arith in
@@ -288,6 +314,7 @@ module _ {T H K : Type 0} (b : Terms T H K) where
             record {
               view = λ y e'. let same : lane ≡ y = omega arith in ap (λ (z : ℕ). gave z (unlogged w)) same;
               slots = refl;
+              logged = logged;
               bounded = bounded b _ h id x (set_at s.views id w x at) live';
             },
           )

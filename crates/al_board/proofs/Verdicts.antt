@@ -9,6 +9,7 @@ use lib.Seq.{map-set}
 use Rattle.atomic_table.proofs.Lists.{at_set, at_snoc, set_else}
 use Rattle.al_count.specs.Counts.{one, below, times, total}
 use Rattle.al_count.proofs.Totals.{one_other, one_same, below_next, below_le, below_no, times_append, times_snoc, total_set, total_snoc, total_same, total_gap, place_has}
+use Rattle.al_board.specs.declared.view.Entry.{Entry}
 use Rattle.al_board.specs.Core.{Event, draws, puts, splits, joins, judges, Core, of, piece_of, listed, first_pieces, played, IsLegal, IsHistory}
 use Rattle.al_board.specs.declared.view.View.{View}
 use Rattle.al_board.specs.Journal.{events}
@@ -325,9 +326,10 @@ module _ {T W : Type 0} (judge : List T → T → W) where
       omega arith
 
   -- the verdicts of a round are those of its pieces
-  pub round_verdicts : {K : Type 0} (fits : ℕ → T → Type 0) (lanes pass : ℕ) (v : View T K) (pieces : List T) (round : IsRound fits lanes lanes pass v pieces)
+  pub round_verdicts : {K : Type 0} (fits : ℕ → T → Type 0) (lanes pass : ℕ) (v : View T K) (logs : List (List (Entry T))) (pieces : List T)
+      → (round : IsRound fits lanes lanes pass v logs pieces)
       → verdicts judge lanes (events lanes round.journal) ≡ in_order judge [] pieces
-  round_verdicts fits lanes pass v pieces round =
+  round_verdicts fits lanes pass v logs pieces round =
       verdicts_are fits lanes (events lanes round.journal) round.legal
       ∙ ap (λ (z : ℕ). in_order judge [] (first_pieces z (played lanes (events lanes round.journal)).pieces)) round.are_judged
       ∙ ap (in_order judge []) round.each

@@ -38,6 +38,15 @@ module _ {T K : Type 0} where
       let p : times x w.put ≡ times x (v.put ++ lanes) = ap (λ (z : View T K). times x z.put) e in
       let h = all x in omega arith
 
+  -- a run goes on by one lane
+  pub ran_more : (v u w : View T K) (lanes : List ℕ) (lane : ℕ) → v.holds ≡ None → w ≡ gave lane (got lane u) → u ≡ ran lanes v
+      → w ≡ ran (lanes ++ lane ∷ []) v
+  ran_more v u w lanes lane idle e e' = e ∙ ap (λ (z : View T K). gave lane (got lane z)) e' ∙ (λ i. record v {
+    holds = sym idle i;
+    drawn = append_assoc v.drawn lanes (lane ∷ []) i;
+    put = append_assoc v.put lanes (lane ∷ []) i;
+  })
+
   -- a lane that a draw gave is drawn
   pub has_drawn_some : (o : Option ℕ) (lane n : ℕ) (v w : View T K) → o ≡ Some lane
       → MatchOption o (w ≡ over v) (λ x. (x < n) × (times x v.drawn ≡ 0) × (w ≡ got x v)) → 1 ≤ times lane w.drawn

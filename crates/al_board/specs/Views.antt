@@ -1,6 +1,5 @@
 -- What a pass knows, and how its steps change that.
-use Rattle.std.specs.Prelude.{◌≡◌, ℕ, ◌+◌, ◌-◌, ◌/◌, ◌^◌, ◌<◌, ◌≤◌, ◌⊎◌, nat_lt, cond, true, false, Option, List, [], ◌∷◌, ◌++◌, length, Some, None, MatchOption}
-use Rattle.al_board.specs.declared.view.Entry.{Entry}
+use Rattle.std.specs.Prelude.{◌≡◌, ℕ, ◌+◌, ◌-◌, ◌/◌, ◌^◌, ◌<◌, ◌≤◌, ◌⊎◌, true, false, Option, List, [], ◌∷◌, ◌++◌, length, Some, None, MatchOption}
 use Rattle.al_board.specs.declared.view.Setting.{Setting}
 use Rattle.al_board.specs.declared.view.Miss.{Miss}
 use Rattle.al_board.specs.declared.view.Miss.TheVariants.{Baton, Lane}
@@ -12,10 +11,6 @@ abbrev pub met_times : List Miss → ℕ
 met_times [] = 0
 met_times (Baton ∷ ms) = 1 + met_times ms
 met_times (Lane j ∷ ms) = met_times ms
-
--- the longer one
-abbrev pub longer : {A : Type 0} → List A → List A → List A
-longer xs ys = cond (nat_lt (length xs) (length ys)) ys xs
 
 module _ {T K : Type 0} where
   -- the first pass of a board
@@ -33,7 +28,7 @@ module _ {T K : Type 0} where
     misses = [];
     given = [];
     turn = None;
-    log = [];
+    logs = [];
   }
 
   -- what is left of a pass that a join took in
@@ -51,16 +46,12 @@ module _ {T K : Type 0} where
     misses = [];
     given = [];
     turn = None;
-    log = [];
+    logs = [];
   }
 
-  -- the view without its log
+  -- the view without its logs
   abbrev pub unlogged : View T K → View T K
-  unlogged v = record v { log = [] }
-
-  -- it has logged the journal
-  abbrev pub logging : List (Entry T) → View T K → View T K
-  logging log v = record v { log = log }
+  unlogged v = record v { logs = [] }
 
   -- it drew the lane
   abbrev pub got : ℕ → View T K → View T K
@@ -97,17 +88,17 @@ module _ {T K : Type 0} where
     misses = [];
     given = [];
     turn = None;
-    log = [];
+    logs = [];
   }
 
-  -- it took in the lanes, the allowance and the share of another
+  -- it took in the lanes, the allowance, the share and the logs of another
   abbrev pub joined : View T K → View T K → View T K
   joined v w = record v {
     drawn = v.drawn ++ w.drawn;
     put = v.put ++ w.put;
     allowance = v.allowance + w.allowance;
     share = v.share + w.share;
-    log = longer v.log w.log;
+    logs = v.logs ++ w.logs;
   }
 
   -- an attempt failed

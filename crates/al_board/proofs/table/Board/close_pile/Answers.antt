@@ -38,6 +38,14 @@ returns-clause-history g c = (
     c.close_with-closed.ensures.values.2 c.gather.ensures.each c.take.ensures.others.0 c.gather.ensures.from
     ).1
 
+pub returns-clause-given : goal.returns-clause-given
+returns-clause-given g c = (
+    close_round g.T.Piece.fits g.T.Piece.laid (λ k n h. g.T.Piece.stands k h × (g.T.Piece.lanes k ≡ n)) c.args.self.table.shared.key c.args.self.setting
+    c.args.self.about
+    _ c.args.pass.seat.me.0 _ (slots_items c.close_with-closed.result.slots) _ (on_pile c.gather.result) c.requires.plain c.args.pass.live.0 c.requires.full
+    c.close_with-closed.ensures.values.2 c.gather.ensures.each c.take.ensures.others.0 c.gather.ensures.from
+    ).2
+
 pub gather-requires-clause-slots : goal.gather-requires-clause-slots
 gather-requires-clause-slots g c =
     let n : ℕ = c.args.self.setting.lanes in

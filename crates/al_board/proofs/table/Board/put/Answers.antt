@@ -1,7 +1,9 @@
 use Rattle.std.proofs.Common.{arith, refl, sym, subst, ap, ◌∙◌, ◌≡◌, length, length-append, ◌++◌, [], ◌∷◌}
 use Rattle.atomic_table.specs.Table.{rest}
 use Rattle.al_board.specs.declared.view.Slot.TheVariants.{Empty, Piece}
-use Rattle.al_board.specs.Seen.{view}
+use Rattle.al_board.specs.declared.view.Entry.TheVariants.{Put}
+use Rattle.al_board.specs.Logs.{HasLogged}
+use Rattle.al_board.specs.Seen.{logs_of, view}
 use Rattle.al_board.specs.Views.{gave, unlogged}
 use Rattle.al_board.proofs.Passes.{drawn_below}
 use Rattle.al_board.proofs.Puts.{takes_lane, fills_lane, put_view, put_idle}
@@ -77,3 +79,10 @@ returns-clause-own g c =
 pub returns-clause-put : goal.returns-clause-put
 returns-clause-put g c = put_view (view c.args.pass.now) c.swap.new.seat.me.0 c.swap-2.new.seat.me.0 _ c.exchange.new.seat.me c.args.lane
     (c.swap.ensures.2.view c.args.lane refl) c.exchange.ensures.3 (c.swap-2.ensures.2.view c.args.lane refl)
+
+pub returns-clause-logged : goal.returns-clause-logged
+returns-clause-logged g c =
+    let took = c.swap.ensures.2 in
+    let e = c.exchange.ensures.3 in
+    subst (λ z. HasLogged (λ p. Put p c.args.lane c.args.piece) z c.swap-2.new.seat.me.0.logs)
+    (ap (λ z. z.0.logs) e ∙ took.logs) (c.swap-2.ensures.2.logged c.args.lane c.args.piece _ (ap (λ z. z.1) e))

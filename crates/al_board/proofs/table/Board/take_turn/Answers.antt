@@ -1,9 +1,11 @@
 use Rattle.std.proofs.Common.{arith, refl, sym, subst, ap, ◌∙◌, ◌≡◌, ℕ, ◌∷◌}
 use Rattle.atomic_table.specs.Table.{rest}
 use Rattle.al_board.specs.declared.view.Slot.TheVariants.{Empty, Shelf}
-use Rattle.al_board.specs.Seen.{seen}
+use Rattle.al_board.specs.Logs.{MetBaton, HandedBaton}
+use Rattle.al_board.specs.Seen.{logs_of, seat_logs, seen}
 use Rattle.al_board.specs.Views.{unlogged}
 use Rattle.al_board.proofs.Batons.{seizes, passes_on}
+use Rattle.al_board.proofs.Kept.{advanced}
 use Rattle.al_board.proofs.Lays.{laid_turn, laid_work, turned_is, turned_other}
 use Rattle.al_board.proofs.table.Board.take_turn.Goals as goal
 
@@ -50,3 +52,25 @@ swap-requires g c =
           (turned_other n c.lay_on-next.result Empty (Shelf c.lay_on-next.new.shelf) _ _ (turned_is n c.lay_on-next.result _ c.lay_on-next.ensures.held)
           (ap (λ z. z.1) c.exchange-in-Shelf.ensures.3 ∙ ap (λ z. (n, Shelf c.lay_on-next.new.shelf) ∷ rest z.1) c.turn.ensures.2)),
     )
+
+pub returns-then-found-eq-AWAY-clause-logged : goal.returns-then-found-eq-AWAY-clause-logged
+returns-then-found-eq-AWAY-clause-logged g c =
+    let met = c.swap-found.ensures.2.away c.if-found-eq-AWAY.true in
+    subst (λ (z : ℕ). MetBaton z (logs_of c.args.pass.now) (seat_logs c.swap-found.new.seat)) c.requires.own.2 met.logged
+
+pub returns-clause-logged : goal.returns-clause-logged
+returns-clause-logged g c =
+    let own = c.requires.own in
+    let n : ℕ = c.args.self.now.setting.lanes in
+    let took = c.swap-found.ensures.2.home c.if-found-eq-AWAY.false in
+    let e = ap (λ z. unlogged z.0) c.exchange.ensures.3 ∙ took.view in
+    let on_shelf = g.T.Piece.laid c.lay_on-next.new.shelf in
+    let w = laid_work n c.swap-found.result c.lay_on-next.result on_shelf (seen c.exchange.new.seat) (seen c.lay_on-next.new.seat) c.lay_on-next.ensures.laid in
+    let me : seen c.exchange-in-Shelf.new.seat ≡ seen c.lay_on-next.new.seat =
+    ap (λ z. unlogged z.0) c.exchange-in-Shelf.ensures.3 ∙ ap (λ z. unlogged z.0) c.turn.ensures.2 in
+    let lanes : c.exchange-in-Shelf.new.seat.me.0.lanes ≡ n = ap (λ z. z.lanes) me ∙ w.lanes ∙ ap (λ z. z.lanes) e ∙ own.2 in
+    advanced n c.lay_on-next.result (logs_of c.args.pass.now) (seat_logs c.swap-found.new.seat) (seat_logs c.exchange.new.seat)
+    (seat_logs c.lay_on-next.new.seat) (seat_logs c.turn.new.self) (seat_logs c.exchange-in-Shelf.new.seat) (seat_logs c.swap.new.seat)
+    took.logged (ap (λ z. z.0.logs) c.exchange.ensures.3) c.lay_on-next.ensures.logged (ap (λ z. z.0.logs) c.turn.ensures.2)
+    (ap (λ z. z.0.logs) c.exchange-in-Shelf.ensures.3)
+    (subst (λ (z : ℕ). HandedBaton z c.lay_on-next.result (seat_logs c.exchange-in-Shelf.new.seat) (seat_logs c.swap.new.seat)) lanes c.swap.ensures.2.logged)
