@@ -136,10 +136,12 @@ module _ {T K : Type 0} where
         → IsTold g o vs h → IsTold record g { pieces = (lane, piece) ∷ g.pieces } o (set vs id w) (Put id lane piece ∷ h)
     told_put g o vs h id v w lane piece at drawn put misses given has not_put fit none =
         told_entry g record g { pieces = (lane, piece) ∷ g.pieces } o o vs (set vs id w) h (Put id lane piece) (
-          below_all vs id v at,
-          subst (λ (l : List ℕ). 1 ≤ times lane l) (sym (at_of drawn_list vs id v at)) has,
-          subst (λ (l : List ℕ). times lane l ≡ 0) (sym (at_of put_list vs id v at)) not_put,
-          fit,
+          record {
+            is_pass = below_all vs id v at;
+            drawn = subst (λ (l : List ℕ). 1 ≤ times lane l) (sym (at_of drawn_list vs id v at)) has;
+            not_put = subst (λ (l : List ℕ). times lane l ≡ 0) (sym (at_of put_list vs id v at)) not_put;
+            fit = fit;
+          },
           none,
         )
         (λ i. record {

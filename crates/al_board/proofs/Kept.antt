@@ -120,7 +120,7 @@ module _ {T : Type 0} (fits : ℕ → T → Type 0) (n : ℕ) where
       ps = (account n (h ++ Put pass lane piece ∷ before)).pieces
 
       go : piece_of lane ps ≡ Some piece → Dec (lane ≡ x) → piece_of lane ((x, other) ∷ ps) ≡ Some piece
-      go ih (yes e) = absurd (none_some piece (sym k.0.4 ∙ ap (λ (z : ℕ). piece_of z ps) (sym e) ∙ ih))
+      go ih (yes e) = absurd (none_some piece (sym k.0.1 ∙ ap (λ (z : ℕ). piece_of z ps) (sym e) ∙ ih))
       go ih (no ne) = piece_else lane x other ps ne ∙ ih
   puts_stay (Split p ∷ h) before pass lane piece k = puts_stay h before pass lane piece k.1
   puts_stay (Joined p q ∷ h) before pass lane piece k = puts_stay h before pass lane piece k.1

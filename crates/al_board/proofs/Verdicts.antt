@@ -131,8 +131,8 @@ module _ {T : Type 0} (fits : ℕ → T → Type 0) (lanes : ℕ) where
   sound_of (puts p lane piece ∷ h) l =
       let c : Core T = played lanes h in
       let k = sound_of h l.1 in
-      let q = pass_of c k p l.0.0 in
-      go c k q.0 q.1 l.0.1 l.0.2
+      let q = pass_of c k p l.0.is_pass in
+      go c k q.0 q.1 l.0.drawn l.0.not_put
     where
       go : (c : Core T) (k : IsSound lanes c) (q : Pair) → get_elem? k.pairs p ≡ some q → 1 ≤ times lane (of c.own p) → times lane (of c.put p) ≡ 0
           → IsSound lanes (Rattle.al_board.specs.Core.after lanes (puts p lane piece) c)
@@ -286,7 +286,7 @@ module _ {T W : Type 0} (judge : List T → T → W) where
   verdicts_are fits lanes (puts p lane piece ∷ h) l =
       let c : Core T = played lanes h in
       verdicts_are fits lanes h l.1
-      ∙ ap (in_order judge []) (sym (first_else c.judged lane piece c.pieces (behind fits lanes c (sound_of fits lanes h l.1) p lane l.0.0 l.0.1 l.0.2)))
+      ∙ ap (in_order judge []) (sym (first_else c.judged lane piece c.pieces (behind fits lanes c (sound_of fits lanes h l.1) p lane l.0.is_pass l.0.drawn l.0.not_put)))
   verdicts_are fits lanes (splits p ∷ h) l = verdicts_are fits lanes h l.1
   verdicts_are fits lanes (joins p q ∷ h) l = verdicts_are fits lanes h l.1
   verdicts_are fits lanes (judges lane ∷ h) l =
