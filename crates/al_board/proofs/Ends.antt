@@ -25,6 +25,7 @@ use Rattle.al_board.specs.Logs.{AreKept, AreGiven}
 use Rattle.al_board.specs.Rounds.{IsRound}
 use Rattle.al_board.specs.Rule.{Terms, terms, AreFirst, IsHome, IsPlain, IsBaton, IsKept, baton_of, shown}
 use Rattle.al_board.specs.Views.{IsFull, handed, unlogged}
+use Rattle.al_board.specs.Words.{away_word}
 use Rattle.al_board.proofs.Entries.{at_of}
 use Rattle.al_board.proofs.Events.{are_played, first_are}
 use Rattle.al_board.proofs.Lays.{same_piece, same_room, same_shelf}
@@ -149,7 +150,7 @@ module _ {T H K : Type 0} (b : Terms T H K) (id : ℕ) (v : View T K) (ws : List
       all : (f.1.0.stage.judged ≡ b.key.lanes) × (f.1.0.stage.taken ≡ b.key.lanes)
       all = let g = (f.1.0.sound id v f.1.1).given b.key.lanes given in let r = f.1.0.reached in (omega arith, omega arith)
 
-      away : ((baton_of b f.0 f.1.0.holder).word ≡ 1025) × (total turn_count f.0.views ≡ 1) → Whole
+      away : ((baton_of b f.0 f.1.0.holder).word ≡ away_word) × (total turn_count f.0.views ≡ 1) → Whole
       away h = let a = full_alone b f.0 f.1.0 id v f.1.1 live idle full in let o = h.1 in absurd (omega arith)
 
       home : IsHome b f.1.0.stage (baton_of b f.0 f.1.0.holder) → Whole
@@ -200,82 +201,93 @@ module _ {T H K : Type 0} (fits : K → ℕ → T → Type 0) (laid : H → List
     moved : (xs : List (Slot T H)) (x : maybe.Option (Slot T H)) → get_elem? xs setting.lanes ≡ x → get_elem? xs key.lanes ≡ x
     moved xs x e = ap (λ (z : Setting K). get_elem? xs z.lanes) about ∙ e
 
-    pub close_pieces : (id : ℕ) (v : View T K) (ws : List ℕ) (xs : List (Slot T H)) → setting.shelved ≡ false → 0 < v.share → IsFull v → Ends id v ws xs
-        → (x : ℕ) → x < setting.lanes → (piece : T) × (get_elem? xs x ≡ some (Piece piece))
-    close_pieces id v ws xs e live full f x lt =
-        plain_pieces of_task id v ws xs f (ap (λ (z : Setting K). z.shelved) about ∙ e) live full x (subst (λ (z : Setting K). x < z.lanes) (sym about) lt)
+    -- a table without a shelf, which a full pass closed
+    pub record IsClosed (id : ℕ) (v : View T K) (ws : List ℕ) (xs : List (Slot T H)) : Type 0 where
+      pub plain : setting.shelved ≡ false
+      pub live : 0 < v.share
+      pub full : IsFull v
+      pub final : Ends id v ws xs
 
-    pub close_room : (id : ℕ) (v : View T K) (ws : List ℕ) (xs : List (Slot T H)) (x : Slot T H) (room : Pile T) → setting.shelved ≡ false → Ends id v ws xs
+    pub close_pieces : (id : ℕ) (v : View T K) (ws : List ℕ) (xs : List (Slot T H)) → IsClosed id v ws xs
+        → (x : ℕ) → x < setting.lanes → (piece : T) × (get_elem? xs x ≡ some (Piece piece))
+    close_pieces id v ws xs c x lt =
+        plain_pieces of_task id v ws xs c.final (ap (λ (z : Setting K). z.shelved) about ∙ c.plain) c.live c.full x
+        (subst (λ (z : Setting K). x < z.lanes) (sym about) lt)
+
+    pub close_room : (id : ℕ) (v : View T K) (ws : List ℕ) (xs : List (Slot T H)) → IsClosed id v ws xs → (x : Slot T H) (room : Pile T)
         → get_elem? xs setting.lanes ≡ some x → x ≡ Room room → (on_pile room ≡ []) × (setting.lanes ≤ room_of room)
-    close_room id v ws xs x room e f there is =
-        let found = plain_room of_task id v ws xs f x (ap (λ (z : Setting K). z.shelved) about ∙ e) (moved xs (some x) there) in
+    close_room id v ws xs c x room there is =
+        let found = plain_room of_task id v ws xs c.final x (ap (λ (z : Setting K). z.shelved) about ∙ c.plain) (moved xs (some x) there) in
         let same = same_room found.0 room (sym found.1 ∙ is) in
         subst (λ (z : Pile T × Setting K). (on_pile z.0 ≡ []) × (z.1.lanes ≤ room_of z.0)) (λ i. (same i, about i)) (found.2, found.3)
 
-    pub close_round : (id : ℕ) (v : View T K) (ws : List ℕ) (xs ys : List (Slot T H)) (ps : List T) → setting.shelved ≡ false → 0 < v.share → IsFull v
-        → Ends id v ws xs
-        → length ps ≡ setting.lanes → ys ≡ xs → ((k : ℕ) (piece : T) → get_elem? ps k ≡ some piece → get_elem? ys k ≡ some (Piece piece))
+    pub close_round : (id : ℕ) (v : View T K) (ws : List ℕ) (xs : List (Slot T H)) → IsClosed id v ws xs → (ps : List T) → length ps ≡ setting.lanes
+        → ((k : ℕ) (piece : T) → get_elem? ps k ≡ some piece → get_elem? xs k ≡ some (Piece piece))
         → AreFit (fits setting.task) ps × IsRound (fits setting.task) setting.lanes 0 id (unlogged v) v.logs ps × AreGiven v.logs ps
-    close_round id v ws xs ys ps e live full f many same from =
+    close_round id v ws xs c ps many from =
         subst (λ (z : Setting K). AreFit (fits z.task) ps × IsRound (fits z.task) z.lanes 0 id (unlogged v) v.logs ps × AreGiven v.logs ps) about
-        (plain_round of_task id v ws xs f ps (ap (λ (z : Setting K). z.shelved) about ∙ e) live full (many ∙ ap (λ (z : Setting K). z.lanes) (sym about))
-        (λ k piece h. ap (λ (z : List (Slot T H)). get_elem? z k) (sym same) ∙ from k piece h))
+        (plain_round of_task id v ws xs c.final ps (ap (λ (z : Setting K). z.shelved) about ∙ c.plain) c.live c.full
+        (many ∙ ap (λ (z : Setting K). z.lanes) (sym about)) from)
 
-    -- a pass that is full gives the baton back for the last time, and closes the table
-    pub record IsLastTurn (id : ℕ) (v w : View T K) (logs : List (List (Entry T))) (r : Helped) (id' : ℕ) (w' : View T K) (ws : List ℕ)
-        (xs : List (Slot T H)) (x : Slot T H) : Type 0 where
-      pub same : id' ≡ id
-      pub seen : unlogged w' ≡ w
-      pub kept : AreKept logs w'.logs
+    -- a pass that is full gives the baton back for the last time, and closes the table: its number, view and logs before, the view as the last turn
+    -- leaves it, the answer, its number and view at the end, the words and the slots then, and the last slot
+    pub record LastTurn : Type 0 where
+      pub id : ℕ
+      pub view : View T K
+      pub logs : List (List (Entry T))
+      pub left : View T K
+      pub answer : Helped
+      pub end_id : ℕ
+      pub end_view : View T K
+      pub words : List ℕ
+      pub slots : List (Slot T H)
+      pub last : Slot T H
+      pub same : end_id ≡ id
+      pub seen : unlogged end_view ≡ left
+      pub kept : AreKept logs end_view.logs
       pub shelved : setting.shelved ≡ true
-      pub lanes : v.lanes ≡ setting.lanes
-      pub live : 0 < v.share
-      pub full : IsFull v
-      pub idle : v.turn ≡ None
-      pub helped : IsHelped v w r
-      pub final : Ends id' w' ws xs
-      pub there : get_elem? xs setting.lanes ≡ some x
+      pub lanes : view.lanes ≡ setting.lanes
+      pub live : 0 < view.share
+      pub full : IsFull view
+      pub idle : view.turn ≡ None
+      pub helped : IsHelped view left answer
+      pub final : Ends end_id end_view words slots
+      pub there : get_elem? slots setting.lanes ≡ some last
 
-    pub close_is_shelf : (id : ℕ) (v w : View T K) (logs : List (List (Entry T))) (r : Helped) (id' : ℕ) (w' : View T K) (ws : List ℕ)
-        (xs : List (Slot T H)) (x : Slot T H)
-        → IsLastTurn id v w logs r id' w' ws xs x
-        → (shelf : H) × (x ≡ Shelf shelf) × IsWhole fits laid stands setting id v logs shelf
-    close_is_shelf id v w logs r id' w' ws xs x h =
-        let q = ends_turn v w r h.full h.idle h.helped in
-        let is : unlogged w' ≡ handed v.lanes v = h.seen ∙ q.0 in
-        let share : w'.share ≡ v.share = ap (λ (z : View T K). z.share) is in
+    pub close_is_shelf : (h : LastTurn) → (shelf : H) × (h.last ≡ Shelf shelf) × IsWhole fits laid stands setting h.id h.view h.logs shelf
+    close_is_shelf h =
+        let q = ends_turn h.view h.left h.answer h.full h.idle h.helped in
+        let is : unlogged h.end_view ≡ handed h.view.lanes h.view = h.seen ∙ q.0 in
+        let share : h.end_view.share ≡ h.view.share = ap (λ (z : View T K). z.share) is in
         let live = h.live in
-        let n : v.lanes ≡ key.lanes = h.lanes ∙ ap (λ (z : Setting K). z.lanes) (sym about) in
-        let given : times v.lanes w'.given ≡ times v.lanes w.given = ap (λ (z : View T K). times v.lanes z.given) h.seen in
+        let n : h.view.lanes ≡ key.lanes = h.lanes ∙ ap (λ (z : Setting K). z.lanes) (sym about) in
+        let given : times h.view.lanes h.end_view.given ≡ times h.view.lanes h.left.given = ap (λ (z : View T K). times h.view.lanes z.given) h.seen in
         let some_given = q.1 in
-        let found = shelf_found of_task id' w' ws xs h.final x (ap (λ (z : Setting K). z.shelved) about ∙ h.shelved) (omega arith)
+        let found = shelf_found of_task h.end_id h.end_view h.words h.slots h.final h.last (ap (λ (z : Setting K). z.shelved) about ∙ h.shelved) (omega arith)
         (subst IsFull (sym is) h.full)
-        (ap (λ (z : View T K). z.turn) is) (subst (λ (z : ℕ). 1 ≤ times z w'.given) n (omega arith)) (moved xs (some x) h.there) in
-        let round : IsRound (fits key.task) key.lanes key.lanes id' (unlogged w') w'.logs (laid found.0) = found.5 in (
+        (ap (λ (z : View T K). z.turn) is) (subst (λ (z : ℕ). 1 ≤ times z h.end_view.given) n (omega arith)) (moved h.slots (some h.last) h.there) in
+        let round : IsRound (fits key.task) key.lanes key.lanes h.end_id (unlogged h.end_view) h.end_view.logs (laid found.0) = found.5 in (
           found.0,
           found.1,
-          subst (λ (z : Setting K). IsWhole fits laid stands z id v logs found.0) about record {
+          subst (λ (z : Setting K). IsWhole fits laid stands z h.id h.view h.logs found.0) about record {
             standing = found.2;
             each = found.3;
             fit = found.4;
             round = record {
               journal = round.journal;
               kept = round.kept;
-              ends = ends_kept logs w'.logs round.journal h.kept round.ends;
+              ends = ends_kept h.logs h.end_view.logs round.journal h.kept round.ends;
               legal = round.legal;
               each = round.each;
               are_judged = round.are_judged;
               drawn = ap (of (played key.lanes (events key.lanes round.journal)).own) (sym h.same) ∙ round.drawn ∙ ap (λ (z : View T K). z.drawn) is;
               put = ap (of (played key.lanes (events key.lanes round.journal)).put) (sym h.same) ∙ round.put ∙ ap (λ (z : View T K). z.put) is;
             };
-            given = λ lane p put. found.6 lane p (put_kept lane p logs w'.logs put h.kept);
+            given = λ lane p put. found.6 lane p (put_kept lane p h.logs h.end_view.logs put h.kept);
           },
         )
 
-    pub close_whole : (id : ℕ) (v w : View T K) (logs : List (List (Entry T))) (r : Helped) (id' : ℕ) (w' : View T K) (ws : List ℕ)
-        (xs : List (Slot T H)) (x : Slot T H) (shelf : H)
-        → IsLastTurn id v w logs r id' w' ws xs x
-        → x ≡ Shelf shelf → IsWhole fits laid stands setting id v logs shelf
-    close_whole id v w logs r id' w' ws xs x shelf h is =
-        let found = close_is_shelf id v w logs r id' w' ws xs x h in
-        subst (IsWhole fits laid stands setting id v logs) (same_shelf found.0 shelf (sym found.1 ∙ is)) found.2
+    pub close_whole : (h : LastTurn) (shelf : H) → h.last ≡ Shelf shelf → IsWhole fits laid stands setting h.id h.view h.logs shelf
+    close_whole h shelf is =
+        let found = close_is_shelf h in
+        subst (IsWhole fits laid stands setting h.id h.view h.logs) (same_shelf found.0 shelf (sym found.1 ∙ is)) found.2

@@ -77,9 +77,11 @@ fn many_jobs(rt: HostRuntime) -> Result<(), Fail> {
     for job in 0..1024u32 {
         jobs.push(job)?;
     }
+    let jobs = jobs.as_slice();
+    assert_eq!(rt; jobs.len(), 1024);
     for threads in [1, 2, 8, 64] {
         let doubler = Doubler::new(NEVER);
-        let answers = run_jobs(&rt, rt.alloc(), &doubler, jobs.as_slice(), threads, &FreePool)?;
+        let answers = run_jobs(&rt, rt.alloc(), &doubler, jobs, threads, &FreePool)?;
         assert_eq!(rt; answers.len(), 1024);
         for (job, answer) in answers.as_slice().iter().enumerate() {
             assert!(rt; *answer == (job as u64).wrapping_mul(2).wrapping_add(1));

@@ -10,4 +10,6 @@ mod jobs;
 #[cfg(test)]
 mod marks;
 #[cfg(test)]
+mod tally;
+#[cfg(test)]
 mod workers;

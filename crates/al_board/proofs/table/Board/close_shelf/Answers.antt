@@ -8,9 +8,17 @@ use Rattle.al_board.proofs.table.Board.close_shelf.Goals as goal
 pub shelf_in-requires : goal.shelf_in-requires
 shelf_in-requires g c =
     let found = close_is_shelf g.T.Piece.fits g.T.Piece.laid (λ k n h. g.T.Piece.stands k h × (g.T.Piece.lanes k ≡ n)) c.args.self.table.shared.key
-    c.args.self.setting c.args.self.about
-    c.args.pass.seat.id (view c.args.pass) (view c.take_turn.new.pass) (logs_of c.args.pass) c.take_turn.result _ c.take_turn.new.pass.seat.me.0 _
-    (slots_items c.close_with-closed.result.slots) c.take-last.result record {
+    c.args.self.setting c.args.self.about record {
+      id = c.args.pass.seat.id;
+      view = view c.args.pass;
+      logs = logs_of c.args.pass;
+      left = view c.take_turn.new.pass;
+      answer = c.take_turn.result;
+      end_id = _;
+      end_view = c.take_turn.new.pass.seat.me.0;
+      words = _;
+      slots = slots_items c.close_with-closed.result.slots;
+      last = c.take-last.result;
       same = c.take_turn.ensures.own.1;
       seen = refl;
       kept = kept_help c.args.self.setting.lanes (logs_of c.args.pass) (logs_of c.take_turn.new.pass) c.take_turn.result c.take_turn.ensures.logged;
@@ -28,9 +36,17 @@ shelf_in-requires g c =
 pub returns : goal.returns
 returns g c =
     let whole = close_whole g.T.Piece.fits g.T.Piece.laid (λ k n h. g.T.Piece.stands k h × (g.T.Piece.lanes k ≡ n)) c.args.self.table.shared.key
-    c.args.self.setting c.args.self.about
-    c.args.pass.seat.id (view c.args.pass) (view c.take_turn.new.pass) (logs_of c.args.pass) c.take_turn.result _ c.take_turn.new.pass.seat.me.0 _
-    (slots_items c.close_with-closed.result.slots) c.take-last.result c.shelf_in.result record {
+    c.args.self.setting c.args.self.about record {
+      id = c.args.pass.seat.id;
+      view = view c.args.pass;
+      logs = logs_of c.args.pass;
+      left = view c.take_turn.new.pass;
+      answer = c.take_turn.result;
+      end_id = _;
+      end_view = c.take_turn.new.pass.seat.me.0;
+      words = _;
+      slots = slots_items c.close_with-closed.result.slots;
+      last = c.take-last.result;
       same = c.take_turn.ensures.own.1;
       seen = refl;
       kept = kept_help c.args.self.setting.lanes (logs_of c.args.pass) (logs_of c.take_turn.new.pass) c.take_turn.result c.take_turn.ensures.logged;
@@ -42,5 +58,5 @@ returns g c =
       helped = c.take_turn.ensures.helped;
       final = c.close_with-closed.ensures.values.2;
       there = c.take-last.ensures.value;
-    } c.shelf_in.ensures in
+    } c.shelf_in.result c.shelf_in.ensures in
     record { stands = whole.standing.0; each = whole.each; fit = whole.fit; history = whole.round; given = whole.given }

@@ -6,7 +6,7 @@ use Rattle.al_board.specs.Seen.{logs_of, seat_logs, seen}
 use Rattle.al_board.specs.Views.{unlogged}
 use Rattle.al_board.proofs.Batons.{seizes, passes_on}
 use Rattle.al_board.proofs.Kept.{advanced}
-use Rattle.al_board.proofs.Lays.{laid_turn, laid_work, turned_is, turned_other}
+use Rattle.al_board.proofs.Lays.{laid_turn, laid_work, shelf_in_front, front_refilled}
 use Rattle.al_board.proofs.table.Board.take_turn.Goals as goal
 
 pub swap-found-requires : goal.swap-found-requires
@@ -49,7 +49,7 @@ swap-requires g c =
           (subst (λ k. g.T.Piece.stands k.task c.lay_on-next.new.shelf × (g.T.Piece.lanes k.task ≡ k.lanes)) (sym c.args.self.now.about)
           (c.lay_on-next.ensures.shelf, (took.standing c.args.self.now.setting.task own.1).1 ∙ own.2))
           refl
-          (turned_other n c.lay_on-next.result Empty (Shelf c.lay_on-next.new.shelf) _ _ (turned_is n c.lay_on-next.result _ c.lay_on-next.ensures.held)
+          (front_refilled n c.lay_on-next.result Empty (Shelf c.lay_on-next.new.shelf) _ _ (shelf_in_front n c.lay_on-next.result _ c.lay_on-next.ensures.held)
           (ap (λ z. z.1) c.exchange-in-Shelf.ensures.3 ∙ ap (λ z. (n, Shelf c.lay_on-next.new.shelf) ∷ rest z.1) c.turn.ensures.2)),
     )
 
