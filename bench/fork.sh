@@ -24,8 +24,9 @@ function least(threads, column) { return 1000 * best[threads, column] }
 }
 END {
   for (threads = 1; threads <= 4; threads *= 2)
-    printf "threads %d: user %.0f, system %.0f, clock %.0f\n", threads, least(threads, 2), least(threads, 3), least(threads, 4)
+    printf "threads %d: user %.0f, system %.0f, clock %.0f\n", threads, \
+      least(threads, 2), least(threads, 3), least(threads, 4)
   for (threads = 2; threads <= 4; threads *= 2)
-    printf "fork of %d: user %.0f, system %.0f, clock %.0f\n", threads, least(threads, 2) - least(1, 2), \
-      least(threads, 3) - least(1, 3), least(threads, 4) - least(1, 4)
+    printf "fork of %d: user %.0f, system %.0f, clock %.0f\n", threads, \
+      least(threads, 2) - least(1, 2), least(threads, 3) - least(1, 3), least(threads, 4) - least(1, 4)
 }'

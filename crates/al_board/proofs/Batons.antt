@@ -150,7 +150,7 @@ module _ {T H K : Type 0} (b : Terms T H K) where
 
   -- what such a step owes
   record MayChange (s : State (Slot T H) (View T K)) (k : IsKept b s) (id : ℕ) (v : View T K) (x : Change) (word : ℕ) (home : maybe.Option (Slot T H))
-    : Type 0
+      : Type 0
     where
       pub sound : AllSound b.key record k.stage { judged = x.judged } (changed_views s k x id v)
       pub within : x.judged ≤ k.stage.taken
@@ -273,10 +273,14 @@ module _ {T H K : Type 0} (b : Terms T H K) where
             tt,
             subst (λ (ws : List ℕ). Kept record { words = ws; homes = s.homes; views = set s.views id w }) (sym same)
                 (miss_keeps s k id v at ms (Met id) told),
-            (λ _. record { view = refl; slots = refl; logged = logged o.0 o.4 apart; not_full = λ full. let z = full_alone b s k id v at live idle full in let e = h.1 in omega arith }),
+            (λ _. record {
+              view = refl;
+              slots = refl;
+              logged = logged o.0 o.4 apart;
+              not_full = λ full. let z = full_alone b s k id v at live idle full in let e = h.1 in omega arith;
+            }),
             (λ ne. absurd (ne h.0)),
           )
-
         where
           logged : (q : ℕ) → k.holder ≡ Some q → q ≢ id → MetBaton v.lanes v.logs ((Met id ∷ k.journal) ∷ [])
           logged q e ne =
@@ -439,7 +443,8 @@ module _ {T H K : Type 0} (b : Terms T H K) where
       told : IsTold b.fits b.key.lanes record k.stage { taken = k.stage.taken + 1 } k.holder (took_views s k id t piece v) (Took id ∷ k.journal)
       told = subst (λ (z : Option ℕ). IsTold b.fits b.key.lanes record k.stage { taken = k.stage.taken + 1 } z (took_views s k id t piece v)
           (Took id ∷ k.journal)) (sym holder_is)
-          (told_took b.fits b.key.lanes k.stage s.views k.journal record { id = id; old = v; new = took_view k.journal id t piece v; at = has.at } piece stay_same
+          (told_took b.fits b.key.lanes k.stage s.views k.journal record { id = id; old = v; new = took_view k.journal id t piece v; at = has.at }
+          piece stay_same
           (ap (λ (z : ℕ). piece_of z k.stage.pieces) (sym next_is) ∙ its)
           (subst (λ (z : Option ℕ). IsTold b.fits b.key.lanes k.stage z s.views k.journal) holder_is (told_of b s k)))
 
@@ -466,7 +471,8 @@ module _ {T H K : Type 0} (b : Terms T H K) where
       behind x low (no ne) = let e = next_is in k.behind x (omega arith)
 
       word : (x : ℕ) → get_or s.words (x + 1) 0 ≡ total (held_count x) s.views + 2 * total (put_times x) s.views + below x k.stage.taken
-          → get_or (set s.words (t.next + 1) taken_word) (t.next + 1) 0 ≡ taken_word → (x ≢ t.next → get_or (set s.words (t.next + 1) taken_word) (x + 1) 0 ≡ get_or s.words (x + 1) 0)
+          → get_or (set s.words (t.next + 1) taken_word) (t.next + 1) 0 ≡ taken_word
+          → (x ≢ t.next → get_or (set s.words (t.next + 1) taken_word) (x + 1) 0 ≡ get_or s.words (x + 1) 0)
           → total (held_count x) (took_views s k id t piece v) ≡ total (held_count x) s.views
           → total (put_times x) (took_views s k id t piece v) ≡ total (put_times x) s.views → Dec (x ≡ t.next)
           → get_or (set s.words (t.next + 1) taken_word) (x + 1) 0
@@ -476,7 +482,8 @@ module _ {T H K : Type 0} (b : Terms T H K) where
           let m = at_most_one b s k x in
           let i = next_is in
           let c = below_yes x (k.stage.taken + 1) (omega arith) in
-          let w : get_or (set s.words (t.next + 1) taken_word) (x + 1) 0 ≡ taken_word = ap (λ (y : ℕ). get_or (set s.words (t.next + 1) taken_word) (y + 1) 0) e ∙ there in
+          let w : get_or (set s.words (t.next + 1) taken_word) (x + 1) 0 ≡ taken_word =
+          ap (λ (y : ℕ). get_or (set s.words (t.next + 1) taken_word) (y + 1) 0) e ∙ there in
           omega arith
       word x was there else h p (no ne) =
           let c = below_next x k.stage.taken in
@@ -484,11 +491,13 @@ module _ {T H K : Type 0} (b : Terms T H K) where
           let same = else ne in omega arith
 
       slots : (x : ℕ) → IsSlot b.fits k.stage.pieces x (get_or s.words (x + 1) 0) (get_elem? s.homes x)
-          → get_or (set s.words (t.next + 1) taken_word) (t.next + 1) 0 ≡ taken_word → (x ≢ t.next → get_or (set s.words (t.next + 1) taken_word) (x + 1) 0 ≡ get_or s.words (x + 1) 0)
+          → get_or (set s.words (t.next + 1) taken_word) (t.next + 1) 0 ≡ taken_word
+          → (x ≢ t.next → get_or (set s.words (t.next + 1) taken_word) (x + 1) 0 ≡ get_or s.words (x + 1) 0)
           → Dec (x ≡ t.next)
           → IsSlot b.fits k.stage.pieces x (get_or (set s.words (t.next + 1) taken_word) (x + 1) 0) (get_elem? (set s.homes t.next maybe.none) x)
       slots x was there else (yes e) =
-          let three : get_or (set s.words (t.next + 1) taken_word) (x + 1) 0 ≡ taken_word = ap (λ (y : ℕ). get_or (set s.words (t.next + 1) taken_word) (y + 1) 0) e ∙ there in
+          let gone : get_or (set s.words (t.next + 1) taken_word) (x + 1) 0 ≡ taken_word =
+          ap (λ (y : ℕ). get_or (set s.words (t.next + 1) taken_word) (y + 1) 0) e ∙ there in
           record { empty = λ h. absurd (omega arith); full = λ h. absurd (omega arith) }
       slots x was there else (no ne) = same_slot b k.stage.pieces x _ _ _ _ (else ne) (set_else s.homes t.next x maybe.none ne) was
 
@@ -721,14 +730,16 @@ module _ {T H K : Type 0} (fits : K → ℕ → T → Type 0) (laid : H → List
 
   pub tries : (slots lanes id : ℕ) (v : View T K) (c : Carry) (t : Turn T) → v.lanes ≡ lanes → 0 < v.share → v.shelved ≡ true → v.turn ≡ Some t
       → t.next < lanes → IsCarried lanes t.next c
-      → Allows (IsKept of_task) slots id (v, c) (t.next + 1) (λ n. either (eqb n filled_word) taken_word n) (IsTry fits (step slots (t.next + 1) filled_word taken_word maybe.none) (v, c))
+      → Allows (IsKept of_task) slots id (v, c) (t.next + 1) (λ n. either (eqb n filled_word) taken_word n)
+      (IsTry fits (step slots (t.next + 1) filled_word taken_word maybe.none) (v, c))
   tries slots lanes id v c t many live shelved turn lt shape s k len at small = ⊎_elim one two shape
     where
       F : Carry → Type 0
       F z = (w : View T K)
           × (a : Act (Slot T H))
           × Valid s.homes z a
-          × IsKept of_task (stepped s (t.next + 1) (either (eqb (get_or s.words (t.next + 1) 0) filled_word) taken_word (get_or s.words (t.next + 1) 0)) id z w a)
+          × IsKept of_task
+          (stepped s (t.next + 1) (either (eqb (get_or s.words (t.next + 1) 0) filled_word) taken_word (get_or s.words (t.next + 1) 0)) id z w a)
           × IsTry fits (step slots (t.next + 1) filled_word taken_word maybe.none) (v, z) (get_or s.words (t.next + 1) 0) (w, carried_after z a)
 
       about : (v.task ≡ Some key.task) × (v.lanes ≡ key.lanes) × (v.shelved ≡ key.shelved)
@@ -810,7 +821,13 @@ module _ {T H K : Type 0} (fits : K → ℕ → T → Type 0) (laid : H → List
 
       one : m.1 ≡ (lanes, Shelf shelf) ∷ [] → F lanes m.1
       one e = subst (F lanes) (sym e) (subst (λ (n : ℕ). F n ((n, Shelf shelf) ∷ [])) lanes_are
-          (after, chain gives gives, (tt, tt), passes_at of_task s k id m.0 t shelf has live standing same, record { view = refl; slots = refl; logged = handed }))
+          (
+            after,
+            chain gives gives,
+            (tt, tt),
+            passes_at of_task s k id m.0 t shelf has live standing same,
+            record { view = refl; slots = refl; logged = handed },
+          ))
 
       two : (lane : ℕ) × (lane < t.next) × (m.1 ≡ (lanes, Shelf shelf) ∷ (lane, Empty) ∷ []) → F lanes m.1
       two e = subst (F lanes) (sym e.2) (subst (λ (n : ℕ). F n ((n, Shelf shelf) ∷ (e.0, Empty) ∷ [])) lanes_are (

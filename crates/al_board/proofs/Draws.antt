@@ -17,7 +17,7 @@ use Rattle.al_board.specs.Views.{got, keeping, parted, joined, spent_view, unlog
 use Rattle.al_board.specs.Rule.{Terms, Stage, IsSound, IsKept}
 use Rattle.al_board.specs.Steps.{IsDraw, IsLook}
 use Rattle.al_board.specs.Core.{of}
-use Rattle.al_board.specs.Journal.{Account, account}
+use Rattle.al_board.specs.Journal.{Account}
 use Rattle.al_board.specs.Logs.{DrewNumber}
 use Rattle.al_board.proofs.Pieces.{lt_yes, lt_no, none_some}
 use Rattle.al_board.proofs.Entries.{stay_same, told_draw, told_split, told_join, nobody_drew}
@@ -99,14 +99,14 @@ module _ {T H K : Type 0} (b : Terms T H K) where
       let so = k.sound id v at in
       draw_keeps s k id v at (v.drawn ++ d ∷ []) v.ended v.allowance record {
         sound = record {
-            about = so.about;
-            late = λ e. absurd (true≢false (sym e ∙ going));
-            spent = λ e. absurd (omega arith);
-            paid = so.paid;
-            able = so.able;
-            own = λ x. let o = so.own x in let t = times_snoc x d v.drawn in omega arith;
-            turn = λ t e. let q = so.turn t e in record { next = q.next; found = q.found; put = q.put; first = q.first };
-            given = so.given;
+          about = so.about;
+          late = λ e. absurd (true≢false (sym e ∙ going));
+          spent = λ e. absurd (omega arith);
+          paid = so.paid;
+          able = so.able;
+          own = λ x. let o = so.own x in let t = times_snoc x d v.drawn in omega arith;
+          turn = λ t e. let q = so.turn t e in record { next = q.next; found = q.found; put = q.put; first = q.first };
+          given = so.given;
         };
         once = λ x.
             let t = total_set (drawn_times x) s.views id v w at in
@@ -117,7 +117,7 @@ module _ {T H K : Type 0} (b : Terms T H K) where
             let c : below x (min d n) ≡ below x d = ap (below x) m in
             let c' : below x (min (d + 1) n) ≡ below x (d + 1) = ap (below x) m' in
             let nx = below_next x d in
-      omega arith;
+            omega arith;
         room = let e = total_same allowance_of s.views id v w at refl in let r = k.room in omega arith;
         own = ap (λ (z : Bool). cond z (v.drawn ++ d ∷ []) v.drawn) (lt_yes d n near);
       }
@@ -138,21 +138,21 @@ module _ {T H K : Type 0} (b : Terms T H K) where
       let able : 1 ≤ v.allowance = so.able live going in
       draw_keeps s k id v at v.drawn true (v.allowance - 1) record {
         sound = record {
-            about = so.about;
-            late = λ _. omega arith;
-            spent = λ e. absurd (omega arith);
-            paid = let p = so.paid in omega arith;
-            able = λ _ e. absurd (true≢false e);
-            own = so.own;
-            turn = λ t e. let q = so.turn t e in record { next = q.next; found = q.found; put = q.put; first = q.first };
-            given = so.given;
+          about = so.about;
+          late = λ _. omega arith;
+          spent = λ e. absurd (omega arith);
+          paid = let p = so.paid in omega arith;
+          able = λ _ e. absurd (true≢false e);
+          own = so.own;
+          turn = λ t e. let q = so.turn t e in record { next = q.next; found = q.found; put = q.put; first = q.first };
+          given = so.given;
         };
         once = λ x.
             let t = total_same (drawn_times x) s.views id v w at refl in
             let e = k.drawn x in
             let m : min d n ≡ min (d + 1) n = omega arith in
             let c : below x (min d n) ≡ below x (min (d + 1) n) = ap (below x) m in
-      omega arith;
+            omega arith;
         room = let e = total_set allowance_of s.views id v w at in let r = k.room in omega arith;
         own = ap (λ (z : Bool). cond z (v.drawn ++ d ∷ []) v.drawn) (lt_no d n far);
       }

@@ -306,7 +306,8 @@ module _ {T H K : Type 0} (b : Terms T H K) where
       → m ≡ (w, (lane, Piece piece) ∷ c) → b.fits lane piece
       → Allows (IsKept b) slots id m (lane + 1) (λ _. filled_word) (IsFill (step slots (lane + 1) filled_word 0 maybe.none) m)
   fills_lane slots id v w c m lane piece live lt e is fit =
-      subst (λ (y : View T K × Held). Allows (IsKept b) slots id y (lane + 1) (λ _. filled_word) (IsFill (step slots (lane + 1) filled_word 0 maybe.none) y)) (sym is) here
+      subst (λ (y : View T K × Held). Allows (IsKept b) slots id y (lane + 1) (λ _. filled_word)
+      (IsFill (step slots (lane + 1) filled_word 0 maybe.none) y)) (sym is) here
     where
       here : Allows (IsKept b) slots id (w, (lane, Piece piece) ∷ c) (lane + 1) (λ _. filled_word)
           (IsFill (step slots (lane + 1) filled_word 0 maybe.none) (w, (lane, Piece piece) ∷ c))

@@ -286,7 +286,8 @@ module _ {T W : Type 0} (judge : List T → T → W) where
   verdicts_are fits lanes (puts p lane piece ∷ h) l =
       let c : Core T = played lanes h in
       verdicts_are fits lanes h l.1
-      ∙ ap (in_order judge []) (sym (first_else c.judged lane piece c.pieces (behind fits lanes c (sound_of fits lanes h l.1) p lane l.0.is_pass l.0.drawn l.0.not_put)))
+      ∙ ap (in_order judge []) (sym (first_else c.judged lane piece c.pieces
+      (behind fits lanes c (sound_of fits lanes h l.1) p lane l.0.is_pass l.0.drawn l.0.not_put)))
   verdicts_are fits lanes (splits p ∷ h) l = verdicts_are fits lanes h l.1
   verdicts_are fits lanes (joins p q ∷ h) l = verdicts_are fits lanes h l.1
   verdicts_are fits lanes (judges lane ∷ h) l =

@@ -91,8 +91,8 @@ abbrev pub core_of : {T : Type 0} → Account T → Core T
 core_of a = record { drawn = a.drawn; own = a.own; put = a.put; pieces = a.pieces; judged = a.judged }
 
 module _ {T : Type 0} (fits : ℕ → T → Type 0) (lanes : ℕ) where
-  -- The entry may come next. A pass puts a piece where none was put. A pass that has put a lane seizes the baton where nobody has it, and meets it where
-  -- another pass has it.
+  -- The entry may come next. A pass puts a piece where none was put. A pass that has put a lane seizes the baton where
+  -- nobody has it, and meets it where another pass has it.
   -- Who has it takes the next lane where its piece was put, skips it where none was, and may give the baton back.
   abbrev pub MayEnter : Entry T → Account T → Type 0
   MayEnter (Drew p) a = p < length a.own

@@ -7,8 +7,8 @@ use Rattle.al_board.specs.Journal.{events, IsJournal}
 use Rattle.al_board.specs.Logs.{AreEnds}
 
 -- There is a journal, of which all that this pass has logged are ends. Its events are a legal history in which these
--- pieces, and no other, were put into the lanes, in their order, and so many were judged. The pass drew and put what its
--- view says.
+-- pieces, and no other, were put into the lanes, in their order, and so many were judged. The pass drew and put what
+-- its view says.
 pub record IsRound {T K : Type 0} (fits : ℕ → T → Type 0) (lanes judged pass : ℕ) (v : View T K)
     (logs : List (List (Entry T))) (pieces : List T) : Type 0 where
   pub journal : List (Entry T)

@@ -6,12 +6,6 @@ use Rattle.al_board.specs.declared.view.Miss.TheVariants.{Baton, Lane}
 use Rattle.al_board.specs.declared.view.View.{View}
 use Rattle.al_count.specs.Counts.{times, below}
 
--- how often the baton was missed
-abbrev pub met_times : List Miss → ℕ
-met_times [] = 0
-met_times (Baton ∷ ms) = 1 + met_times ms
-met_times (Lane j ∷ ms) = met_times ms
-
 module _ {T K : Type 0} where
   -- the first pass of a board
   abbrev pub opener : Setting K → View T K
@@ -113,10 +107,6 @@ module _ {T K : Type 0} where
   abbrev pub handed : ℕ → View T K → View T K
   handed next v = record v { turn = None; given = v.given ++ next ∷ [] }
 
-  -- how often it tried to take the baton: it gave it back, or missed it
-  abbrev pub tries_of : View T K → ℕ
-  tries_of v = length v.given + met_times v.misses
-
   -- it drew some lanes more, and put these
   abbrev pub ran : List ℕ → View T K → View T K
   ran lanes v = record v { drawn = v.drawn ++ lanes; put = v.put ++ lanes }
@@ -166,17 +156,3 @@ module _ {T K : Type 0} where
   -- a lane was drawn, made and put, or the draw ended the pass
   abbrev pub HasFilled : View T K → View T K → Option ℕ → Type 0
   HasFilled v w r = MatchOption r (w ≡ over v) (λ lane. w ≡ gave lane (got lane v))
-
-  -- a run that lays pieces: it drew some lanes and put these, and after each of them tried once to take the baton
-  pub record HasLaid (v w : View T K) : Type 0 where
-    pub ran_lanes : List ℕ
-    pub same : IsSameWork (ran ran_lanes v) w
-    pub tried : tries_of w ≡ tries_of v + length ran_lanes
-
-  -- such a run that has ended: then no lane was left
-  abbrev pub HasWorked : View T K → View T K → Type 0
-  HasWorked v w = (u : View T K) × HasLaid v u × (w ≡ over u)
-
-  -- such a run that was stopped: then it drew one lane more
-  abbrev pub HasHalted : View T K → View T K → Type 0
-  HasHalted v w = (u : View T K) × HasLaid v u × ((lane : ℕ) × (w ≡ got lane u))

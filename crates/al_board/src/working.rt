@@ -1,8 +1,9 @@
 //! A worker's run.
 ghost use Rattle.std.specs.Prelude.{ℕ, true, false, ◌≡◌, ◌+◌, List, OnOk, OnErr, IfOk};
+ghost use Rattle.al_board.specs.Helps.{HasWorked, HasHalted};
 ghost use Rattle.al_board.specs.Logs.{AreKept, HasLoggedFill};
 ghost use Rattle.al_board.specs.Seen.{logs_of, view, IsSame, IsPassOf, lane_count, task_of, has_shelf};
-ghost use Rattle.al_board.specs.Views.{got, HasFilled, HasPutAll, HasRun, HasStopped, HasWorked, HasHalted};
+ghost use Rattle.al_board.specs.Views.{got, HasFilled, HasPutAll, HasRun, HasStopped};
 
 use crate::piece::{Maker, Piece};
 use crate::table::{Board, Pass};

@@ -1,7 +1,7 @@
 use Rattle.std.proofs.Common.{◌≡◌, false, ◌-◌, length}
 use Rattle.al_board.specs.Logs.{AreKept}
 use Rattle.al_board.specs.Seen.{logs_of, view, IsSame}
-use Rattle.al_board.specs.Views.{HasLaid}
+use Rattle.al_board.specs.Helps.{HasLaid}
 use Rattle.al_board.proofs.working.work_and_lay.Given as goal
 
 abbrev pub invariant-loop-pass : goal.invariant-loop-pass

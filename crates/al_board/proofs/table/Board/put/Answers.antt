@@ -3,7 +3,7 @@ use Rattle.atomic_table.specs.Table.{rest}
 use Rattle.al_board.specs.declared.view.Slot.TheVariants.{Empty, Piece}
 use Rattle.al_board.specs.declared.view.Entry.TheVariants.{Put}
 use Rattle.al_board.specs.Logs.{HasLogged}
-use Rattle.al_board.specs.Seen.{logs_of, view}
+use Rattle.al_board.specs.Seen.{view}
 use Rattle.al_board.specs.Views.{gave, unlogged}
 use Rattle.al_board.proofs.Passes.{drawn_below}
 use Rattle.al_board.proofs.Puts.{takes_lane, fills_lane, put_view, put_idle}
