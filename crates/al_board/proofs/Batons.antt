@@ -686,10 +686,17 @@ module _ {T H K : Type 0} (fits : K → ℕ → T → Type 0) (laid : H → List
   abbrev Carry : Type 0
   Carry = List (ℕ × Slot T H)
 
-  pub seizes : (slots lanes id : ℕ) (v : View T K) (c : Carry) → v.lanes ≡ lanes → 0 < v.share → v.shelved ≡ true → v.turn ≡ None
-      → (1 ≤ length v.put) ⊎ IsFull v
+  -- a pass of a board with a shelf that may try to take the baton
+  pub record MaySeize (lanes : ℕ) (v : View T K) : Type 0 where
+    pub many : v.lanes ≡ lanes
+    pub live : 0 < v.share
+    pub shelved : v.shelved ≡ true
+    pub idle : v.turn ≡ None
+    pub put : (1 ≤ length v.put) ⊎ IsFull v
+
+  pub seizes : (slots lanes id : ℕ) (v : View T K) (c : Carry) → MaySeize lanes v
       → Allows (IsKept of_task) slots id (v, c) (lanes + 1) (λ _. away_word) (IsSeizure laid stands (step slots (lanes + 1) away_word 0 maybe.none) (v, c))
-  seizes slots lanes id v c many live shelved idle put s k len at small = subst F same here
+  seizes slots lanes id v c may s k len at small = subst F same here
     where
       F : ℕ → Type 0
       F n = (w : View T K)
@@ -699,14 +706,14 @@ module _ {T H K : Type 0} (fits : K → ℕ → T → Type 0) (laid : H → List
           × IsSeizure laid stands (step slots (n + 1) away_word 0 maybe.none) (v, c) (get_or s.words (n + 1) 0) (w, carried_after c a)
 
       about : (v.task ≡ Some key.task) × (v.lanes ≡ key.lanes) × (v.shelved ≡ key.shelved)
-      about = (k.sound id v at).about live
+      about = (k.sound id v at).about may.live
 
       same : key.lanes ≡ lanes
-      same = sym about.1 ∙ many
+      same = sym about.1 ∙ may.many
 
       here : F key.lanes
       here =
-          let r = seizes_at of_task s k id v c at live shelved idle put in (
+          let r = seizes_at of_task s k id v c at may.live may.shelved may.idle may.put in (
             r.0,
             r.1,
             r.2,
@@ -716,7 +723,7 @@ module _ {T H K : Type 0} (fits : K → ℕ → T → Type 0) (laid : H → List
               home = λ ne.
                   let q = r.5 ne in
                   record {
-                    at_most = let e = about.1 in let l = q.0 in omega arith;
+                    at_most = let e = about.1 in let l = q.0 in let many = may.many in omega arith;
                     shelf = q.1.0;
                     view = q.1.1;
                     slots = q.1.2 ∙ ap (λ (z : ℕ). (z, Shelf q.1.0) ∷ c) (sym about.1);
@@ -728,11 +735,17 @@ module _ {T H K : Type 0} (fits : K → ℕ → T → Type 0) (laid : H → List
             },
           )
 
-  pub tries : (slots lanes id : ℕ) (v : View T K) (c : Carry) (t : Turn T) → v.lanes ≡ lanes → 0 < v.share → v.shelved ≡ true → v.turn ≡ Some t
-      → t.next < lanes → IsCarried lanes t.next c
+  -- a pass that has a turn, on a board with a shelf
+  pub record IsAtTurn (lanes : ℕ) (v : View T K) (t : Turn T) : Type 0 where
+    pub many : v.lanes ≡ lanes
+    pub live : 0 < v.share
+    pub shelved : v.shelved ≡ true
+    pub turn : v.turn ≡ Some t
+
+  pub tries : (slots lanes id : ℕ) (v : View T K) (c : Carry) (t : Turn T) → IsAtTurn lanes v t → t.next < lanes → IsCarried lanes t.next c
       → Allows (IsKept of_task) slots id (v, c) (t.next + 1) (λ n. either (eqb n filled_word) taken_word n)
       (IsTry fits (step slots (t.next + 1) filled_word taken_word maybe.none) (v, c))
-  tries slots lanes id v c t many live shelved turn lt shape s k len at small = ⊎_elim one two shape
+  tries slots lanes id v c t may lt shape s k len at small = ⊎_elim one two shape
     where
       F : Carry → Type 0
       F z = (w : View T K)
@@ -743,13 +756,13 @@ module _ {T H K : Type 0} (fits : K → ℕ → T → Type 0) (laid : H → List
           × IsTry fits (step slots (t.next + 1) filled_word taken_word maybe.none) (v, z) (get_or s.words (t.next + 1) 0) (w, carried_after z a)
 
       about : (v.task ≡ Some key.task) × (v.lanes ≡ key.lanes) × (v.shelved ≡ key.shelved)
-      about = (k.sound id v at).about live
+      about = (k.sound id v at).about may.live
 
       near : t.next < key.lanes
-      near = let e = about.1 in omega arith
+      near = let e = about.1 in let many = may.many in omega arith
 
       has : HasTurn of_task s k id v t
-      has = record { at = at; turn = turn; shelf = sym about.2 ∙ shelved }
+      has = record { at = at; turn = may.turn; shelf = sym about.2 ∙ may.shelved }
 
       task_is : (task : K) → v.task ≡ Some task → key.task ≡ task
       task_is task is = the_same v.task key.task task about.0 is
@@ -757,7 +770,7 @@ module _ {T H K : Type 0} (fits : K → ℕ → T → Type 0) (laid : H → List
       told : (z rest : Carry) → spared z ≡ rest → (w : View T K) (c' : Carry) → Found of_task s t v w rest c'
           → IsTry fits (step slots (t.next + 1) filled_word taken_word maybe.none) (v, z) (get_or s.words (t.next + 1) 0) (w, c')
       told z rest e w c' f = record {
-        filled = λ u is is2. subst (λ (y : Turn T). IsTaken fits y (v, z) (w, c')) (the_same v.turn t u turn is)
+        filled = λ u is is2. subst (λ (y : Turn T). IsTaken fits y (v, z) (w, c')) (the_same v.turn t u may.turn is)
             (let q = f.filled is2 in
             record {
               piece = q.0;
@@ -766,7 +779,7 @@ module _ {T H K : Type 0} (fits : K → ℕ → T → Type 0) (laid : H → List
               logged = q.4;
               fit = λ task h. subst (λ (y : K). fits y t.next q.0) (task_is task h) q.3;
             });
-        missing = λ u is ne. subst (λ (y : Turn T). IsSkipped y (v, z) (w, c')) (the_same v.turn t u turn is)
+        missing = λ u is ne. subst (λ (y : Turn T). IsSkipped y (v, z) (w, c')) (the_same v.turn t u may.turn is)
             (let q = f.missing ne in
             record {
               view = q.0;
@@ -779,19 +792,18 @@ module _ {T H K : Type 0} (fits : K → ℕ → T → Type 0) (laid : H → List
 
       one : c ≡ (lanes, Empty) ∷ [] → F c
       one e = subst F (sym e)
-          (let r = tries_at of_task s k id v ((lanes, Empty) ∷ []) t has live near in
+          (let r = tries_at of_task s k id v ((lanes, Empty) ∷ []) t has may.live near in
           (r.0, r.1, r.2, r.3, told ((lanes, Empty) ∷ []) ((lanes, Empty) ∷ []) refl r.0 _ r.4))
 
       two : (lane : ℕ) × (lane < t.next) × (c ≡ (lane, Empty) ∷ (lanes, Empty) ∷ []) → F c
       two e = subst F (sym e.2)
-          (let r = tries_back of_task s k id v e.0 Empty ((lanes, Empty) ∷ []) t has live near e.1 in
+          (let r = tries_back of_task s k id v e.0 Empty ((lanes, Empty) ∷ []) t has may.live near e.1 in
           (r.0, r.1, r.2, r.3, told ((e.0, Empty) ∷ (lanes, Empty) ∷ []) ((lanes, Empty) ∷ []) refl r.0 _ r.4))
 
-  pub passes_on : (slots lanes id : ℕ) (m : View T K × Carry) (t : Turn T) (shelf : H) → m.0.lanes ≡ lanes → 0 < m.0.share → m.0.shelved ≡ true
-      → m.0.turn ≡ Some t
+  pub passes_on : (slots lanes id : ℕ) (m : View T K × Carry) (t : Turn T) (shelf : H) → IsAtTurn lanes m.0 t
       → stands key.task key.lanes shelf → laid shelf ≡ t.laid → HasShelfFirst lanes t.next (Shelf shelf) m.1
       → Allows (IsKept of_task) slots id m (lanes + 1) (λ _. t.next) (IsHanding (step slots (lanes + 1) t.next 0 maybe.none) m)
-  passes_on slots lanes id m t shelf many live shelved turn standing same shape s k len at small = ⊎_elim one two shape
+  passes_on slots lanes id m t shelf may standing same shape s k len at small = ⊎_elim one two shape
     where
       F : ℕ → Carry → Type 0
       F n z = (w : View T K)
@@ -801,19 +813,19 @@ module _ {T H K : Type 0} (fits : K → ℕ → T → Type 0) (laid : H → List
           × IsHanding (step slots (n + 1) t.next 0 maybe.none) (m.0, z) (get_or s.words (n + 1) 0) (w, carried_after z a)
 
       about : (m.0.task ≡ Some key.task) × (m.0.lanes ≡ key.lanes) × (m.0.shelved ≡ key.shelved)
-      about = (k.sound id m.0 at).about live
+      about = (k.sound id m.0 at).about may.live
 
       has : HasTurn of_task s k id m.0 t
-      has = record { at = at; turn = turn; shelf = sym about.2 ∙ shelved }
+      has = record { at = at; turn = may.turn; shelf = sym about.2 ∙ may.shelved }
 
       lanes_are : key.lanes ≡ lanes
-      lanes_are = sym about.1 ∙ many
+      lanes_are = sym about.1 ∙ may.many
 
       handed : HandedBaton m.0.lanes t.next m.0.logs ((Handed id ∷ k.journal) ∷ [])
       handed = subst (λ (z : ℕ). HandedBaton z t.next m.0.logs ((Handed id ∷ k.journal) ∷ [])) (sym about.1)
           record {
             logged = logged_now of_task s k id m.0 at Handed;
-            taken_are = ap (λ (a : Account T). a.taken) k.told ∙ sym ((k.sound id m.0 at).turn t turn).next;
+            taken_are = ap (λ (a : Account T). a.taken) k.told ∙ sym ((k.sound id m.0 at).turn t may.turn).next;
           }
 
       after : View T K
@@ -825,7 +837,7 @@ module _ {T H K : Type 0} (fits : K → ℕ → T → Type 0) (laid : H → List
             after,
             chain gives gives,
             (tt, tt),
-            passes_at of_task s k id m.0 t shelf has live standing same,
+            passes_at of_task s k id m.0 t shelf has may.live standing same,
             record { view = refl; slots = refl; logged = handed },
           ))
 
@@ -834,6 +846,6 @@ module _ {T H K : Type 0} (fits : K → ℕ → T → Type 0) (laid : H → List
         after,
         chain gives gives,
         (tt, tt),
-        passes_back of_task s k id m.0 t shelf e.0 Empty has live standing same e.1,
+        passes_back of_task s k id m.0 t shelf e.0 Empty has may.live standing same e.1,
         record { view = refl; slots = refl; logged = handed },
       ))

@@ -213,19 +213,27 @@ module _ {T H K : Type 0} (b : Terms T H K) where
           let l = one_le x lane in omega arith
       mine x o (no ne) = let z = one_other x lane ne in omega arith
 
-  pub takes_lane : (slots id : ℕ) (v : View T K) (c : Held) (lane : ℕ) → 0 < v.share → lane < v.lanes → 1 ≤ times lane v.drawn → times lane v.put ≡ 0
-      → v.holds ≡ None
+  -- a pass that may take the slot of a lane that it drew
+  pub record MayTakeLane (v : View T K) (lane : ℕ) : Type 0 where
+    pub live : 0 < v.share
+    pub near : lane < v.lanes
+    pub drawn : 1 ≤ times lane v.drawn
+    pub not_put : times lane v.put ≡ 0
+    pub free : v.holds ≡ None
+
+  pub takes_lane : (slots id : ℕ) (v : View T K) (c : Held) (lane : ℕ) → MayTakeLane v lane
       → Allows (IsKept b) slots id (v, c) (lane + 1) (λ _. held_word) (IsTake (step slots (lane + 1) held_word 0 maybe.none) (v, c))
-  takes_lane slots id v c lane live lt has not_put free s k len at small =
-      let same = ((k.sound id v at).about live).1 in
+  takes_lane slots id v c lane may s k len at small =
+      let same = ((k.sound id v at).about may.live).1 in
+      let within = may.near in
       let near : lane < b.key.lanes = omega arith in
-      let none = none_has b s k id v at lane has not_put free in
+      let none = none_has b s k id v at lane may.drawn may.not_put may.free in
       let zero_there : get_or s.words (lane + 1) 0 ≡ 0 = let w = k.word lane near in
       let a = below_no lane k.stage.taken (ahead b s k lane none.1) in omega arith in (
         taking lane v,
         takes lane Empty,
         (k.slot lane near).empty zero_there,
-        taking_keeps s k id v at lane near has not_put free,
+        taking_keeps s k id v at lane near may.drawn may.not_put may.free,
         record {
           view = λ x e. let same : lane ≡ x = omega arith in ap (λ (z : ℕ). taking z (unlogged v)) same;
           slots = λ x e. let same : lane ≡ x = omega arith in ap (λ (z : ℕ). (z, Empty) ∷ c) same;
@@ -301,13 +309,19 @@ module _ {T H K : Type 0} (b : Terms T H K) where
         logs = logs_entry s.views k.journal id v w (Put id lane piece) at refl k.logs;
       }
 
-  pub fills_lane : (slots id : ℕ) (v w : View T K) (c : Held) (m : View T K × Held) (lane : ℕ) (piece : T) → 0 < v.share → lane < v.lanes
-      → unlogged w ≡ taking lane v
-      → m ≡ (w, (lane, Piece piece) ∷ c) → b.fits lane piece
+  -- a pass that has taken the slot of a lane and put the piece into it
+  pub record HasFilledSlot (v w : View T K) (c : Held) (m : View T K × Held) (lane : ℕ) (piece : T) : Type 0 where
+    pub live : 0 < v.share
+    pub near : lane < v.lanes
+    pub took : unlogged w ≡ taking lane v
+    pub holds : m ≡ (w, (lane, Piece piece) ∷ c)
+    pub fit : b.fits lane piece
+
+  pub fills_lane : (slots id : ℕ) (v w : View T K) (c : Held) (m : View T K × Held) (lane : ℕ) (piece : T) → HasFilledSlot v w c m lane piece
       → Allows (IsKept b) slots id m (lane + 1) (λ _. filled_word) (IsFill (step slots (lane + 1) filled_word 0 maybe.none) m)
-  fills_lane slots id v w c m lane piece live lt e is fit =
+  fills_lane slots id v w c m lane piece has =
       subst (λ (y : View T K × Held). Allows (IsKept b) slots id y (lane + 1) (λ _. filled_word)
-      (IsFill (step slots (lane + 1) filled_word 0 maybe.none) y)) (sym is) here
+      (IsFill (step slots (lane + 1) filled_word 0 maybe.none) y)) (sym has.holds) here
     where
       here : Allows (IsKept b) slots id (w, (lane, Piece piece) ∷ c) (lane + 1) (λ _. filled_word)
           (IsFill (step slots (lane + 1) filled_word 0 maybe.none) (w, (lane, Piece piece) ∷ c))
@@ -315,13 +329,15 @@ module _ {T H K : Type 0} (b : Terms T H K) where
           let logged : (l : ℕ) (p : T) (cs : Held) → (lane, Piece piece) ∷ c ≡ (l, Piece p) ∷ cs
           → HasLogged (λ q. Put q l p) w.logs ((Put id lane piece ∷ k.journal) ∷ []) =
           λ l p cs e'. head_logged id lane l piece p c cs k.journal w.logs e' (all_ends s.views k.journal id w at k.logs) in
-          let share : w.share ≡ v.share = ap (λ (z : View T K). z.share) e in
-          let lanes : w.lanes ≡ v.lanes = ap (λ (z : View T K). z.lanes) e in
+          let live = has.live in
+          let within = has.near in
+          let share : w.share ≡ v.share = ap (λ (z : View T K). z.share) has.took in
+          let lanes : w.lanes ≡ v.lanes = ap (λ (z : View T K). z.lanes) has.took in
           let live' : 0 < w.share = omega arith in
           let same = ((k.sound id w at).about live').1 in
           let near : lane < b.key.lanes = omega arith in
           let x : View T K = put_view_of (filled_lane s k id w lane piece) w in
-          let h = gave_keeps s k id w at lane piece near (ap (λ (z : View T K). z.holds) e) fit in (
+          let h = gave_keeps s k id w at lane piece near (ap (λ (z : View T K). z.holds) has.took) has.fit in (
             x,
             gives,
             tt,

@@ -24,7 +24,13 @@ compare_exchange-word-requires g c =
       tries g.T.Piece.fits g.T.Piece.laid (λ k n h. g.T.Piece.stands k h × (g.T.Piece.lanes k ≡ n)) c.args.self.now.table.shared.key _
           c.args.self.now.setting.lanes
           _ _ _ record { found = c.args.found; next = c.loop-next.next; laid = g.T.Piece.laid c.loop-next.shelf }
-          (ap (λ z. z.lanes) i.view ∙ a.lanes) (omega arith) (ap (λ z. z.shelved) i.view ∙ a.shelved) (ap (λ z. z.turn) i.view) t i.held,
+          record {
+            many = ap (λ z. z.lanes) i.view ∙ a.lanes;
+            live = omega arith;
+            shelved = ap (λ z. z.shelved) i.view ∙ a.shelved;
+            turn = ap (λ z. z.turn) i.view;
+          }
+          t i.held,
     )
 
 pub returns-then-word-ne-FILLED-clause-laid : goal.returns-then-word-ne-FILLED-clause-laid

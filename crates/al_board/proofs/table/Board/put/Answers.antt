@@ -16,7 +16,13 @@ swap-requires g c =
     let lt = drawn_below (view c.args.pass.now) c.args.lane c.args.pass.now.bounded c.requires.drawn in (
       c.requires.own.0,
       omega arith,
-      takes_lane _ _ _ _ _ c.args.lane c.args.pass.now.live.0 lt c.requires.drawn c.requires.not_put c.args.pass.now.idle.1,
+      takes_lane _ _ _ _ _ c.args.lane record {
+        live = c.args.pass.now.live.0;
+        near = lt;
+        drawn = c.requires.drawn;
+        not_put = c.requires.not_put;
+        free = c.args.pass.now.idle.1;
+      },
     )
 
 pub exchange-requires : goal.exchange-requires
@@ -32,8 +38,13 @@ swap-requires-2 g c =
     let took = c.swap.ensures.2.view c.args.lane refl in (
       c.exchange.ensures.0 ∙ c.swap.ensures.0 ∙ c.requires.own.0,
       omega arith,
-      fills_lane _ _ _ (view c.args.pass.now) _ _ _ c.args.lane c.args.piece c.args.pass.now.live.0 lt took c.exchange.ensures.3
-          (subst (λ k. g.T.Piece.fits k.task c.args.lane c.args.piece) (sym c.args.self.now.about) c.requires.fits),
+      fills_lane _ _ _ (view c.args.pass.now) _ _ _ c.args.lane c.args.piece record {
+        live = c.args.pass.now.live.0;
+        near = lt;
+        took = took;
+        holds = c.exchange.ensures.3;
+        fit = subst (λ k. g.T.Piece.fits k.task c.args.lane c.args.piece) (sym c.args.self.now.about) c.requires.fits;
+      },
     )
 
 pub invariant_of-pass : goal.invariant_of-pass

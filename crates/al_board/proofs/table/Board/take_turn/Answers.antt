@@ -15,8 +15,13 @@ swap-found-requires g c =
       c.requires.own.0,
       omega arith,
       seizes g.T.Piece.fits g.T.Piece.laid (λ k n h. g.T.Piece.stands k h × (g.T.Piece.lanes k ≡ n)) c.args.self.now.table.shared.key _
-          c.args.self.now.setting.lanes _ _ _
-          c.requires.own.2 c.args.pass.now.live.0 (c.requires.own.3 ∙ c.requires.shelf) c.args.pass.now.idle.2 c.requires.put,
+          c.args.self.now.setting.lanes _ _ _ record {
+            many = c.requires.own.2;
+            live = c.args.pass.now.live.0;
+            shelved = c.requires.own.3 ∙ c.requires.shelf;
+            idle = c.args.pass.now.idle.2;
+            put = c.requires.put;
+          },
     )
 
 pub exchange-requires : goal.exchange-requires
@@ -42,10 +47,13 @@ swap-requires g c =
       omega arith,
       passes_on g.T.Piece.fits g.T.Piece.laid (λ k n h. g.T.Piece.stands k h × (g.T.Piece.lanes k ≡ n)) c.args.self.now.table.shared.key _ n _ _
           record { found = c.swap-found.result; next = c.lay_on-next.result; laid = on_shelf } c.lay_on-next.new.shelf
-          (ap (λ z. z.lanes) me ∙ w.lanes ∙ ap (λ z. z.lanes) e ∙ own.2)
-          (omega arith)
-          (ap (λ z. z.shelved) me ∙ w.shelved ∙ ap (λ z. z.shelved) e ∙ own.3 ∙ c.requires.shelf)
-          (ap (λ z. z.turn) me ∙ laid_turn n c.swap-found.result c.lay_on-next.result on_shelf (seen c.exchange.new.seat) (seen c.lay_on-next.new.seat) laid)
+          record {
+            many = ap (λ z. z.lanes) me ∙ w.lanes ∙ ap (λ z. z.lanes) e ∙ own.2;
+            live = omega arith;
+            shelved = ap (λ z. z.shelved) me ∙ w.shelved ∙ ap (λ z. z.shelved) e ∙ own.3 ∙ c.requires.shelf;
+            turn = ap (λ z. z.turn) me
+                ∙ laid_turn n c.swap-found.result c.lay_on-next.result on_shelf (seen c.exchange.new.seat) (seen c.lay_on-next.new.seat) laid;
+          }
           (subst (λ k. g.T.Piece.stands k.task c.lay_on-next.new.shelf × (g.T.Piece.lanes k.task ≡ k.lanes)) (sym c.args.self.now.about)
           (c.lay_on-next.ensures.shelf, (took.standing c.args.self.now.setting.task own.1).1 ∙ own.2))
           refl
