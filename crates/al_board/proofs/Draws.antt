@@ -382,5 +382,5 @@ module _ {T H K : Type 0} (b : Terms T H K) where
         holds = named_same k.holder vs other u spent there (sym idle) (named_same k.holder s.views id v w at refl k.holds);
         legal = told.0;
         told = told.1;
-        logs = logs_join s.views k.journal id other v u w spent at there' apart refl refl k.logs;
+        logs = logs_join s.views k.journal id other v u w spent record { at = at; there = there'; apart = apart; both = refl; none = refl } k.logs;
       }

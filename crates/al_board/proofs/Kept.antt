@@ -69,6 +69,23 @@ module _ {T : Type 0} where
     };
   }
 
+-- what a pass has logged while it lays pieces: before and after the baton was taken, with the shelf, after the pieces were laid, with the shelf's slot
+-- in front, with the shelf given back, and after the baton was given back
+pub record Advance (T : Type 0) (lanes next : ℕ) : Type 0 where
+  pub logs : List (List (Entry T))
+  pub seized : List (List (Entry T))
+  pub with_shelf : List (List (Entry T))
+  pub laid : List (List (Entry T))
+  pub in_front : List (List (Entry T))
+  pub without_shelf : List (List (Entry T))
+  pub later : List (List (Entry T))
+  pub took : HasLogged Seized logs seized
+  pub shelf_out : with_shelf ≡ seized
+  pub lays : HasLaidOn lanes next with_shelf laid
+  pub fronted : in_front ≡ laid
+  pub shelf_in : without_shelf ≡ in_front
+  pub hands : HandedBaton lanes next without_shelf later
+
 module _ {T : Type 0} where
   -- the run stops at a lane that has no piece
   pub laid_on : (lanes many next : ℕ) (logs before later : List (List (Entry T))) → many ≡ lanes → AreKept logs before → SkippedLane many next before later
@@ -78,15 +95,14 @@ module _ {T : Type 0} where
     halt = λ _. (before, kept, subst (λ (z : ℕ). SkippedLane z next before later) same skipped);
   }
 
-  -- the log after the whole of a call that lays pieces
-  pub advanced : (lanes next : ℕ) (logs seized out laid turned back later : List (List (Entry T))) → HasLogged Seized logs seized → out ≡ seized
-      → HasLaidOn lanes next out laid → turned ≡ laid → back ≡ turned → HandedBaton lanes next back later → HasAdvanced lanes next logs later
-  advanced lanes next logs seized out laid turned back later took e lays e' e'' hands = record {
-    seized = seized;
-    laid = laid;
-    seizes = took;
-    lays = subst (λ (z : List (List (Entry T))). HasLaidOn lanes next z laid) e lays;
-    hands = subst (λ (z : List (List (Entry T))). HandedBaton lanes next z later) (e'' ∙ e') hands;
+  -- the logs of a whole call that lays pieces
+  pub advanced : (lanes next : ℕ) (a : Advance T lanes next) → HasAdvanced lanes next a.logs a.later
+  advanced lanes next a = record {
+    seized = a.seized;
+    laid = a.laid;
+    seizes = a.took;
+    lays = subst (λ (z : List (List (Entry T))). HasLaidOn lanes next z a.laid) a.shelf_out a.lays;
+    hands = subst (λ (z : List (List (Entry T))). HandedBaton lanes next z a.later) (a.shelf_in ∙ a.fronted) a.hands;
   }
 
   -- it keeps what was logged

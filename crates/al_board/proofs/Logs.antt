@@ -132,31 +132,37 @@ module _ {T K : Type 0} where
       }
 
   -- nor is a join: the receiver has both logs
-  pub logs_join : (vs : List (View T K)) (h : List (Entry T)) (id other : ℕ) (v u w spent : View T K) → get_elem? vs id ≡ some v
-      → get_elem? vs other ≡ some u → other ≢ id
-      → w.logs ≡ v.logs ++ u.logs → spent.logs ≡ [] → AreLogs vs h → AreLogs (set (set vs id w) other spent) (Joined id other ∷ h)
-  logs_join vs h id other v u w spent at there apart logs none k = record {
+  pub record AreJoined (vs : List (View T K)) (id other : ℕ) (v u w spent : View T K) : Type 0 where
+    pub at : get_elem? vs id ≡ some v
+    pub there : get_elem? vs other ≡ some u
+    pub apart : other ≢ id
+    pub both : w.logs ≡ v.logs ++ u.logs
+    pub none : spent.logs ≡ []
+
+  pub logs_join : (vs : List (View T K)) (h : List (Entry T)) (id other : ℕ) (v u w spent : View T K) → AreJoined vs id other v u w spent
+      → AreLogs vs h → AreLogs (set (set vs id w) other spent) (Joined id other ∷ h)
+  logs_join vs h id other v u w spent j k = record {
     moves = Joined id other ∷ k.moves;
     last = k.last;
     are_moves = k.are_moves;
     whole = ap (λ (z : List (Entry T)). Joined id other ∷ z) k.whole;
     ends = ends_set (set vs id w) other spent k.last
         (ends_set vs id w k.last k.ends
-        (subst (λ (l : List (List (Entry T))). AreEnds l k.last) (sym logs)
-        (ends_append v.logs u.logs k.last (k.ends id v at) (k.ends other u there))))
-        (subst (λ (l : List (List (Entry T))). AreEnds l k.last) (sym none) (ends_none k.last));
+        (subst (λ (l : List (List (Entry T))). AreEnds l k.last) (sym j.both)
+        (ends_append v.logs u.logs k.last (k.ends id v j.at) (k.ends other u j.there))))
+        (subst (λ (l : List (List (Entry T))). AreEnds l k.last) (sym j.none) (ends_none k.last));
     someone = ⊎_elim (λ empty. inl empty) (λ x. go x (ℕ_discrete x.0 id) (ℕ_discrete x.0 other)) k.someone;
   }
     where
       mine : get_elem? (set (set vs id w) other spent) id ≡ some w
-      mine = set_else (set vs id w) other id spent (λ e. apart (sym e)) ∙ set_at vs id v w at
+      mine = set_else (set vs id w) other id spent (λ e. j.apart (sym e)) ∙ set_at vs id v w j.at
 
       go : (x : (i : ℕ) × (t : View T K) × (get_elem? vs i ≡ some t) × IsIn k.last t.logs) → Dec (x.0 ≡ id) → Dec (x.0 ≡ other)
           → HasSome (set (set vs id w) other spent) k.last
       go x (yes e) d =
-          let is : x.1 ≡ v = some-injective x.1 v (sym x.2 ∙ ap (get_elem? vs) e ∙ at) in
-          inr (id, w, mine, subst (IsIn k.last) (sym logs) (in_left k.last v.logs u.logs (subst (λ (z : View T K). IsIn k.last z.logs) is x.3)))
+          let is : x.1 ≡ v = some-injective x.1 v (sym x.2 ∙ ap (get_elem? vs) e ∙ j.at) in
+          inr (id, w, mine, subst (IsIn k.last) (sym j.both) (in_left k.last v.logs u.logs (subst (λ (z : View T K). IsIn k.last z.logs) is x.3)))
       go x (no ne) (yes e) =
-          let is : x.1 ≡ u = some-injective x.1 u (sym x.2 ∙ ap (get_elem? vs) e ∙ there) in
-          inr (id, w, mine, subst (IsIn k.last) (sym logs) (in_right k.last v.logs u.logs (subst (λ (z : View T K). IsIn k.last z.logs) is x.3)))
+          let is : x.1 ≡ u = some-injective x.1 u (sym x.2 ∙ ap (get_elem? vs) e ∙ j.there) in
+          inr (id, w, mine, subst (IsIn k.last) (sym j.both) (in_right k.last v.logs u.logs (subst (λ (z : View T K). IsIn k.last z.logs) is x.3)))
       go x (no ne) (no ne') = inr (x.0, x.1, set_else (set vs id w) other x.0 spent ne' ∙ set_else vs id x.0 w ne ∙ x.2, x.3)

@@ -77,8 +77,19 @@ returns-clause-logged g c =
     let me : seen c.exchange-in-Shelf.new.seat ≡ seen c.lay_on-next.new.seat =
     ap (λ z. unlogged z.0) c.exchange-in-Shelf.ensures.3 ∙ ap (λ z. unlogged z.0) c.turn.ensures.2 in
     let lanes : c.exchange-in-Shelf.new.seat.me.0.lanes ≡ n = ap (λ z. z.lanes) me ∙ w.lanes ∙ ap (λ z. z.lanes) e ∙ own.2 in
-    advanced n c.lay_on-next.result (logs_of c.args.pass.now) (seat_logs c.swap-found.new.seat) (seat_logs c.exchange.new.seat)
-    (seat_logs c.lay_on-next.new.seat) (seat_logs c.turn.new.self) (seat_logs c.exchange-in-Shelf.new.seat) (seat_logs c.swap.new.seat)
-    took.logged (ap (λ z. z.0.logs) c.exchange.ensures.3) c.lay_on-next.ensures.logged (ap (λ z. z.0.logs) c.turn.ensures.2)
-    (ap (λ z. z.0.logs) c.exchange-in-Shelf.ensures.3)
-    (subst (λ (z : ℕ). HandedBaton z c.lay_on-next.result (seat_logs c.exchange-in-Shelf.new.seat) (seat_logs c.swap.new.seat)) lanes c.swap.ensures.2.logged)
+    advanced n c.lay_on-next.result record {
+      logs = logs_of c.args.pass.now;
+      seized = seat_logs c.swap-found.new.seat;
+      with_shelf = seat_logs c.exchange.new.seat;
+      laid = seat_logs c.lay_on-next.new.seat;
+      in_front = seat_logs c.turn.new.self;
+      without_shelf = seat_logs c.exchange-in-Shelf.new.seat;
+      later = seat_logs c.swap.new.seat;
+      took = took.logged;
+      shelf_out = ap (λ z. z.0.logs) c.exchange.ensures.3;
+      lays = c.lay_on-next.ensures.logged;
+      fronted = ap (λ z. z.0.logs) c.turn.ensures.2;
+      shelf_in = ap (λ z. z.0.logs) c.exchange-in-Shelf.ensures.3;
+      hands = subst (λ (z : ℕ). HandedBaton z c.lay_on-next.result (seat_logs c.exchange-in-Shelf.new.seat) (seat_logs c.swap.new.seat)) lanes
+          c.swap.ensures.2.logged;
+    }
