@@ -832,14 +832,13 @@ module _ {T H K : Type 0} (fits : K → ℕ → T → Type 0) (laid : H → List
       after = changed of_task (handing of_task s k id m.0 t) k.journal m.0
 
       one : m.1 ≡ (lanes, Shelf shelf) ∷ [] → F lanes m.1
-      one e = subst (F lanes) (sym e) (subst (λ (n : ℕ). F n ((n, Shelf shelf) ∷ [])) lanes_are
-          (
-            after,
-            chain gives gives,
-            (tt, tt),
-            passes_at of_task s k id m.0 t shelf has may.live standing same,
-            record { view = refl; slots = refl; logged = handed },
-          ))
+      one e = subst (F lanes) (sym e) (subst (λ (n : ℕ). F n ((n, Shelf shelf) ∷ [])) lanes_are (
+        after,
+        chain gives gives,
+        (tt, tt),
+        passes_at of_task s k id m.0 t shelf has may.live standing same,
+        record { view = refl; slots = refl; logged = handed },
+      ))
 
       two : (lane : ℕ) × (lane < t.next) × (m.1 ≡ (lanes, Shelf shelf) ∷ (lane, Empty) ∷ []) → F lanes m.1
       two e = subst (F lanes) (sym e.2) (subst (λ (n : ℕ). F n ((n, Shelf shelf) ∷ (e.0, Empty) ∷ [])) lanes_are (

@@ -1,10 +1,7 @@
 -- A worker's run.
-use Rattle.std.proofs.Common.{◌≡◌, ℕ, ◌+◌, ◌≤◌, List, [], ◌∷◌, ◌++◌, refl, sym, ap, ◌∙◌, ⊎_elim, arith, length-append, subst, true, Option, Some, None, MatchOption, ◌<◌}
+use Rattle.std.proofs.Common.{◌≡◌, ℕ, ◌+◌, ◌≤◌, List, [], ◌∷◌, ◌++◌, refl, sym, ap, ◌∙◌, arith, subst, true, Option, Some, None, MatchOption, ◌<◌}
 use Rattle.std.proofs.lemmas.List.{append-nil, append_assoc}
 use Rattle.al_board.specs.declared.view.Helped.{Helped}
-use Rattle.al_board.specs.declared.view.Helped.TheVariants.{Busy, Advanced}
-use Rattle.al_board.specs.declared.view.Miss.{Miss}
-use Rattle.al_board.specs.declared.view.Miss.TheVariants.{Baton, Lane}
 use Rattle.al_board.specs.declared.view.View.{View}
 use Rattle.al_count.specs.Counts.{times}
 use Rattle.al_count.proofs.Totals.{one_same, times_append, times_snoc}

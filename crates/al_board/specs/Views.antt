@@ -2,7 +2,6 @@
 use Rattle.std.specs.Prelude.{◌≡◌, ℕ, ◌+◌, ◌-◌, ◌/◌, ◌^◌, ◌<◌, ◌≤◌, ◌⊎◌, true, false, Option, List, [], ◌∷◌, ◌++◌, length, Some, None, MatchOption}
 use Rattle.al_board.specs.declared.view.Setting.{Setting}
 use Rattle.al_board.specs.declared.view.Miss.{Miss}
-use Rattle.al_board.specs.declared.view.Miss.TheVariants.{Baton, Lane}
 use Rattle.al_board.specs.declared.view.View.{View}
 use Rattle.al_count.specs.Counts.{times, below}
 
