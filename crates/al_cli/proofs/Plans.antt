@@ -1,5 +1,5 @@
 -- What holds of all answers of the plan of words.
-use Rattle.std.proofs.Common.{◌≡◌, ◌⊎◌, inl, inr, ℕ, ◌==◌, Bool, true, false, if◌then◌else◌, List, [], ◌∷◌, codes, Option, None, Some, Result, Ok, Err, IsErr, IsSomeAnd, ℤ, refl, sym, ap, subst, ◌∙◌, arith}
+use Rattle.std.proofs.Common.{◌≡◌, inl, inr, ℕ, List, [], ◌∷◌, codes, Option, None, Some, Result, Ok, Err, IsSomeAnd, ℤ, refl, ap, arith}
 use Rattle.al_core.specs.declared.choices.Knobs.{Knobs}
 use Rattle.al_core.specs.declared.reports.Ending.{Ending}
 use Rattle.al_core.specs.declared.reports.Ending.TheVariants as ending
@@ -25,8 +25,7 @@ use Rattle.al_cli.specs.declared.tasks.Task.{Task}
 use Rattle.al_cli.specs.declared.tasks.Task.TheVariants as task
 use Rattle.al_cli.specs.declared.tasks.Detail.{Detail}
 use Rattle.al_cli.specs.declared.tasks.Detail.TheVariants as detail
-use Rattle.al_cli.specs.Lines.{word_line}
-use Rattle.al_cli.specs.Shown.{lockstep_report, done, ended, totals_of, task_of, bad_line_or_none, refused_line, if_accepted, source_plan, if_numbers, input_plan, source_name, input_name, after_source, job_plan, check_plan, demo_plan, plan_of, plan, job_names, names_by, names_of}
+use Rattle.al_cli.specs.Shown.{lockstep_report, ended, totals_of, task_of, bad_line_or_none, refused_line, if_accepted, source_plan, if_numbers, input_plan, source_name, input_name, after_source, job_plan, check_plan, plan_of, plan, job_names, names_by, names_of}
 use Rattle.al_cli.specs.Why.{asks, to_run, to_check, to_show, AreNumbers, Why, words_refused, source_refused, token_bad, input_refused, program_run, program_accepted, program_shown}
 
 -- ---- parts of plans
@@ -163,7 +162,8 @@ job_order t words job = source_order detail.File (source_name words job) _ (afte
     (λ program. input_order (input_name words job) (task_of t job.knobs (source_name words job) program))
 
 demo_order : (start size : ℕ) (knobs : Knobs) (r : Result Noted Refusal)
-    → ReadsInOrder [] (if_accepted (refusal_text (codes "demo")) (λ program. Answers (totals_of (codes "demo") (lockstep_report program (made_input start size) knobs))) r)
+    → ReadsInOrder [] (if_accepted (refusal_text (codes "demo"))
+    (λ program. Answers (totals_of (codes "demo") (lockstep_report program (made_input start size) knobs))) r)
 demo_order start size knobs (Ok program) = tt
 demo_order start size knobs (Err cause) = tt
 
