@@ -111,8 +111,7 @@ fn a_chunk_has_all_trips(rt: HostRuntime) -> Result<(), Fail> {
     let mut events = Items::new(alloc);
     events.push(enter(5, 3, 1))?;
     events.push(round(alloc, 0, &[Verdict::Commit])?)?;
-    let expected =
-        "loop 0 execution 0 line 5 trips 3 chunks 1\nround 0: 0 commit\nend done\n\
+    let expected = "loop 0 execution 0 line 5 trips 3 chunks 1\nround 0: 0 commit\nend done\n\
         loops 1 rounds 1 attempts 1 aborted 0 span 21\n";
     assert!(rt; is_trace(alloc, events, Ending::Done, [1, 1, 0], 21, expected)?);
     Ok(())
