@@ -1,25 +1,27 @@
 -- Clauses of the top call that speak of valid words, and of refused ones.
-use Rattle.std.proofs.Common.{◌≡◌, ◌≢◌, ◌⊎◌, inl, inr, ℕ, List, [], ◌∷◌, Option, None, Some, Result, Ok, Err, IfSome, IsErr, ℤ, refl, sym, ap, subst, ◌∙◌, arith}
+use Rattle.std.proofs.Common.{◌≡◌, ◌≢◌, ◌⊎◌, inl, inr, ℕ, List, [], ◌∷◌, Option, None, Some, Result, Ok, Err, IfSome, IsErr, ℤ, refl, ap, subst, ◌∙◌, arith}
 use Rattle.al_rules.specs.Refusals.{Noted}
-use Rattle.al_io.specs.Contents.{Contents}
+use Rattle.al_front.specs.declared.fault.BadTokens.{BadTokens}
+use Rattle.al_front.specs.Places.{IsBadIn}
+use Rattle.al_io.specs.Contents.{Contents, contents_of}
 use Rattle.al_io.specs.Counts.{DidNotRise}
 use Rattle.al_answers.specs.declared.answers.Answer.{Answer}
-use Rattle.al_answers.specs.Plans.{Answers, failed}
+use Rattle.al_answers.specs.Plans.{failed}
 use Rattle.al_answers.specs.Seen.{FilesSeen, SinkSeen}
 use Rattle.al_answers.specs.Outcome.{Outcome}
 use Rattle.al_answers.specs.Written.{IsOneOf, Writes}
 use Rattle.al_answers.proofs.Options.{if_so}
 use Rattle.al_answers.proofs.Outcomes.{at, is_as_played, only_answer}
 use Rattle.al_words.specs.declared.command.Command.{Command}
-use Rattle.al_words.specs.declared.command.Command.TheVariants.{Run}
+use Rattle.al_words.specs.declared.command.Command.TheVariants.{Run, Check}
 use Rattle.al_words.specs.declared.command.Job.{Job}
 use Rattle.al_words.specs.declared.command.WordFault.{WordFault}
 use Rattle.al_words.specs.Words.{command}
 use Rattle.al_cli.specs.declared.tasks.Task.TheVariants as task
 use Rattle.al_cli.specs.Lines.{word_line}
-use Rattle.al_cli.specs.Shown.{lockstep_report, bytes_of, source_name, plan_of, plan, shown}
+use Rattle.al_cli.specs.Shown.{lockstep_report, bytes_of, bad_line, source_name, plan_of, plan, shown}
 use Rattle.al_cli.specs.Headline.{Holds, IsValid}
-use Rattle.al_cli.proofs.Valid.{holds_shows, valid_status}
+use Rattle.al_cli.proofs.Valid.{holds_shows, bad_shows, valid_status}
 
 module _ (words : List (List ℕ)) (f g : FilesSeen) (o p e q : SinkSeen) where
   pub headline : (s : ℕ) → Outcome (plan words) (at f g o p e q s) → (job : Job) → (program : Noted) → (input : List ℤ) → command words ≡ Ok (Run job)
@@ -28,6 +30,14 @@ module _ (words : List (List ℕ)) (f g : FilesSeen) (o p e q : SinkSeen) where
       (at f g o p e q s))
   headline s outcome job program input is still still_out still_err not_six =
       if_so f.contents _ _ (λ files w h. subst (λ a. Writes a (at f g o p e q s)) (holds_shows words files task.Run job program input is h) w)
+      (is_as_played (plan words) f g o p e q s outcome still still_out still_err not_six)
+
+  pub bad_token : (s : ℕ) → Outcome (plan words) (at f g o p e q s) → (job : Job) (source : List ℕ) (bad : BadTokens) → command words ≡ Ok (Check job)
+      → IsBadIn source bad → DidNotRise f.faults g.faults → DidNotRise o.faults p.faults → DidNotRise e.faults q.faults → s ≢ 6
+      → IfSome f.contents (λ files. contents_of files (source_name words job) ≡ Some source
+      → Writes (failed 1 (bad_line (source_name words job) source bad)) (at f g o p e q s))
+  bad_token s outcome job source bad is h still still_out still_err not_six =
+      if_so f.contents _ _ (λ files w there. subst (λ a. Writes a (at f g o p e q s)) (bad_shows words files job source bad is there h) w)
       (is_as_played (plan words) f g o p e q s outcome still still_out still_err not_six)
 
   with_six : (s : ℕ) (a : Answer) → (s ≢ 6 → Writes a (at f g o p e q s)) → IsOneOf (0 ∷ 3 ∷ []) a.status → (s ≡ 6) ⊎ (s ≢ 6) → IsOneOf (0 ∷ 3 ∷ 6 ∷ []) s

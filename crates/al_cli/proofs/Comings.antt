@@ -1,9 +1,9 @@
 -- What the parts of a plan come to.
-use Rattle.std.proofs.Common.{◌≡◌, ◌≢◌, ℕ, List, [], Option, None, Some, Result, Ok, Err, IfOk, OnErr, ℤ, refl, sym, ap, subst, ◌∙◌}
+use Rattle.std.proofs.Common.{◌≡◌, ℕ, List, [], Option, None, Some, Result, Ok, Err, IfOk, OnErr, IsSomeAnd, ℤ, sym, ap, subst, ◌∙◌}
 use Rattle.std.specs.declared.alloc.AllocError.{AllocError}
 use Rattle.al_core.specs.declared.choices.Knobs.{Knobs}
 use Rattle.al_rules.specs.Refusals.{Noted, accepted}
-use Rattle.al_report.specs.Faults.{refusal_text, input_cause_text}
+use Rattle.al_report.specs.Faults.{input_cause_text}
 use Rattle.al_rules.specs.declared.faults.Refusal.{Refusal}
 use Rattle.al_answers.specs.declared.answers.Answer.{Answer}
 use Rattle.al_answers.specs.declared.reading.FileRead.{FileRead}
@@ -17,12 +17,13 @@ use Rattle.al_text.specs.Numbers.{numbers_of}
 use Rattle.al_words.specs.declared.command.Command.{Command}
 use Rattle.al_words.specs.declared.command.WordFault.{WordFault}
 use Rattle.al_words.specs.Words.{command}
-use Rattle.al_cli.specs.Shown.{most_of_source, most_of_input, if_accepted, source_plan, if_numbers, input_plan, task_of, plan_of, plan}
+use Rattle.al_cli.specs.Shown.{most_of_source, most_of_input, refused_line, if_accepted, source_plan, if_numbers, input_plan, task_of, plan_of, plan}
 use Rattle.al_cli.specs.declared.reading.SourceStep.{SourceStep}
 use Rattle.al_cli.specs.declared.reading.SourceStep.TheVariants as source
 use Rattle.al_cli.specs.declared.reading.InputStep.{InputStep}
 use Rattle.al_cli.specs.declared.reading.InputStep.TheVariants as input
 use Rattle.al_cli.specs.declared.tasks.Task.{Task}
+use Rattle.al_cli.specs.declared.tasks.Detail.{Detail}
 use Rattle.al_cli.specs.Steps.{GoesOn, SourceComes, InputComes}
 
 pub on_any_err : {A : Type 0} (r : Result A AllocError) (P : Type 0) → P → OnErr r P
@@ -58,32 +59,42 @@ task_shown t knobs name own program ns ms a same numbers is = is ∙ ap (λ n. t
 
 -- ---- a source
 
-module _ (name bytes : List ℕ) (f g : FilesSeen) (r : FileRead) (read : r ≡ file.Bytes bytes) (reading : Reading name most_of_source f g r) where
+abbrev on_source : Detail → List ℕ → (Noted → Plan) → List ℕ → Plan
+on_source d name next source = if_accepted (refused_line d name source) next (accepted source)
+
+module _ (d : Detail) (name bytes : List ℕ) (f g : FilesSeen) (r : FileRead) (read : r ≡ file.Bytes bytes)
+    (reading : Reading name most_of_source f g r) where
   source_read : ReadsOnce f g × IsBeginning f name most_of_source bytes
   source_read = read_bytes name most_of_source f g r bytes read reading
 
-  pub source_goes : (program : Noted) → accepted bytes ≡ Ok program → GoesOn (source_plan name) f g program
+  pub source_goes : (program : Noted) → accepted bytes ≡ Ok program → GoesOn (source_plan d name) f g program
   source_goes program is = record {
-    came = λ next last a c. read_on name most_of_source (λ source. if_accepted name next (accepted source)) f g last bytes a source_read.0 source_read.1
-        (rw is c);
-    starved = λ next last s. later name most_of_source (λ source. if_accepted name next (accepted source)) f g last bytes source_read.0 source_read.1 (rw is s);
+    came = λ next last a c. read_on name most_of_source (on_source d name next) f g last bytes a source_read.0 source_read.1 (rw is c);
+    starved = λ next last s. later name most_of_source (on_source d name next) f g last bytes source_read.0 source_read.1 (rw is s);
   }
 
-  pub source_refused : (cause : Refusal) (a : Answer) → accepted bytes ≡ Err cause → a ≡ failed 1 (refusal_text name cause) → (next : Noted → Plan)
-      → Came (source_plan name next) f g a
-  source_refused cause a is same next = read_on name most_of_source (λ source. if_accepted name next (accepted source)) f g g bytes a source_read.0
-      source_read.1 (rw is (came_answer _ a g same))
+  source_refused : (cause : Refusal) (a : Answer) → accepted bytes ≡ Err cause → a ≡ failed 1 (refused_line d name bytes cause)
+      → (next : Noted → Plan) → Came (source_plan d name next) f g a
+  source_refused cause a is same next = read_on name most_of_source (on_source d name next) f g g bytes a source_read.0 source_read.1
+      (rw is (came_answer _ a g same))
 
-  pub source_starved : (next : Noted → Plan) → Starved (source_plan name next) f g
-  source_starved next = later name most_of_source (λ source. if_accepted name next (accepted source)) f g g bytes source_read.0 source_read.1 (at_once _ g)
+  -- of the cause of a fault, and the line about it
+  pub source_told : (cause : Option Refusal) (line : List ℕ) (a : Answer) → Fails (accepted bytes) cause
+      → IsSomeAnd cause (λ of. line ≡ refused_line d name bytes of) → a ≡ failed 1 line → (next : Noted → Plan) → Came (source_plan d name next) f g a
+  source_told (Some cause) line a is told same = source_refused cause a is (same ∙ ap (failed 1) told)
+  source_told None line a is told same = absurd told
 
-pub source_untried : (name : List ℕ) (f g : FilesSeen) → TriesOnce f g → (next : Noted → Plan) → Starved (source_plan name next) f g
-source_untried name f g once next = at_read name most_of_source (λ source. if_accepted name next (accepted source)) f g once
+  pub source_starved : (next : Noted → Plan) → Starved (source_plan d name next) f g
+  source_starved next = later name most_of_source (on_source d name next) f g g bytes source_read.0 source_read.1 (at_once _ g)
+
+pub source_untried : (d : Detail) (name : List ℕ) (f g : FilesSeen) → TriesOnce f g → (next : Noted → Plan) → Starved (source_plan d name next) f g
+source_untried d name f g once next = at_read name most_of_source (on_source d name next) f g once
 
 -- the source of this name was accepted
-pub source_accepted : (name own : List ℕ) (f g : FilesSeen) (r : SourceStep) (program : Noted) → name ≡ own → r ≡ source.Accepted program
-    → SourceComes name f g r → GoesOn (source_plan own) f g program
-source_accepted name own f g r program same is comes = subst (λ n. GoesOn (source_plan n) f g program) same (subst (SourceComes name f g) is comes)
+pub source_accepted : (d : Detail) (name own : List ℕ) (f g : FilesSeen) (r : SourceStep) (program : Noted) → name ≡ own
+    → r ≡ source.Accepted program → SourceComes d name f g r → GoesOn (source_plan d own) f g program
+source_accepted d name own f g r program same is comes =
+    subst (λ n. GoesOn (source_plan d n) f g program) same (subst (SourceComes d name f g) is comes)
 
 -- ---- an input
 

@@ -1,6 +1,7 @@
 pub mod Plans
 pub mod Valid
 pub mod Comings
+pub mod Told
 pub mod Clauses
 mod LockstepRounds
 pub mod Promised

@@ -7,7 +7,7 @@ use Rattle.al_cli.specs.Promises.{Promises}
 use Rattle.al_cli.specs.Shown.{names_of, plan}
 use Rattle.al_cli.specs.Why.{Why}
 use Rattle.al_cli.proofs.Plans.{every_why, own_statuses, in_order}
-use Rattle.al_cli.proofs.Clauses.{headline, complete, words_give}
+use Rattle.al_cli.proofs.Clauses.{headline, bad_token, complete, words_give}
 use Rattle.al_cli.proofs.LockstepRounds.{lockstep_fits}
 
 module _ (words : List (List ℕ)) (c : Call) (outcome : Outcome (plan words) c) where
@@ -27,6 +27,7 @@ module _ (words : List (List ℕ)) (c : Call) (outcome : Outcome (plan words) c)
         headline = λ job program input is quiet fed. headline words f g o p e q s outcome job program input is quiet.files quiet.out quiet.err fed;
         rounds = λ job program input is. lockstep_fits program input job.knobs;
         shows = λ quiet fed. is_as_played w f g o p e q s outcome quiet.files quiet.out quiet.err fed;
+        bad_token = λ job source bad is h quiet fed. bad_token words f g o p e q s outcome job source bad is h quiet.files quiet.out quiet.err fed;
         complete = λ quiet. complete words f g o p e q s outcome quiet.files quiet.out quiet.err;
         statuses = has_status w f g o p e q own s outcome;
         why = λ answered. is_planned w f g o p e q (Why words) (every_why words) s outcome answered.read answered.written answered.fed;

@@ -1,16 +1,19 @@
 -- What is promised of a call of `alter` with these words.
-use Rattle.std.specs.Prelude.{◌≡◌, ◌⊎◌, ℕ, List, [], ◌∷◌, length, Ok, IsErr, ℤ}
+use Rattle.std.specs.Prelude.{◌≡◌, ◌⊎◌, ℕ, List, [], ◌∷◌, length, Some, Ok, IsErr, ℤ}
 use Rattle.al_laws.specs.Rounds.{RoundsFit}
 use Rattle.al_rules.specs.Refusals.{Noted}
-use Rattle.al_words.specs.declared.command.Command.TheVariants.{Run}
+use Rattle.al_front.specs.declared.fault.BadTokens.{BadTokens}
+use Rattle.al_front.specs.Places.{IsBadIn}
+use Rattle.al_io.specs.Contents.{contents_of}
+use Rattle.al_words.specs.declared.command.Command.TheVariants.{Run, Check}
 use Rattle.al_words.specs.declared.command.Job.{Job}
 use Rattle.al_words.specs.Words.{command}
 use Rattle.al_answers.specs.Calls.{Call, OverTold, NoReadFails, ReadFails, ReadMayFail, PutFails, PutMayFail, HasNoPut, IsSilent, IsQuiet, HasMemory, IsAnswered}
-use Rattle.al_answers.specs.Plans.{reads_on}
+use Rattle.al_answers.specs.Plans.{failed, reads_on}
 use Rattle.al_answers.specs.Tried.{ReadAtMost}
 use Rattle.al_answers.specs.Written.{IsOneOf, Writes, WritesPart, HasOnePutAtMost, Answered, Unread, UnreadInPart, Absent}
 use Rattle.al_cli.specs.Headline.{Holds, IsValid}
-use Rattle.al_cli.specs.Shown.{lockstep_report, bytes_of, source_name, names_of, plan, shown}
+use Rattle.al_cli.specs.Shown.{lockstep_report, bytes_of, bad_line, source_name, names_of, plan, shown}
 use Rattle.al_cli.specs.Why.{Why}
 
 pub record Promises (words : List (List ℕ)) (c : Call) : Type 0 where
@@ -24,6 +27,11 @@ pub record Promises (words : List (List ℕ)) (c : Call) : Type 0 where
       → RoundsFit (lockstep_report program input job.knobs).events
   -- Where nothing fails and memory is found, status and bytes are those that the words show over these files.
   pub shows : IsQuiet c → HasMemory c → OverTold c (λ files. Writes (shown words files) c)
+  -- `check` of a source whose tokens derive no program tells the first bad token.
+  pub bad_token : (job : Job) (source : List ℕ) (bad : BadTokens) → command words ≡ Ok (Check job) → IsBadIn source bad
+      → IsQuiet c → HasMemory c
+      → OverTold c (λ files. contents_of files (source_name words job) ≡ Some source
+      → Writes (failed 1 (bad_line (source_name words job) source bad)) c)
   -- Valid words, source and input are done, unless memory runs out.
   pub complete : IsQuiet c → OverTold c (λ files. IsValid words files → IsOneOf (0 ∷ 3 ∷ 6 ∷ []) c.status)
   -- Which status comes, and why: but for a fault and want of memory an answer was written that has its cause.

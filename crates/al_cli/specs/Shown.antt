@@ -15,7 +15,11 @@ use Rattle.al_gen.specs.Generated.{source as made_source, input as made_input}
 use Rattle.al_io.specs.Contents.{Contents}
 use Rattle.al_report.specs.Traces.{trace_text, totals_text, trap_text}
 use Rattle.al_report.specs.Faults.{refusal_text, input_cause_text}
+use Rattle.al_report.specs.Places.{bad_text}
 use Rattle.al_rules.specs.declared.faults.Refusal.{Refusal}
+use Rattle.al_rules.specs.declared.faults.Refusal.TheVariants.{Grammar}
+use Rattle.al_front.specs.declared.fault.BadTokens.{BadTokens}
+use Rattle.al_front.specs.Places.{bad_tokens}
 use Rattle.al_answers.specs.declared.answers.Answer.{Answer}
 use Rattle.al_answers.specs.Plans.{Plan, Reads, Answers, failed, played}
 use Rattle.al_text.specs.declared.faults.InputCause.{InputCause}
@@ -27,6 +31,8 @@ use Rattle.al_words.specs.declared.command.WordFault.{WordFault}
 use Rattle.al_words.specs.Words.{command, word_at, place}
 use Rattle.al_cli.specs.declared.tasks.Task.{Task}
 use Rattle.al_cli.specs.declared.tasks.Task.TheVariants as task
+use Rattle.al_cli.specs.declared.tasks.Detail.{Detail}
+use Rattle.al_cli.specs.declared.tasks.Detail.TheVariants as detail
 use Rattle.al_cli.specs.Lines.{word_line}
 
 -- ---- runs
@@ -82,13 +88,28 @@ most_of_source = SOURCE_BYTES + 1
 abbrev pub most_of_input : ℕ
 most_of_input = INPUT_BYTES + 1
 
-abbrev pub if_accepted : List ℕ → (Noted → Plan) → Result Noted Refusal → Plan
-if_accepted name next (Ok program) = next program
-if_accepted name next (Err cause) = Answers (failed 1 (refusal_text name cause))
+-- a source with its first bad token
+abbrev pub bad_line : List ℕ → List ℕ → BadTokens → List ℕ
+bad_line name source bad = bad_text name source bad.tokens bad.place
+
+-- Every source that the grammar refuses has bad tokens.
+abbrev pub bad_line_or_none : List ℕ → List ℕ → Option BadTokens → List ℕ
+bad_line_or_none name source (Some bad) = bad_line name source bad
+bad_line_or_none name source None = refusal_text name Grammar
+
+-- what is said of a source that is refused: where the grammar refuses it, its first bad token, if that is told
+abbrev pub refused_line : Detail → List ℕ → List ℕ → Refusal → List ℕ
+refused_line detail.Token name source Grammar = bad_line_or_none name source (bad_tokens source)
+refused_line _ name source cause = refusal_text name cause
+
+abbrev pub if_accepted : (Refusal → List ℕ) → (Noted → Plan) → Result Noted Refusal → Plan
+if_accepted line next (Ok program) = next program
+if_accepted line next (Err cause) = Answers (failed 1 (line cause))
 
 -- A source is read, and refused or gone on with.
-abbrev pub source_plan : List ℕ → (Noted → Plan) → Plan
-source_plan name next = Reads name most_of_source (λ source. if_accepted name next (accepted source))
+abbrev pub source_plan : Detail → List ℕ → (Noted → Plan) → Plan
+source_plan d name next =
+    Reads name most_of_source (λ source. if_accepted (refused_line d name source) next (accepted source))
 
 abbrev pub if_numbers : List ℕ → (List ℤ → Plan) → Result (List ℤ) InputCause → Plan
 if_numbers name next (Ok input) = next input
@@ -111,15 +132,17 @@ after_source t words job program =
     input_plan (input_name words job) (λ input. Answers (task_of t job.knobs (source_name words job) program input))
 
 abbrev pub job_plan : Task → List (List ℕ) → Job → Plan
-job_plan t words job = source_plan (source_name words job) (after_source t words job)
+job_plan t words job = source_plan detail.File (source_name words job) (after_source t words job)
 
+-- `check` alone tells the first bad token
 abbrev pub check_plan : List (List ℕ) → Job → Plan
-check_plan words job = source_plan (source_name words job) (λ program. Answers (done (codes "ok\n")))
+check_plan words job =
+    source_plan detail.Token (source_name words job) (λ program. Answers (done (codes "ok\n")))
 
 -- the generated program, by the name `demo`
 abbrev pub demo_plan : ℕ → ℕ → Knobs → Plan
 demo_plan start size knobs =
-    if_accepted (codes "demo")
+    if_accepted (refusal_text (codes "demo"))
     (λ program. Answers (totals_of (codes "demo") (lockstep_report program (made_input start size) knobs)))
     (accepted made_source)
 

@@ -1,14 +1,17 @@
 //! The source and the input of a command: each is read, and refused or gone on with.
-ghost use Rattle.std.specs.Prelude.{◌≡◌, map, string_bytes, IfOk, OnErr};
+ghost use Rattle.std.specs.Prelude.{◌≡◌, map, string_bytes, IfOk, OnErr, IsSomeAnd};
 ghost use Rattle.al_answers.specs.Seen.{files_seen};
+ghost use Rattle.al_front.specs.Answers.{refused, TellsPlace};
 ghost use Rattle.al_cli.specs.Shown as spec;
 ghost use Rattle.al_cli.specs.Steps.{SourceComes, SourceStarved, InputComes, InputStarved};
 
 use crate::lines::word_at;
+use crate::tasks::Detail;
 use al_answers::{Answer, FileRead, Status, failed, read_file};
 use al_front::{FrontFault, Noted, resolve};
 use al_io::Files;
-use al_report::{input_cause_text, refusal_text};
+use al_report::{bad_text, input_cause_text, refusal_text};
+use al_source::Bytes;
 use al_source::limits::{INPUT_BYTES, SOURCE_BYTES};
 use al_text::read_numbers;
 use al_words::Job;
@@ -46,12 +49,13 @@ pub fn source_name<'a>(words: &'a [String], job: &Job) -> &'a str
 /// Reads a source, and accepts or refuses it.
 pub fn source_step<F: Files>(
     alloc: Global,
+    detail: Detail,
     name: &str,
     files: &mut F,
 ) -> Result<SourceStep, AllocError>
-    ensures ok { IfOk result (SourceComes name.now
+    ensures ok { IfOk result (SourceComes detail name.now
         (files_seen F.contents F.calls F.faults files.old) (files_seen F.contents F.calls F.faults files.new)) }
-    ensures err { OnErr result (SourceStarved name.now
+    ensures err { OnErr result (SourceStarved detail name.now
         (files_seen F.contents F.calls F.faults files.old) (files_seen F.contents F.calls F.faults files.new)) }
 {
     let source = match read_file(alloc, files, name, MOST_OF_SOURCE)? {
@@ -60,11 +64,33 @@ pub fn source_step<F: Files>(
     };
     match resolve(alloc, source.as_slice()) {
         Ok(program) => Ok(SourceStep::Accepted(program)),
-        Err(FrontFault::Refused(cause)) => {
-            let line = refusal_text(alloc, name, cause)?;
+        Err(fault) => {
+            let line = refused_line(alloc, detail, name, source.as_slice(), &fault)?;
             Ok(SourceStep::Answered(failed(alloc, Status::ProgramRefused, line)))
         }
-        Err(FrontFault::Memory) => Err(AllocError),
+    }
+}
+
+/// The line about a source that is refused. Want of memory for its tree is no cause, and has none.
+fn refused_line(
+    alloc: Global,
+    detail: Detail,
+    name: &str,
+    source: &[u8],
+    fault: &FrontFault,
+) -> Result<Bytes, AllocError>
+    requires { TellsPlace source.now fault.now }
+    ensures { IfOk result (λ line. IsSomeAnd (refused fault.now)
+        (λ cause. line ≡ spec.refused_line detail name.now source.now cause)) }
+{
+    match (detail, fault) {
+        (Detail::Token, FrontFault::NoProgram(bad)) => {
+            bad_text(alloc, name, source, bad.tokens.as_slice(), bad.place)
+        }
+        _ => match fault.cause() {
+            Some(cause) => refusal_text(alloc, name, cause),
+            None => Err(AllocError),
+        },
     }
 }
 

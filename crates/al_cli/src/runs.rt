@@ -10,7 +10,7 @@ ghost use Rattle.al_cli.specs.Shown as spec;
 use crate::tasks::Task;
 use al_answers::{Answer, Status, failed};
 use al_core::{Choice, Ending, Knobs, Report};
-use al_front::{FrontFault, Noted, resolve};
+use al_front::{Noted, resolve};
 use al_gen::make;
 use al_plain::runs::run;
 use al_report::{refusal_text, totals_text, trace_text, trap_text};
@@ -55,11 +55,13 @@ pub fn demo_of(alloc: Global, start: u32, size: u32, knobs: &Knobs) -> Result<An
     let made = make(alloc, start, size)?;
     match resolve(alloc, made.source.as_slice()) {
         Ok(program) => shown_of(alloc, &program, made.input.as_slice(), knobs),
-        Err(FrontFault::Refused(cause)) => {
-            let line = refusal_text(alloc, "demo", cause)?;
-            Ok(failed(alloc, Status::ProgramRefused, line))
-        }
-        Err(FrontFault::Memory) => Err(AllocError),
+        Err(fault) => match fault.cause() {
+            Some(cause) => {
+                let line = refusal_text(alloc, "demo", cause)?;
+                Ok(failed(alloc, Status::ProgramRefused, line))
+            }
+            None => Err(AllocError),
+        },
     }
 }
 

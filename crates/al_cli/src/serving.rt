@@ -12,7 +12,7 @@ ghost use Rattle.al_cli.specs.Shown as spec;
 use crate::lines::word_line;
 use crate::reading::{InputStep, SourceStep, input_step, source_name, source_step};
 use crate::runs::{demo_of, task_of};
-use crate::tasks::Task;
+use crate::tasks::{Detail, Task};
 use al_answers::{Answer, Status, failed};
 use al_core::Knobs;
 use al_front::Noted;
@@ -60,7 +60,7 @@ fn job_answer<F: Files>(
         (files_seen F.contents F.calls F.faults files.old) (files_seen F.contents F.calls F.faults files.new)) }
 {
     let name = source_name(words, job);
-    match source_step(alloc, name, files)? {
+    match source_step(alloc, Detail::File, name, files)? {
         SourceStep::Accepted(program) => input_answer(alloc, words, job, task, &program, files),
         SourceStep::Answered(answer) => Ok(answer),
     }
@@ -102,7 +102,7 @@ fn check_answer<F: Files>(
         (files_seen F.contents F.calls F.faults files.old) (files_seen F.contents F.calls F.faults files.new)) }
 {
     let name = source_name(words, job);
-    match source_step(alloc, name, files)? {
+    match source_step(alloc, Detail::Token, name, files)? {
         SourceStep::Accepted(_) => done(alloc, b"ok\n"),
         SourceStep::Answered(answer) => Ok(answer),
     }

@@ -8,3 +8,12 @@ pub enum Task {
     /// In lockstep; the rounds.
     Trace,
 }
+
+/// How much is told of a source whose tokens derive no program.
+#[derive(Clone, Copy, Debug, PartialEq, Eq)]
+pub enum Detail {
+    /// That it is no program.
+    File,
+    /// The first bad token, with its line.
+    Token,
+}

@@ -10,4 +10,6 @@ mod freeing;
 #[cfg(test)]
 mod limits;
 #[cfg(test)]
+mod places;
+#[cfg(test)]
 mod rows;

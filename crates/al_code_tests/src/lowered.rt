@@ -11,7 +11,7 @@ pub fn lowered(alloc: Global, source: &str) -> Result<Option<Code>, AllocError> 
             Err(LowerFault::TooLarge) => Ok(None),
             Err(LowerFault::Memory) => Err(AllocError),
         },
-        Err(FrontFault::Refused(_)) => Ok(None),
+        Err(FrontFault::Refused(_) | FrontFault::NoProgram(_)) => Ok(None),
         Err(FrontFault::Memory) => Err(AllocError),
     }
 }

@@ -1,10 +1,9 @@
 -- From what each layer answers to what a source comes to.
-use Rattle.std.proofs.Common.{◌≡◌, ◌⊎◌, inl, inr, ℕ, ◌<◌, ◌≤◌, true, false, nat_lt, List, length, Option, Some, None, Result, Ok, Err, refl, sym, ap, subst, ◌∙◌, arith, rules}
+use Rattle.std.proofs.Common.{◌≡◌, ◌⊎◌, inl, inr, ℕ, ◌<◌, ◌≤◌, true, false, nat_lt, List, length, Option, Some, None, Result, Ok, Err, refl, ap, ◌∙◌, arith, rules}
 use Rattle.std.specs.Prelude.{option_map}
 use Rattle.al_source.specs.Answers.{Fails}
 use Rattle.al_source.specs.declared.faults.LexFault.{LexFault}
 use Rattle.al_source.specs.declared.faults.LexFault.TheVariants as lex
-use Rattle.al_source.specs.declared.faults.ParseFault.TheVariants as parse
 use Rattle.al_source.specs.declared.source_tree.Item.{Item}
 use Rattle.al_source.specs.declared.source_tree.Program.{Program}
 use Rattle.al_source.specs.declared.tokens.Token.{Token}
@@ -28,16 +27,16 @@ use Rattle.al_rules.specs.Refusals.{because, lexical_cause, tokens_of, derived, 
 
 -- ---- tokens
 
-abbrev lexical : LexFault → Refusal
+abbrev pub lexical : LexFault → Refusal
 lexical fault = Lexical (lexical_cause fault)
 
-within : (source : Bytes) → length source ≤ SOURCE_BYTES → tokens_of source ≡ because lexical (reading source)
+pub within : (source : Bytes) → length source ≤ SOURCE_BYTES → tokens_of source ≡ because lexical (reading source)
 within source h = let short : nat_lt SOURCE_BYTES (length source) ≡ false = search (rules, h) in rw short refl
 
-beyond : (source : Bytes) → SOURCE_BYTES < length source → tokens_of source ≡ Err (Lexical TooLong)
+pub beyond : (source : Bytes) → SOURCE_BYTES < length source → tokens_of source ≡ Err (Lexical TooLong)
 beyond source h = let long : nat_lt SOURCE_BYTES (length source) ≡ true = search (rules, h) in rw long refl
 
-le_or_lt : (m n : ℕ) → (m ≤ n) ⊎ (n < m)
+pub le_or_lt : (m n : ℕ) → (m ≤ n) ⊎ (n < m)
 le_or_lt m n = grind arith
 
 pub spelled_tokens : (source : Bytes) (tokens : List Token)
@@ -66,12 +65,11 @@ refused_tokens source lex.Memory h = tt
 pub derived_program : (tokens : Tokens) (p : Program) → Derives tokens p → program_of tokens ≡ Ok p
 derived_program tokens p derives = ap derived (complete_program derives)
 
--- A syntax fault is that nothing is derived.
-pub refused_program : (tokens : Tokens) → ((p : Program) → Derives tokens p → parse.Syntax ≡ parse.Memory) → program_of tokens ≡ Err Grammar
-refused_program tokens found = by_read (all_items tokens) refl
+pub refused_program : (tokens : Tokens) → ((p : Program) → Derives tokens p → ⊥) → program_of tokens ≡ Err Grammar
+refused_program tokens none = by_read (all_items tokens) refl
   where
     by_read : (r : Read (List Item)) → all_items tokens ≡ r → program_of tokens ≡ Err Grammar
-    by_read (Ok q) e = let never = found (record { items = q.0 }) (sound_program tokens q e) in absurd cc
+    by_read (Ok q) e = absurd (none (record { items = q.0 }) (sound_program tokens q e))
     by_read (Err rest) e = ap derived e
 
 -- ---- one part after another
@@ -82,6 +80,7 @@ stops part next (Some e) is = ap (λ r. and_then r next) is
 stops part next None is = tt
 
 -- the cause of a part is that of a refusal
-pub causes : {A F : Type 0} (cause : F → Refusal) (part : Result A F) (fault : Option F) → Fails part fault → Fails (because cause part) (option_map cause fault)
+pub causes : {A F : Type 0} (cause : F → Refusal) (part : Result A F) (fault : Option F) → Fails part fault
+    → Fails (because cause part) (option_map cause fault)
 causes cause part (Some e) is = ap (because cause) is
 causes cause part None is = tt

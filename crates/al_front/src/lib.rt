@@ -2,7 +2,9 @@
 #![tactic(auto)]
 
 mod fault;
+mod laws;
 mod resolving;
 
-pub use fault::FrontFault;
+pub use fault::{BadTokens, FrontFault};
+pub use laws::bad_tokens_are_told;
 pub use resolving::{Noted, resolve};

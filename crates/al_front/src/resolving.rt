@@ -1,17 +1,17 @@
-ghost use Rattle.std.specs.Prelude.{◌≡◌};
+ghost use Rattle.std.specs.Prelude.{◌≡◌, IfErr};
 ghost use Rattle.al_rules.specs.Refusals as spec;
 ghost use Rattle.al_source.specs.Answers.{Gives};
-ghost use Rattle.al_front.specs.Answers.{refused};
+ghost use Rattle.al_front.specs.Answers.{refused, TellsPlace, TellsPlaceIn};
 
-use crate::fault::{FrontFault, by_cause};
+use crate::fault::{BadTokens, FrontFault, by_cause};
 use al_core::{LoopInfo, Typed};
 use al_layout::layout;
 use al_lexer::lex;
 use al_loops::notes;
-use al_parser::parse;
+use al_parser::{Parsed, parse_or_first_bad};
 use al_rules::{Refusal, lexical_cause};
 use al_source::limits::SOURCE_NODES;
-use al_source::{ParseFault, Program, Token};
+use al_source::{Program, Token};
 use al_types::check;
 use sqlite_items::Items;
 use std::alloc::Global;
@@ -20,12 +20,13 @@ use std::alloc::Global;
 pub type Noted = (Typed, Items<LoopInfo>);
 
 /// The typed tree of a source and the entries of its annotated loops, by their numbers, or the first cause for which
-/// the source is refused.
+/// the source is refused, and where that is the grammar, the first bad token.
 pub fn resolve(alloc: Global, source: &[u8]) -> Result<Noted, FrontFault>
-    ensures { Gives refused (spec.accepted source.now) result }
+    ensures answer { Gives refused (spec.accepted source.now) result }
+    ensures place { IfErr result (TellsPlace source.now) }
 {
     let tokens = tokens_of(alloc, source)?;
-    let program = program_of(alloc, tokens.as_slice())?;
+    let program = program_of(alloc, tokens)?;
     let typed = tree_of(alloc, &program)?;
     annotated_well(alloc, typed)
 }
@@ -42,13 +43,14 @@ fn tokens_of(alloc: Global, source: &[u8]) -> Result<Items<Token>, FrontFault>
     }
 }
 
-fn program_of(alloc: Global, tokens: &[Token]) -> Result<Program, FrontFault>
-    ensures { Gives refused (spec.program_of tokens.now) result }
+/// The program that the tokens derive. Where they derive none they are handed back, with the place.
+fn program_of(alloc: Global, tokens: Items<Token>) -> Result<Program, FrontFault>
+    ensures answer { Gives refused (spec.program_of tokens) result }
+    ensures place { IfErr result (TellsPlaceIn tokens) }
 {
-    match parse(alloc, tokens) {
-        Ok(program) => Ok(program),
-        Err(ParseFault::Syntax) => Err(FrontFault::Refused(Refusal::Grammar)),
-        Err(ParseFault::Memory) => Err(FrontFault::Memory),
+    match parse_or_first_bad(alloc, tokens.as_slice())? {
+        Parsed::Program(program) => Ok(program),
+        Parsed::FirstBad(place) => Err(FrontFault::NoProgram(BadTokens { tokens, place })),
     }
 }
 

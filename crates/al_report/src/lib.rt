@@ -4,6 +4,7 @@
 mod builder;
 mod faults;
 mod lines;
+mod places;
 #[cfg(test)]
 mod tests;
 mod traces;
@@ -12,4 +13,5 @@ pub use faults::{
     input_cause_text, input_text, layout_text, lex_text, lower_text, note_text, parse_text,
     refusal_text, type_text,
 };
+pub use places::bad_text;
 pub use traces::{totals_text, trace_text, trap_text};

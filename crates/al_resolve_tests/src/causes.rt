@@ -1,6 +1,6 @@
 //! Why a source is refused. The expected causes follow the table of faults and the order in which they are told.
 
-use al_front::{FrontFault, resolve};
+use al_front::resolve;
 use al_rules::{NoteCause, NoteKind, Refusal, TypeCause, TypeKind};
 use std::alloc::{AllocError, Global};
 
@@ -16,8 +16,10 @@ pub fn note(kind: NoteKind, line: u32) -> Refusal {
 pub fn refusal_of(alloc: Global, source: &[u8]) -> Result<Option<Refusal>, AllocError> {
     match resolve(alloc, source) {
         Ok(_) => Ok(None),
-        Err(FrontFault::Refused(cause)) => Ok(Some(cause)),
-        Err(FrontFault::Memory) => Err(AllocError),
+        Err(fault) => match fault.cause() {
+            Some(cause) => Ok(Some(cause)),
+            None => Err(AllocError),
+        },
     }
 }
 

@@ -6,6 +6,8 @@ mod accepted;
 #[cfg(test)]
 mod annotations;
 #[cfg(test)]
+mod bad_tokens;
+#[cfg(test)]
 mod causes;
 #[cfg(test)]
 mod freeing;
