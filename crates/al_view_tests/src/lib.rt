@@ -5,3 +5,5 @@
 mod calls;
 #[cfg(test)]
 mod chunks;
+#[cfg(test)]
+mod outcomes;
