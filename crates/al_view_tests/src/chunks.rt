@@ -67,8 +67,18 @@ fn chunk_is_as_plain<S: Store, R: AllocGlobal + Abort>(
         probes.push(at)?;
     }
     let change = snap.into_change(Ending::Trap(Trap::Bounds, 4), 9);
-    assert_eq!(rt; (change.ending, change.steps), (Ending::Trap(Trap::Bounds, 4), 9));
-    is_as_plain(rt, &change, &memory, &record, printed.as_slice(), probes.as_slice())
+    assert_eq!(rt;
+        (change.ending, change.steps),
+        (Ending::Trap(Trap::Bounds, 4), 9)
+    );
+    is_as_plain(
+        rt,
+        &change,
+        &memory,
+        &record,
+        printed.as_slice(),
+        probes.as_slice(),
+    )
 }
 
 /// Random calls answer alike on the store itself and on the plain memory.
@@ -148,10 +158,16 @@ fn large_object<S: Store, R: AllocGlobal + Abort>(rt: &R, store: &S) -> Result<(
         snap.store(Addr::Word(obj, w), Val::Int(i64::from(w)))?;
     }
     for w in ends {
-        assert_eq!(rt; snap.load(Addr::Word(obj, w), Kind::Int), Ok(Val::Int(i64::from(w))));
+        assert_eq!(rt;
+            snap.load(Addr::Word(obj, w), Kind::Int),
+            Ok(Val::Int(i64::from(w)))
+        );
     }
     assert_eq!(rt; snap.load(Addr::Word(obj, 1), Kind::Int), Ok(Val::Int(0)));
-    assert_eq!(rt; snap.store(Addr::Word(obj, 4096), Val::Int(1)), Err(ViewFault::Trap(Trap::Bounds)));
+    assert_eq!(rt;
+        snap.store(Addr::Word(obj, 4096), Val::Int(1)),
+        Err(ViewFault::Trap(Trap::Bounds))
+    );
     let again = snap.make(1)?;
     snap.store(Addr::Word(again, 0), Val::Int(5))?;
     snap.free(again, 0)?;

@@ -26,7 +26,10 @@ fn written(change: &Change, at: Addr) -> Option<Val> {
 fn made_alike<R: AllocGlobal + Abort>(rt: &R, change: &Change, memory: &Memory, obj: Obj) {
     let made = change.made.get(obj);
     let plain = memory.words(obj);
-    assert_eq!(rt; made.map(|words| words.len() as usize), plain.map(|words| words.len()));
+    assert_eq!(rt;
+        made.map(|words| words.len() as usize),
+        plain.map(|words| words.len())
+    );
     if let (Some(made), Some(plain)) = (made, plain) {
         for (word, value) in made.as_slice().iter().zip(plain.as_slice()) {
             assert_eq!(rt; word.unpack(), *value);
@@ -46,7 +49,12 @@ pub(crate) fn is_as_plain<R: AllocGlobal + Abort>(
 ) -> Result<(), AllocError> {
     let alloc = rt.alloc();
     let (reads, touched) = (record.reads.items(alloc)?, record.touched.items(alloc)?);
-    for at in reads.as_slice().iter().chain(touched.as_slice()).chain(probes) {
+    for at in reads
+        .as_slice()
+        .iter()
+        .chain(touched.as_slice())
+        .chain(probes)
+    {
         let is_touched = record.touched.contains(*at);
         assert_eq!(rt; change.reads.has(at), record.reads.contains(*at));
         assert_eq!(rt; change.touched.has(at), is_touched);
@@ -62,7 +70,12 @@ pub(crate) fn is_as_plain<R: AllocGlobal + Abort>(
     }
     assert_eq!(rt; change.freed.as_slice(), record.freed.as_slice());
     assert_eq!(rt; change.accumulators.len(), record.accumulators.len());
-    for (sum, plain) in change.accumulators.as_slice().iter().zip(record.accumulators.as_slice()) {
+    for (sum, plain) in change
+        .accumulators
+        .as_slice()
+        .iter()
+        .zip(record.accumulators.as_slice())
+    {
         assert_eq!(rt; sum.unpack(), *plain);
     }
     assert_eq!(rt; change.printed.as_slice(), printed);
