@@ -1,5 +1,5 @@
 -- Lists of pending chunks.
-use Rattle.std.proofs.Common.{◌≡◌, ℕ, zero, suc, ◌+◌, ◌-◌, ◌<◌, ◌≤◌, ◌/◌, ◌%◌, Bool, true, false, nat_lt, cond, List, [], ◌∷◌, ◌++◌, length, take, drop, get_or, Result, Ok, Err, refl, sym, ap, ◌∙◌, arith}
+use Rattle.std.proofs.Common.{◌≡◌, ℕ, zero, suc, ◌+◌, ◌-◌, ◌<◌, ◌≤◌, ◌/◌, ◌%◌, Bool, true, false, nat_lt, cond, List, [], ◌∷◌, ◌++◌, length, drop, get_or, Ok, Err, refl, sym, ap, ◌∙◌, arith}
 use Rattle.std.specs.Prelude.{not, min, ℤ}
 use Rattle.std.specs.Int.{div_ceil}
 use Rattle.std.proofs.lemmas.Bool.{ltb-false}
@@ -65,11 +65,12 @@ module _ (cs : List ℕ) (vs : List Verdict) (left : List ℕ) (i : ℕ) (v : Ve
       ∙ ap (λ (n : ℕ). cons_if (not (is_committed (get_or vs i v))) (get_or cs i 0)
       (not_committed (with_chunks (drop n cs) (drop n vs)))) (let e : suc i ≡ i + 1 = omega arith in e)
 
-  pub one_committed : is_committed (get_or vs i v) ≡ true
-      → left ++ not_committed (with_chunks (drop (i + 1) cs) (drop (i + 1) vs)) ≡ not_committed (with_chunks cs vs)
+  pub one_committed : is_committed (get_or vs i v) ≡ true → (same : List ℕ) → same ≡ left
+      → same ++ not_committed (with_chunks (drop (i + 1) cs) (drop (i + 1) vs)) ≡ not_committed (with_chunks cs vs)
   unfolding rest
-  one_committed e =
-      ap (λ l. left ++ l) (sym (next_rest ∙ committed_by (is_committed (get_or vs i v)) (get_or cs i 0) rest e)) ∙ so_far
+  one_committed e same f =
+      ap (λ l. l ++ rest) f
+      ∙ ap (λ l. left ++ l) (sym (next_rest ∙ committed_by (is_committed (get_or vs i v)) (get_or cs i 0) rest e)) ∙ so_far
 
   pub one_failed : is_committed (get_or vs i v) ≡ false → (more : List ℕ) → more ≡ left ++ get_or cs i 0 ∷ []
       → more ++ not_committed (with_chunks (drop (i + 1) cs) (drop (i + 1) vs)) ≡ not_committed (with_chunks cs vs)

@@ -1,4 +1,4 @@
-use Rattle.std.proofs.Common.{◌≡◌, ◌+◌, ◌-◌, length, ap, ◌∙◌}
+use Rattle.std.proofs.Common.{◌+◌, ◌-◌, ap, ◌∙◌}
 use Rattle.al_plan.proofs.Pending.{shown_length}
 use Rattle.al_plan.proofs.plan.Plan.len.Goals as goal
 

@@ -7,6 +7,6 @@ pub invariant_of-result : goal.invariant_of-result
 invariant_of-result c = (
   omega arith,
   chunks_few c.in-Ok.trips c.args.chunk c.div_ceil.result
-  (trips_few _ _ c.in-Ok.trips (sym c.in-Ok.is ∙ c.trips.ensures))
-  (c.div_ceil.ensures ∙ ap (div_ceil c.in-Ok.trips) c.from.ensures),
+      (trips_few _ _ c.in-Ok.trips (sym c.in-Ok.is ∙ c.trips.ensures))
+      (c.div_ceil.ensures ∙ ap (div_ceil c.in-Ok.trips) c.from.ensures),
 )

@@ -1,4 +1,4 @@
-use Rattle.std.proofs.Common.{◌≡◌, ◌+◌, ◌-◌, ◌<◌, ◌≤◌, ◌++◌, length, drop, arith, sym, ap, ◌∙◌}
+use Rattle.std.proofs.Common.{◌≡◌, ◌+◌, ◌-◌, ◌++◌, length, drop, arith, ap, ◌∙◌}
 use Rattle.al_plan.specs.Plans.{pending}
 use Rattle.al_plan.proofs.Pending.{shown_length, fresh_left}
 use Rattle.al_plan.proofs.plan.Plan.settle.Goals as goal
@@ -8,8 +8,7 @@ invariant_of-self-else-judged-again c =
     let again = c.self.inside.again.items in
     let shown : length again + (c.self.inside.count - c.self.inside.fresh) ≡ length c.args.self.now =
     shown_length again c.args.self.now c.self.inside.fresh c.self.inside.count c.self.view_is in
-    let long : c.len-again.result ≡ length again = c.len-again.ensures.value in
-    (
+    let long : c.len-again.result ≡ length again = c.len-again.ensures.value in (
       omega (arith, shown, long, c.requires.pending, c.if-judged-again.false, c.self.invariant.0),
       c.self.invariant.1,
     )
