@@ -4,8 +4,6 @@
 mod gate;
 mod jobs;
 mod run;
-#[cfg(test)]
-mod tests;
 
 pub use gate::{FreePool, PoolGate};
 pub use jobs::Work;

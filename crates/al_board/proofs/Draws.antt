@@ -10,15 +10,18 @@ use Rattle.atomic_table.proofs.Lists.{set_else, set_again}
 use Rattle.al_board.specs.declared.view.Entry.TheVariants.{Drew, Split, Joined}
 use Rattle.al_board.specs.declared.view.View.{View}
 use Rattle.al_board.specs.declared.view.Slot.{Slot}
-use Rattle.al_count.specs.Counts.{below, holding, total, present}
-use Rattle.al_count.proofs.Totals.{below_next, times_append, times_snoc, total_set, total_snoc, total_same, set_at}
+use Rattle.al_count.specs.Counts.{times, below, holding, total, present}
+use Rattle.al_count.proofs.Totals.{below_no, below_next, times_append, times_snoc, total_set, total_snoc, total_same, set_at}
 use Rattle.al_board.specs.Counted.{drawn_times, put_times, held_count, share_of, allowance_of, turn_count}
 use Rattle.al_board.specs.Views.{got, keeping, parted, joined, spent_view, unlogged}
 use Rattle.al_board.specs.Rule.{Terms, Stage, IsSound, IsKept}
 use Rattle.al_board.specs.Steps.{IsDraw, IsLook}
+use Rattle.al_board.specs.Core.{of}
+use Rattle.al_board.specs.Journal.{Account}
+use Rattle.al_board.specs.Logs.{DrewNumber}
 use Rattle.al_board.proofs.Pieces.{lt_yes, lt_no, none_some}
-use Rattle.al_board.proofs.Entries.{told_draw, told_split, told_join}
-use Rattle.al_board.proofs.Logs.{logs_entry, logs_split, logs_join}
+use Rattle.al_board.proofs.Entries.{stay_same, told_draw, told_split, told_join, nobody_drew}
+use Rattle.al_board.proofs.Logs.{all_ends, logs_entry, logs_split, logs_join}
 use Rattle.al_board.proofs.Parts.{later, sound_set, sound_one, sound_snoc, named_same, named_snoc, still_baton, later_baton, same_slot, bounded, told_of}
 
 module _ {T H K : Type 0} (b : Terms T H K) where
@@ -30,17 +33,20 @@ module _ {T H K : Type 0} (b : Terms T H K) where
 
   -- the view after a draw
   abbrev drawing : (s : State (Slot T H) (View T K)) → IsKept b s → ℕ → View T K → List ℕ → Bool → ℕ → View T K
-  drawing s k id v drawn ended allowance = record v { drawn = drawn; ended = ended; allowance = allowance; log = Drew id ∷ k.journal }
+  drawing s k id v drawn ended allowance = record v { drawn = drawn; ended = ended; allowance = allowance; logs = (Drew id ∷ k.journal) ∷ [] }
 
   -- a step on word 0 by which the drawn list of a view changes, its allowance, and whether it has ended
+  record MayDraw (s : State (Slot T H) (View T K)) (k : IsKept b s) (id : ℕ) (v w : View T K) : Type 0 where
+    pub sound : IsSound b.key record k.stage { draws = k.stage.draws + 1 } w
+    pub once : (x : ℕ) → total (drawn_times x) (set s.views id w) ≡ below x (min (k.stage.draws + 1) b.key.lanes)
+    pub room : max (k.stage.draws + 1) b.key.lanes + total allowance_of (set s.views id w) ≡ b.key.lanes + 2 ^ 63
+    pub own : cond (nat_lt k.stage.draws b.key.lanes) (v.drawn ++ k.stage.draws ∷ []) v.drawn ≡ w.drawn
+
   draw_keeps : (s : State (Slot T H) (View T K)) (k : IsKept b s) (id : ℕ) (v : View T K) → get_elem? s.views id ≡ some v
       → (drawn : List ℕ) (ended : Bool) (allowance : ℕ)
-      → IsSound b.key record k.stage { draws = k.stage.draws + 1 } (drawing s k id v drawn ended allowance)
-      → ((x : ℕ) → total (drawn_times x) (set s.views id (drawing s k id v drawn ended allowance)) ≡ below x (min (k.stage.draws + 1) b.key.lanes))
-      → max (k.stage.draws + 1) b.key.lanes + total allowance_of (set s.views id (drawing s k id v drawn ended allowance)) ≡ b.key.lanes + 2 ^ 63
-      → cond (nat_lt k.stage.draws b.key.lanes) (v.drawn ++ k.stage.draws ∷ []) v.drawn ≡ drawn
+      → MayDraw s k id v (drawing s k id v drawn ended allowance)
       → Kept record { words = set s.words 0 (get_or s.words 0 0 + 1); homes = s.homes; views = set s.views id (drawing s k id v drawn ended allowance) }
-  draw_keeps s k id v at drawn ended allowance sound once room own =
+  draw_keeps s k id v at drawn ended allowance may =
       let n : ℕ = b.key.lanes in
       let d : ℕ = get_or s.words 0 0 in
       let w : View T K = drawing s k id v drawn ended allowance in
@@ -51,6 +57,8 @@ module _ {T H K : Type 0} (b : Terms T H K) where
       let else : (x : ℕ) → get_or (set s.words 0 (d + 1)) (x + 1) 0 ≡ get_or s.words (x + 1) 0 =
       λ x. get_or-set_other {A = ℕ} s.words 0 (x + 1) (d + 1) 0 (λ e. omega arith) in
       let p : (x : ℕ) → total (put_times x) vs ≡ total (put_times x) s.views = λ x. total_same (put_times x) s.views id v w at refl in
+      let told = told_draw b.fits n k.stage k.holder s.views k.journal record { id = id; old = v; new = w; at = at }
+      record { drawn_are = sym may.own; put_are = refl; misses_are = refl; given_are = refl } (told_of b s k) in
       record {
         stage = g;
         holder = k.holder;
@@ -59,10 +67,10 @@ module _ {T H K : Type 0} (b : Terms T H K) where
         few = k.few;
         wide = length-set {A = ℕ} s.words 0 (d + 1) ∙ wide;
         first = get_or-set_same {A = ℕ} s.words 0 (d + 1) 0 (omega arith) ∙ (omega arith);
-        sound = sound_set b.key k.stage g s.views id w (λ i u ne at' so. later b.key k.stage (k.stage.draws + 1) (omega arith) u so) k.sound sound;
-        drawn = once;
+        sound = sound_set b.key k.stage g s.views id w (λ i u ne at' so. later b.key k.stage (k.stage.draws + 1) (omega arith) u so) k.sound may.sound;
+        drawn = may.once;
         shares = total_same share_of s.views id v w at refl ∙ k.shares;
-        room = room;
+        room = may.room;
         reached = k.reached;
         behind = λ x lt. let e = p x in let c = k.behind x lt in omega arith;
         unput = λ x e. k.unput x (sym (p x) ∙ e);
@@ -71,8 +79,8 @@ module _ {T H K : Type 0} (b : Terms T H K) where
         baton = later_baton b k.stage (k.stage.draws + 1) _
             (still_baton b k.stage s _ k.holder (else n) (total_same turn_count s.views id v w at refl) refl k.baton);
         holds = named_same k.holder s.views id v w at refl k.holds;
-        legal = (told_draw b.fits n k.stage k.holder s.views k.journal id v w at own refl refl refl (told_of b s k)).0;
-        told = (told_draw b.fits n k.stage k.holder s.views k.journal id v w at own refl refl refl (told_of b s k)).1;
+        legal = told.0;
+        told = told.1;
         logs = logs_entry s.views k.journal id v w (Drew id) at refl k.logs;
       }
 
@@ -89,29 +97,30 @@ module _ {T H K : Type 0} (b : Terms T H K) where
       let d : ℕ = k.stage.draws in
       let w : View T K = drawing s k id v (v.drawn ++ d ∷ []) v.ended v.allowance in
       let so = k.sound id v at in
-      draw_keeps s k id v at (v.drawn ++ d ∷ []) v.ended v.allowance
-      record {
-        about = so.about;
-        late = λ e. absurd (true≢false (sym e ∙ going));
-        spent = λ e. absurd (omega arith);
-        paid = so.paid;
-        able = so.able;
-        own = λ x. let o = so.own x in let t = times_snoc x d v.drawn in omega arith;
-        turn = λ t e. let q = so.turn t e in record { next = q.next; found = q.found; put = q.put; first = q.first };
-        given = so.given;
+      draw_keeps s k id v at (v.drawn ++ d ∷ []) v.ended v.allowance record {
+        sound = record {
+          about = so.about;
+          late = λ e. absurd (true≢false (sym e ∙ going));
+          spent = λ e. absurd (omega arith);
+          paid = so.paid;
+          able = so.able;
+          own = λ x. let o = so.own x in let t = times_snoc x d v.drawn in omega arith;
+          turn = λ t e. let q = so.turn t e in record { next = q.next; found = q.found; put = q.put; first = q.first };
+          given = so.given;
+        };
+        once = λ x.
+            let t = total_set (drawn_times x) s.views id v w at in
+            let o = times_snoc x d v.drawn in
+            let e = k.drawn x in
+            let m : min d n ≡ d = omega arith in
+            let m' : min (d + 1) n ≡ d + 1 = omega arith in
+            let c : below x (min d n) ≡ below x d = ap (below x) m in
+            let c' : below x (min (d + 1) n) ≡ below x (d + 1) = ap (below x) m' in
+            let nx = below_next x d in
+            omega arith;
+        room = let e = total_same allowance_of s.views id v w at refl in let r = k.room in omega arith;
+        own = ap (λ (z : Bool). cond z (v.drawn ++ d ∷ []) v.drawn) (lt_yes d n near);
       }
-      (λ x.
-      let t = total_set (drawn_times x) s.views id v w at in
-      let o = times_snoc x d v.drawn in
-      let e = k.drawn x in
-      let m : min d n ≡ d = omega arith in
-      let m' : min (d + 1) n ≡ d + 1 = omega arith in
-      let c : below x (min d n) ≡ below x d = ap (below x) m in
-      let c' : below x (min (d + 1) n) ≡ below x (d + 1) = ap (below x) m' in
-      let nx = below_next x d in
-      omega arith)
-      (let e = total_same allowance_of s.views id v w at refl in let r = k.room in omega arith)
-      (ap (λ (z : Bool). cond z (v.drawn ++ d ∷ []) v.drawn) (lt_yes d n near))
 
   -- there is no lane left
   over_keeps : (s : State (Slot T H) (View T K)) (k : IsKept b s) (id : ℕ) (v : View T K) → get_elem? s.views id ≡ some v → 0 < v.share → v.ended ≡ false
@@ -127,28 +136,44 @@ module _ {T H K : Type 0} (b : Terms T H K) where
       let w : View T K = drawing s k id v v.drawn true (v.allowance - 1) in
       let so = k.sound id v at in
       let able : 1 ≤ v.allowance = so.able live going in
-      draw_keeps s k id v at v.drawn true (v.allowance - 1)
-      record {
-        about = so.about;
-        late = λ _. omega arith;
-        spent = λ e. absurd (omega arith);
-        paid = let p = so.paid in omega arith;
-        able = λ _ e. absurd (true≢false e);
-        own = so.own;
-        turn = λ t e. let q = so.turn t e in record { next = q.next; found = q.found; put = q.put; first = q.first };
-        given = so.given;
+      draw_keeps s k id v at v.drawn true (v.allowance - 1) record {
+        sound = record {
+          about = so.about;
+          late = λ _. omega arith;
+          spent = λ e. absurd (omega arith);
+          paid = let p = so.paid in omega arith;
+          able = λ _ e. absurd (true≢false e);
+          own = so.own;
+          turn = λ t e. let q = so.turn t e in record { next = q.next; found = q.found; put = q.put; first = q.first };
+          given = so.given;
+        };
+        once = λ x.
+            let t = total_same (drawn_times x) s.views id v w at refl in
+            let e = k.drawn x in
+            let m : min d n ≡ min (d + 1) n = omega arith in
+            let c : below x (min d n) ≡ below x (min (d + 1) n) = ap (below x) m in
+            omega arith;
+        room = let e = total_set allowance_of s.views id v w at in let r = k.room in omega arith;
+        own = ap (λ (z : Bool). cond z (v.drawn ++ d ∷ []) v.drawn) (lt_no d n far);
       }
-      (λ x.
-      let t = total_same (drawn_times x) s.views id v w at refl in
-      let e = k.drawn x in
-      let m : min d n ≡ min (d + 1) n = omega arith in
-      let c : below x (min d n) ≡ below x (min (d + 1) n) = ap (below x) m in
-      omega arith)
-      (let e = total_set allowance_of s.views id v w at in let r = k.room in omega arith)
-      (ap (λ (z : Bool). cond z (v.drawn ++ d ∷ []) v.drawn) (lt_no d n far))
 
   no_wrap : (s : State (Slot T H) (View T K)) (k : IsKept b s) → (get_or s.words 0 0 + 1) % 2 ^ 64 ≡ get_or s.words 0 0 + 1
   no_wrap s k = let r = k.room in let f = k.few in let e = k.first in mod-eq_of_lt (omega arith)
+
+  -- what a draw logs
+  drew : (s : State (Slot T H) (View T K)) (k : IsKept b s) (id : ℕ) (v : View T K) → get_elem? s.views id ≡ some v
+      → (lanes : ℕ) → lanes ≡ b.key.lanes → (number : ℕ) → number ≡ k.stage.draws → DrewNumber lanes number v.logs ((Drew id ∷ k.journal) ∷ [])
+  drew s k id v at lanes same number is =
+      subst (λ (z : ℕ × ℕ). DrewNumber z.0 z.1 v.logs ((Drew id ∷ k.journal) ∷ [])) (λ i. (sym same i, sym is i))
+      record {
+        logged = record { pass = id; since = k.journal; before = all_ends s.views k.journal id v at k.logs; last = refl };
+        number_is = ap (λ (a : Account T). a.drawn) k.told;
+        nobody = λ p.
+            let d : ℕ = k.stage.draws in
+            let e = k.drawn d in
+            let c = below_no d (min d b.key.lanes) (omega arith) in
+            ap (λ (a : Account T). times d (of a.own p)) k.told ∙ nobody_drew d s.views p (omega arith);
+      }
 
   pub draws_one : (slots id : ℕ) (v : View T K) (c : Held) → 0 < v.share → v.ended ≡ false
       → Allows (IsKept b) slots id (v, c) 0 (λ n. (n + 1) % 2 ^ 64) (IsDraw (step slots 0 1 0 maybe.none) (v, c))
@@ -183,8 +208,8 @@ module _ {T H K : Type 0} (b : Terms T H K) where
               lane = λ lt. absurd (omega arith);
               none = λ _. refl;
               able = able;
-              bounded = bounded b _ kept id w
-                  (set_at s.views id v w at) live;
+              logged = drew s k id v at v.lanes e (get_or s.words 0 0) f;
+              bounded = bounded b _ kept id w (set_at s.views id v w at) live;
             },
           )
       go (no near) =
@@ -202,6 +227,7 @@ module _ {T H K : Type 0} (b : Terms T H K) where
               lane = λ _. ap (λ (z : ℕ). got z (unlogged v)) (sym f);
               none = λ le. absurd (omega arith);
               able = able;
+              logged = drew s k id v at v.lanes e (get_or s.words 0 0) f;
               bounded = bounded b _ kept id w (set_at s.views id v w at) live;
             },
           )
@@ -225,7 +251,7 @@ module _ {T H K : Type 0} (b : Terms T H K) where
       let vs : List (View T K) = set s.views id w in
       let so = k.sound id v at in
       let paid : v.allowance ≤ v.share = so.paid in
-      let told = told_split b.fits n k.stage k.holder s.views k.journal id v w u at refl refl refl refl refl refl refl refl (told_of b s k) in
+      let told = told_split b.fits n k.stage k.holder s.views k.journal record { id = id; old = v; new = w; at = at } u stay_same stay_same (told_of b s k) in
       let p : (x : ℕ) → total (put_times x) (vs ++ u ∷ []) ≡ total (put_times x) s.views = λ x.
       let q = total_same (put_times x) s.views id v w at refl in let r = total_snoc (put_times x) vs u in omega arith in
       record {
@@ -288,8 +314,8 @@ module _ {T H K : Type 0} (b : Terms T H K) where
       let so = k.sound id v at in
       let there' : get_elem? s.views other ≡ some u = sym (set_else s.views id other w apart) ∙ there in
       let so' = k.sound other u there' in
-      let told = told_join b.fits n k.stage k.holder s.views k.journal id other v u w spent at there' apart refl refl refl refl refl refl refl refl
-      (told_of b s k) in
+      let told = told_join b.fits n k.stage k.holder s.views k.journal record { id = id; old = v; new = w; at = at }
+      record { id = other; old = u; spent = spent; at = there'; apart = apart; none = stay_same } stay_same (told_of b s k) in
       let p : (x : ℕ) → total (put_times x) us ≡ total (put_times x) s.views = λ x.
       let q = total_set (put_times x) s.views id v w at in
       let r = total_set (put_times x) vs other u spent there in
@@ -356,5 +382,5 @@ module _ {T H K : Type 0} (b : Terms T H K) where
         holds = named_same k.holder vs other u spent there (sym idle) (named_same k.holder s.views id v w at refl k.holds);
         legal = told.0;
         told = told.1;
-        logs = logs_join s.views k.journal id other v u w spent at there' apart refl refl k.logs;
+        logs = logs_join s.views k.journal id other v u w spent record { at = at; there = there'; apart = apart; both = refl; none = refl } k.logs;
       }

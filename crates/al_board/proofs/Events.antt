@@ -50,7 +50,7 @@ module _ {T : Type 0} (fits : ℕ → T → Type 0) (n : ℕ) where
       let t = told h (draws p) (account n (Drew p ∷ h)) i k.0 refl in record { legal = t.0; core = t.1; order = i.order; pieces = i.pieces }
   are_played (Put p lane piece ∷ h) k =
       let i = are_played h k.1 in
-      let t = told h (puts p lane piece) (account n (Put p lane piece ∷ h)) i k.0 refl in
+      let t = told h (puts p lane piece) (account n (Put p lane piece ∷ h)) i k.0.0 refl in
       record { legal = t.0; core = t.1; order = i.order; pieces = λ x lt. piece_stays x lane piece (account n h).pieces (i.pieces x lt) }
   are_played (Split p ∷ h) k =
       let i = are_played h k.1 in

@@ -56,13 +56,13 @@ module _ {T H : Type 0} where
   spared_is lanes next c h = ⊎_elim (λ e. ap spared e) (λ x. ap spared x.2) h
 
   -- the shelf's slot is brought to the front
-  pub turned_is : (lanes next : ℕ) (c : List (ℕ × Slot T H)) → IsCarried lanes next c → HasShelfFirst lanes next Empty (turned c)
-  turned_is lanes next c h = ⊎_elim (λ e. inl (ap turned e)) (λ x. inr (x.0, x.1, ap turned x.2)) h
+  pub shelf_in_front : (lanes next : ℕ) (c : List (ℕ × Slot T H)) → IsCarried lanes next c → HasShelfFirst lanes next Empty (turned c)
+  shelf_in_front lanes next c h = ⊎_elim (λ e. inl (ap turned e)) (λ x. inr (x.0, x.1, ap turned x.2)) h
 
   -- and gets something else
-  pub turned_other : (lanes next : ℕ) (x y : Slot T H) (c d : List (ℕ × Slot T H)) → HasShelfFirst lanes next x c → d ≡ (lanes, y) ∷ rest c
+  pub front_refilled : (lanes next : ℕ) (x y : Slot T H) (c d : List (ℕ × Slot T H)) → HasShelfFirst lanes next x c → d ≡ (lanes, y) ∷ rest c
       → HasShelfFirst lanes next y d
-  turned_other lanes next x y c d h e = ⊎_elim (λ q. inl (e ∙ ap (λ z. (lanes, y) ∷ rest z) q)) (λ q. inr (q.0, q.1, e ∙ ap (λ z. (lanes, y) ∷ rest z) q.2)) h
+  front_refilled lanes next x y c d h e = ⊎_elim (λ q. inl (e ∙ ap (λ z. (lanes, y) ∷ rest z) q)) (λ q. inr (q.0, q.1, e ∙ ap (λ z. (lanes, y) ∷ rest z) q.2)) h
 
 module _ {T K : Type 0} where
   work_as : (v w u : View T K) → w ≡ u → IsSameWork v u → IsSameWork v w

@@ -3,6 +3,7 @@ pub mod Verdicts
 pub mod Entries
 pub mod Events
 pub mod Logs
+pub mod Kept
 pub mod Parts
 pub mod Draws
 pub mod Puts

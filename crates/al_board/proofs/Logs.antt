@@ -1,158 +1,168 @@
 -- The views log the journal.
-use Rattle.std.proofs.Common.{◌≡◌, ◌≢◌, ℕ, ◌≤◌, ◌⊎◌, nat_lt, cond, Bool, true, false, List, [], ◌∷◌, ◌++◌, length, set, refl, sym, ap, ◌∙◌, subst, inl, inr, ⊎_elim, arith, length-append}
-use Rattle.std.proofs.lemmas.List.{append-nil, append_assoc}
-use mathlib.Core.Option.{some, some-injective}
-use native.Mathlib.Decide.{dec_le, ℕ_discrete}
+use Rattle.std.proofs.Common.{◌≡◌, ◌≢◌, ℕ, zero, suc, ◌⊎◌, List, [], ◌∷◌, ◌++◌, set, refl, sym, ap, ◌∙◌, subst, inl, inr, ⊎_elim}
+use Rattle.std.proofs.lemmas.List.{append_assoc}
+use mathlib.Core.Option.{some, some-injective, some-ne-none}
+use native.Mathlib.Decide.{ℕ_discrete}
 use lib.ListN.{get_elem?}
 use Rattle.atomic_table.proofs.Lists.{at_set, at_snoc, at_longer, set_else}
 use Rattle.al_count.proofs.Totals.{set_at}
 use Rattle.al_board.specs.declared.view.Entry.{Entry}
 use Rattle.al_board.specs.declared.view.Entry.TheVariants.{Split, Joined}
 use Rattle.al_board.specs.declared.view.View.{View}
-use Rattle.al_board.specs.Views.{longer}
-use Rattle.al_board.specs.Rule.{IsEnd, AreLogs}
-use Rattle.al_board.proofs.Pieces.{lt_yes, lt_no}
+use Rattle.al_board.specs.Logs.{IsEnd, AreEnds, IsIn}
+use Rattle.al_board.specs.Rule.{AreLogs}
 
 module _ {A : Type 0} where
-  none_end : (xs : List A) → IsEnd [] xs
-  none_end xs = (xs, sym (append-nil xs))
+  pub whole_end : (xs : List A) → IsEnd xs xs
+  whole_end xs = record { since = []; whole = refl }
 
-  whole_end : (xs : List A) → IsEnd xs xs
-  whole_end xs = ([], refl)
+  pub end_trans : (xs ys zs : List A) → IsEnd xs ys → IsEnd ys zs → IsEnd xs zs
+  end_trans xs ys zs h h' = record {
+    since = h'.since ++ h.since;
+    whole = h'.whole ∙ ap (λ (l : List A). h'.since ++ l) h.whole ∙ sym (append_assoc h'.since h.since xs);
+  }
 
   -- an end stays one where the list grows
-  end_grown : (xs ys zs : List A) → IsEnd xs ys → IsEnd xs (zs ++ ys)
-  end_grown xs ys zs h = (zs ++ h.0, ap (λ (l : List A). zs ++ l) h.1 ∙ sym (append_assoc zs h.0 xs))
+  pub end_grown : (xs ys zs : List A) → IsEnd xs ys → IsEnd xs (zs ++ ys)
+  end_grown xs ys zs h = end_trans xs ys (zs ++ ys) h record { since = zs; whole = refl }
 
-  end_length : (xs ys : List A) → IsEnd xs ys → length xs ≤ length ys
-  end_length xs ys h = let l = length-append h.0 xs in let e : length ys ≡ length (h.0 ++ xs) = ap length h.1 in omega arith
+  pub ends_grown : (logs : List (List A)) (ys zs : List A) → AreEnds logs ys → AreEnds logs (zs ++ ys)
+  ends_grown logs ys zs h k log at = end_grown log ys zs (h k log at)
 
-  -- an end that is as long is the list
-  end_is : (xs ys : List A) → IsEnd xs ys → length ys ≤ length xs → xs ≡ ys
-  end_is xs ys h le = go h.0 h.1
-    where
-      go : (zs : List A) → ys ≡ zs ++ xs → xs ≡ ys
-      go [] e = sym e
-      go (z ∷ zs) e = let l = length-append zs xs in let m : length ys ≡ length (z ∷ (zs ++ xs)) = ap length e in absurd (omega arith)
+  pub ends_none : (xs : List A) → AreEnds [] xs
+  ends_none xs k log at = absurd (some-ne-none log (sym at))
 
-  longer_end : (xs ys zs : List A) → IsEnd xs zs → IsEnd ys zs → IsEnd (longer xs ys) zs
-  longer_end xs ys zs h h' = go (nat_lt (length xs) (length ys))
-    where
-      go : (b : Bool) → IsEnd (cond b ys xs) zs
-      go true = h'
-      go false = h
+  pub ends_one : (xs ys : List A) → IsEnd xs ys → AreEnds (xs ∷ []) ys
+  ends_one xs ys h zero log at = subst (λ (l : List A). IsEnd l ys) (some-injective xs log at) h
+  ends_one xs ys h (suc k) log at = absurd (some-ne-none log (sym at))
 
-  longer_left : (xs ys zs : List A) → IsEnd ys zs → xs ≡ zs → longer xs ys ≡ zs
-  longer_left xs ys zs h e =
-      let l = end_length ys zs h in
-      let l' : length xs ≡ length zs = ap length e in
-      ap (λ (b : Bool). cond b ys xs) (lt_no (length xs) (length ys) (omega arith)) ∙ e
+  ends_append : (xss yss : List (List A)) (ys : List A) → AreEnds xss ys → AreEnds yss ys → AreEnds (xss ++ yss) ys
+  ends_append [] yss ys h h' k log at = h' k log at
+  ends_append (xs ∷ xss) yss ys h h' zero log at = h zero log at
+  ends_append (xs ∷ xss) yss ys h h' (suc k) log at = ends_append xss yss ys (λ i l e. h (suc i) l e) h' k log at
 
-  longer_right : (xs ys zs : List A) → IsEnd xs zs → ys ≡ zs → longer xs ys ≡ zs
-  longer_right xs ys zs h e = go (dec_le (length zs) (length xs))
-    where
-      go : Dec (length zs ≤ length xs) → longer xs ys ≡ zs
-      go (yes le) = longer_left xs ys zs ([], sym e) (end_is xs zs h le)
-      go (no n) = let l : length ys ≡ length zs = ap length e in ap (λ (b : Bool). cond b ys xs) (lt_yes (length xs) (length ys) (omega arith)) ∙ e
+  pub in_left : (log : List A) (xss yss : List (List A)) → IsIn log xss → IsIn log (xss ++ yss)
+  in_left log xss yss h = record { place = h.place; longer = h.longer; at = at_longer xss yss h.place h.longer h.at; end = h.end }
+
+  pub in_right : (log : List A) (xss yss : List (List A)) → IsIn log yss → IsIn log (xss ++ yss)
+  in_right log [] yss h = h
+  in_right log (xs ∷ xss) yss h =
+      let ih = in_right log xss yss h in record { place = suc ih.place; longer = ih.longer; at = ih.at; end = ih.end }
 
 module _ {T K : Type 0} where
   -- some view has logged this, or it is empty
   abbrev HasSome : List (View T K) → List (Entry T) → Type 0
-  HasSome vs last = (last ≡ []) ⊎ ((id : ℕ) × (v : View T K) × (get_elem? vs id ≡ some v) × (v.log ≡ last))
+  HasSome vs last = (last ≡ []) ⊎ ((id : ℕ) × (v : View T K) × (get_elem? vs id ≡ some v) × IsIn last v.logs)
 
   abbrev AllEnds : List (View T K) → List (Entry T) → Type 0
-  AllEnds vs last = (id : ℕ) (v : View T K) → get_elem? vs id ≡ some v → IsEnd v.log last
+  AllEnds vs last = (id : ℕ) (v : View T K) → get_elem? vs id ≡ some v → AreEnds v.logs last
 
   -- where one view is changed
-  ends_set : (vs : List (View T K)) (id : ℕ) (w : View T K) (last : List (Entry T)) → AllEnds vs last → IsEnd w.log last → AllEnds (set vs id w) last
+  ends_set : (vs : List (View T K)) (id : ℕ) (w : View T K) (last : List (Entry T)) → AllEnds vs last → AreEnds w.logs last → AllEnds (set vs id w) last
   ends_set vs id w last all mine i u e = ⊎_elim
-      (λ (x : (i ≡ id) × (w ≡ u)). subst (λ (z : View T K). IsEnd z.log last) x.1 mine)
+      (λ (x : (i ≡ id) × (w ≡ u)). subst (λ (z : View T K). AreEnds z.logs last) x.1 mine)
       (λ (x : (i ≢ id) × (get_elem? vs i ≡ some u)). all i u x.1)
       (at_set vs id i w u e)
 
-  ends_snoc : (vs : List (View T K)) (w : View T K) (last : List (Entry T)) → AllEnds vs last → IsEnd w.log last → AllEnds (vs ++ w ∷ []) last
-  ends_snoc vs w last all mine i u e = ⊎_elim (λ was. all i u was) (λ (is : w ≡ u). subst (λ (z : View T K). IsEnd z.log last) is mine) (at_snoc vs w u i e)
+  ends_snoc : (vs : List (View T K)) (w : View T K) (last : List (Entry T)) → AllEnds vs last → AreEnds w.logs last → AllEnds (vs ++ w ∷ []) last
+  ends_snoc vs w last all mine i u e = ⊎_elim (λ was. all i u was) (λ (is : w ≡ u). subst (λ (z : View T K). AreEnds z.logs last) is mine) (at_snoc vs w u i e)
 
-  -- who has logged it still has, where one view's log stays or becomes it
-  some_set : (vs : List (View T K)) (id : ℕ) (v w : View T K) (last : List (Entry T)) → get_elem? vs id ≡ some v → (v.log ≡ last → w.log ≡ last)
+  -- who has logged it still has, where one view keeps it
+  some_set : (vs : List (View T K)) (id : ℕ) (v w : View T K) (last : List (Entry T)) → get_elem? vs id ≡ some v → (IsIn last v.logs → IsIn last w.logs)
       → HasSome vs last → HasSome (set vs id w) last
   some_set vs id v w last at same = ⊎_elim (λ none. inl none) (λ h. go h (ℕ_discrete h.0 id))
     where
-      go : (h : (i : ℕ) × (u : View T K) × (get_elem? vs i ≡ some u) × (u.log ≡ last)) → Dec (h.0 ≡ id) → HasSome (set vs id w) last
+      go : (h : (i : ℕ) × (u : View T K) × (get_elem? vs i ≡ some u) × IsIn last u.logs) → Dec (h.0 ≡ id) → HasSome (set vs id w) last
       go h (yes e) =
           let is : h.1 ≡ v = some-injective h.1 v (sym h.2 ∙ ap (get_elem? vs) e ∙ at) in
-          inr (id, w, set_at vs id v w at, same (sym (ap (λ (z : View T K). z.log) is) ∙ h.3))
+          inr (id, w, set_at vs id v w at, same (subst (λ (z : View T K). IsIn last z.logs) is h.3))
       go h (no ne) = inr (h.0, h.1, set_else vs id h.0 w ne ∙ h.2, h.3)
 
   some_snoc : (vs : List (View T K)) (w : View T K) (last : List (Entry T)) → HasSome vs last → HasSome (vs ++ w ∷ []) last
   some_snoc vs w last = ⊎_elim (λ none. inl none) (λ h. inr (h.0, h.1, at_longer vs (w ∷ []) h.0 h.1 h.2, h.3))
 
+  -- all that a view has logged are ends of the journal
+  pub all_ends : (vs : List (View T K)) (h : List (Entry T)) (id : ℕ) (v : View T K) → get_elem? vs id ≡ some v → AreLogs vs h → AreEnds v.logs h
+  all_ends vs h id v at k = subst (AreEnds v.logs) (sym k.whole) (ends_grown v.logs k.last k.moves (k.ends id v at))
+
   -- a pass logs its entry
-  pub logs_entry : (vs : List (View T K)) (h : List (Entry T)) (id : ℕ) (v w : View T K) (e : Entry T) → get_elem? vs id ≡ some v → w.log ≡ e ∷ h
-      → AreLogs vs h → AreLogs (set vs id w) (e ∷ h)
-  logs_entry vs h id v w e at log k = record {
+  pub logs_entry : (vs : List (View T K)) (h : List (Entry T)) (id : ℕ) (v w : View T K) (e : Entry T) → get_elem? vs id ≡ some v
+      → w.logs ≡ (e ∷ h) ∷ [] → AreLogs vs h → AreLogs (set vs id w) (e ∷ h)
+  logs_entry vs h id v w e at logs k = record {
     moves = [];
     last = e ∷ h;
     are_moves = tt;
     whole = refl;
     ends = ends_set vs id w (e ∷ h)
-        (λ i u at'. subst (λ (z : List (Entry T)). IsEnd u.log (e ∷ z)) (sym k.whole) (end_grown u.log k.last (e ∷ k.moves) (k.ends i u at')))
-        ([], sym log);
-    someone = inr (id, w, set_at vs id v w at, log);
+        (λ i u at'. ends_grown u.logs h (e ∷ []) (all_ends vs h i u at' k))
+        (subst (λ (l : List (List (Entry T))). AreEnds l (e ∷ h)) (sym logs) (ends_one (e ∷ h) (e ∷ h) (whole_end (e ∷ h))));
+    someone = inr (
+      id,
+      w,
+      set_at vs id v w at,
+      subst (IsIn (e ∷ h)) (sym logs) record { place = 0; longer = e ∷ h; at = refl; end = whole_end (e ∷ h) },
+    );
   }
 
-  -- a view is changed, but not its log
-  pub logs_same : (vs : List (View T K)) (h : List (Entry T)) (id : ℕ) (v w : View T K) → get_elem? vs id ≡ some v → w.log ≡ v.log → AreLogs vs h
+  -- a view is changed, but not its logs
+  pub logs_same : (vs : List (View T K)) (h : List (Entry T)) (id : ℕ) (v w : View T K) → get_elem? vs id ≡ some v → w.logs ≡ v.logs → AreLogs vs h
       → AreLogs (set vs id w) h
-  logs_same vs h id v w at log k = record {
+  logs_same vs h id v w at logs k = record {
     moves = k.moves;
     last = k.last;
     are_moves = k.are_moves;
     whole = k.whole;
-    ends = ends_set vs id w k.last k.ends (subst (λ (l : List (Entry T)). IsEnd l k.last) (sym log) (k.ends id v at));
-    someone = some_set vs id v w k.last at (λ e. log ∙ e) k.someone;
+    ends = ends_set vs id w k.last k.ends (subst (λ (l : List (List (Entry T))). AreEnds l k.last) (sym logs) (k.ends id v at));
+    someone = some_set vs id v w k.last at (λ i. subst (IsIn k.last) (sym logs) i) k.someone;
   }
 
   -- a split is not logged
-  pub logs_split : (vs : List (View T K)) (h : List (Entry T)) (id : ℕ) (v w u : View T K) → get_elem? vs id ≡ some v → w.log ≡ v.log → u.log ≡ []
+  pub logs_split : (vs : List (View T K)) (h : List (Entry T)) (id : ℕ) (v w u : View T K) → get_elem? vs id ≡ some v → w.logs ≡ v.logs → u.logs ≡ []
       → AreLogs vs h
       → AreLogs (set vs id w ++ u ∷ []) (Split id ∷ h)
-  logs_split vs h id v w u at log none k =
-      let m = logs_same vs h id v w at log k in
+  logs_split vs h id v w u at logs none k =
+      let m = logs_same vs h id v w at logs k in
       record {
         moves = Split id ∷ m.moves;
         last = m.last;
         are_moves = m.are_moves;
         whole = ap (λ (z : List (Entry T)). Split id ∷ z) m.whole;
-        ends = ends_snoc (set vs id w) u m.last m.ends (subst (λ (l : List (Entry T)). IsEnd l m.last) (sym none) (none_end m.last));
+        ends = ends_snoc (set vs id w) u m.last m.ends (subst (λ (l : List (List (Entry T))). AreEnds l m.last) (sym none) (ends_none m.last));
         someone = some_snoc (set vs id w) u m.last m.someone;
       }
 
-  -- nor is a join: the receiver has the longer log
-  pub logs_join : (vs : List (View T K)) (h : List (Entry T)) (id other : ℕ) (v u w spent : View T K) → get_elem? vs id ≡ some v
-      → get_elem? vs other ≡ some u → other ≢ id
-      → w.log ≡ longer v.log u.log → spent.log ≡ [] → AreLogs vs h → AreLogs (set (set vs id w) other spent) (Joined id other ∷ h)
-  logs_join vs h id other v u w spent at there apart log none k = record {
+  -- nor is a join: the receiver has both logs
+  pub record AreJoined (vs : List (View T K)) (id other : ℕ) (v u w spent : View T K) : Type 0 where
+    pub at : get_elem? vs id ≡ some v
+    pub there : get_elem? vs other ≡ some u
+    pub apart : other ≢ id
+    pub both : w.logs ≡ v.logs ++ u.logs
+    pub none : spent.logs ≡ []
+
+  pub logs_join : (vs : List (View T K)) (h : List (Entry T)) (id other : ℕ) (v u w spent : View T K) → AreJoined vs id other v u w spent
+      → AreLogs vs h → AreLogs (set (set vs id w) other spent) (Joined id other ∷ h)
+  logs_join vs h id other v u w spent j k = record {
     moves = Joined id other ∷ k.moves;
     last = k.last;
     are_moves = k.are_moves;
     whole = ap (λ (z : List (Entry T)). Joined id other ∷ z) k.whole;
     ends = ends_set (set vs id w) other spent k.last
         (ends_set vs id w k.last k.ends
-        (subst (λ (l : List (Entry T)). IsEnd l k.last) (sym log) (longer_end v.log u.log k.last (k.ends id v at) (k.ends other u there))))
-        (subst (λ (l : List (Entry T)). IsEnd l k.last) (sym none) (none_end k.last));
+        (subst (λ (l : List (List (Entry T))). AreEnds l k.last) (sym j.both)
+        (ends_append v.logs u.logs k.last (k.ends id v j.at) (k.ends other u j.there))))
+        (subst (λ (l : List (List (Entry T))). AreEnds l k.last) (sym j.none) (ends_none k.last));
     someone = ⊎_elim (λ empty. inl empty) (λ x. go x (ℕ_discrete x.0 id) (ℕ_discrete x.0 other)) k.someone;
   }
     where
       mine : get_elem? (set (set vs id w) other spent) id ≡ some w
-      mine = set_else (set vs id w) other id spent (λ e. apart (sym e)) ∙ set_at vs id v w at
+      mine = set_else (set vs id w) other id spent (λ e. j.apart (sym e)) ∙ set_at vs id v w j.at
 
-      go : (x : (i : ℕ) × (t : View T K) × (get_elem? vs i ≡ some t) × (t.log ≡ k.last)) → Dec (x.0 ≡ id) → Dec (x.0 ≡ other)
+      go : (x : (i : ℕ) × (t : View T K) × (get_elem? vs i ≡ some t) × IsIn k.last t.logs) → Dec (x.0 ≡ id) → Dec (x.0 ≡ other)
           → HasSome (set (set vs id w) other spent) k.last
       go x (yes e) d =
-          let is : x.1 ≡ v = some-injective x.1 v (sym x.2 ∙ ap (get_elem? vs) e ∙ at) in
-          inr (id, w, mine, log ∙ longer_left v.log u.log k.last (k.ends other u there) (sym (ap (λ (z : View T K). z.log) is) ∙ x.3))
+          let is : x.1 ≡ v = some-injective x.1 v (sym x.2 ∙ ap (get_elem? vs) e ∙ j.at) in
+          inr (id, w, mine, subst (IsIn k.last) (sym j.both) (in_left k.last v.logs u.logs (subst (λ (z : View T K). IsIn k.last z.logs) is x.3)))
       go x (no ne) (yes e) =
-          let is : x.1 ≡ u = some-injective x.1 u (sym x.2 ∙ ap (get_elem? vs) e ∙ there) in
-          inr (id, w, mine, log ∙ longer_right v.log u.log k.last (k.ends id v at) (sym (ap (λ (z : View T K). z.log) is) ∙ x.3))
+          let is : x.1 ≡ u = some-injective x.1 u (sym x.2 ∙ ap (get_elem? vs) e ∙ j.there) in
+          inr (id, w, mine, subst (IsIn k.last) (sym j.both) (in_right k.last v.logs u.logs (subst (λ (z : View T K). IsIn k.last z.logs) is x.3)))
       go x (no ne) (no ne') = inr (x.0, x.1, set_else (set vs id w) other x.0 spent ne' ∙ set_else vs id x.0 w ne ∙ x.2, x.3)

@@ -10,7 +10,9 @@ use Rattle.al_board.specs.declared.view.Slot.TheVariants.{Empty}
 use Rattle.al_count.specs.Counts.{below}
 use Rattle.al_count.proofs.Totals.{below_no}
 use Rattle.al_board.specs.Views.{opener}
-use Rattle.al_board.specs.Rule.{Terms, AreFirst, IsSound, IsOpening, IsKept, IsEnd, first_stage}
+use Rattle.al_board.specs.Rule.{Terms, AreFirst, IsSound, IsOpening, IsKept, first_stage}
+use Rattle.al_board.specs.Logs.{AreEnds}
+use Rattle.al_board.proofs.Logs.{ends_none}
 use Rattle.al_board.proofs.Parts.{same_baton}
 use Rattle.al_board.proofs.Pieces.{none_some}
 
@@ -81,8 +83,8 @@ module _ {T H K : Type 0} (b : Terms T H K) where
       idle zero v t e has = absurd (none_some t (ap (λ (z : View T K). z.turn) (some-injective (opener b.key) v e) ∙ has))
       idle (suc id) v t e has = absurd (some-ne-none v (sym e))
 
-      ends : (id : ℕ) (v : View T K) → get_elem? (opener b.key ∷ []) id ≡ some v → IsEnd v.log []
-      ends zero v e = ([], ap (λ (z : View T K). z.log) (some-injective (opener b.key) v e))
+      ends : (id : ℕ) (v : View T K) → get_elem? (opener b.key ∷ []) id ≡ some v → AreEnds v.logs []
+      ends zero v e = subst (λ (z : View T K). AreEnds z.logs []) (some-injective (opener b.key) v e) (ends_none [])
       ends (suc id) v e = absurd (some-ne-none v (sym e))
 
 -- no piece lies on the shelf

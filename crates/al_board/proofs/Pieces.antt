@@ -61,7 +61,7 @@ pieces_fit {T} fits n (puts q lane piece ∷ h) x p legal e =
     go (yes is) ih =
         let there = ap (λ (z : ℕ). piece_of z ((lane, piece) ∷ (played n h).pieces)) (sym is) ∙ e in
         let same : piece ≡ p = some_same piece p (sym (piece_here lane piece (played n h).pieces) ∙ there) in
-        subst (λ (z : ℕ × T). fits z.0 z.1) (λ i. (sym is i, same i)) legal.0.3
+        subst (λ (z : ℕ × T). fits z.0 z.1) (λ i. (sym is i, same i)) legal.0.fit
     go (no ne) ih = ih (sym (piece_else x lane piece (played n h).pieces ne) ∙ e)
 pieces_fit fits n (splits q ∷ h) x p legal e = pieces_fit fits n h x p legal.1 e
 pieces_fit fits n (joins q r ∷ h) x p legal e = pieces_fit fits n h x p legal.1 e

@@ -12,9 +12,10 @@ use Rattle.al_count.proofs.Totals.{one_same, below_yes, below_no, below_le, belo
 use Rattle.al_board.specs.Counted.{drawn_times, put_times, held_count, turn_count}
 use Rattle.al_board.specs.Rule.{Terms, Stage, AreFirst, IsTurn, IsHome, IsPlain, IsBaton, IsKept, baton_of, shown}
 use Rattle.al_board.specs.Ruled.{HasFirst, IsUnput, IsUnheld, IsDrawnOnce, IsRuled}
+use Rattle.al_board.specs.Words.{filled_word, away_word}
 use Rattle.al_board.proofs.Ends.{fit_of}
 use Rattle.al_board.proofs.Parts.{at_most_one_of, at_most_one, put_below, drawn_all, ahead}
-use Rattle.al_board.proofs.Batons.{is_three}
+use Rattle.al_board.proofs.Batons.{is_taken}
 use Rattle.al_board.proofs.Pieces.{none_some}
 
 -- a list in which no number stands is empty
@@ -70,7 +71,7 @@ module _ {T H K : Type 0} (b : Terms T H K) (s : State (Slot T H) (View T K)) (k
       (omega arith, omega arith, omega arith)
 
   put_word : (lane id : ℕ) (v : View T K) → At id v → 1 ≤ times lane v.put
-      → (times lane v.drawn ≡ 1) × (times lane v.put ≡ 1) × (k.stage.taken ≤ lane → get_or s.words (lane + 1) 0 ≡ 2)
+      → (times lane v.drawn ≡ 1) × (times lane v.put ≡ 1) × (k.stage.taken ≤ lane → get_or s.words (lane + 1) 0 ≡ filled_word)
   put_word lane id v at h =
       let o = (k.sound id v at).own lane in
       let c = once lane id v at in
@@ -87,14 +88,14 @@ module _ {T H K : Type 0} (b : Terms T H K) (s : State (Slot T H) (View T K)) (k
   baton : b.key.shelved ≡ true → Away
   baton e = subst (λ (z : Bool). IsBaton b k.stage z (baton_of b s k.holder)) e k.baton
 
-  lone : Away → get_or s.words (b.key.lanes + 1) 0 ≡ 1025 → total turn_count s.views ≡ 1
+  lone : Away → get_or s.words (b.key.lanes + 1) 0 ≡ away_word → total turn_count s.views ≡ 1
   lone h e = ⊎_elim (λ x. x.1) (λ (x : IsHome b k.stage (baton_of b s k.holder)). let q = x.word in let r = k.reached in
       let f = k.few in absurd (omega arith)) h
 
-  at_home : Away → get_or s.words (b.key.lanes + 1) 0 ≢ 1025 → IsHome b k.stage (baton_of b s k.holder)
+  at_home : Away → get_or s.words (b.key.lanes + 1) 0 ≢ away_word → IsHome b k.stage (baton_of b s k.holder)
   at_home h ne = ⊎_elim (λ x. absurd (ne x.0)) (λ x. x) h
 
-  turn_word : Away → 1 ≤ total turn_count s.views → get_or s.words (b.key.lanes + 1) 0 ≡ 1025
+  turn_word : Away → 1 ≤ total turn_count s.views → get_or s.words (b.key.lanes + 1) 0 ≡ away_word
   turn_word h y = ⊎_elim (λ x. x.0) (λ (x : IsHome b k.stage (baton_of b s k.holder)). let q = x.nobody.0 in absurd (omega arith)) h
 
   has_turn : (id : ℕ) (v : View T K) (t : Turn T) → At id v → v.turn ≡ Some t → 1 ≤ total turn_count s.views
@@ -148,7 +149,7 @@ module _ {T H K : Type 0} (b : Terms T H K) (s : State (Slot T H) (View T K)) (k
           let w = k.word lane lt in omega arith;
       held = λ lane id v at h. (held_word lane id v at h).2;
       filled = λ lane id v at h beyond. (put_word lane id v at h).2 beyond;
-      gone = λ lane low. (is_three b s k lane low, some_member (put_times lane) s.views (k.behind lane low));
+      gone = λ lane low. (is_taken b s k lane low, some_member (put_times lane) s.views (k.behind lane low));
       only_gone = λ lane lt e. let m = at_most_one b s k lane in let w = k.word lane lt in below_true lane k.stage.taken (omega arith);
       only_lanes = k.reached.1;
     };
@@ -337,9 +338,9 @@ module _ {T H K : Type 0} (b : Terms T H K) (s : State (Slot T H) (View T K)) (r
 
   -- the baton
   with_shelf : b.key.shelved ≡ true → IsBaton b stage_of true (baton_of b s r.holder)
-  with_shelf e = go (ℕ_discrete (get_or s.words (b.key.lanes + 1) 0) 1025)
+  with_shelf e = go (ℕ_discrete (get_or s.words (b.key.lanes + 1) 0) away_word)
     where
-      go : Dec (get_or s.words (b.key.lanes + 1) 0 ≡ 1025) → IsBaton b stage_of true (baton_of b s r.holder)
+      go : Dec (get_or s.words (b.key.lanes + 1) 0 ≡ away_word) → IsBaton b stage_of true (baton_of b s r.holder)
       go (yes w) =
           let a = (r.one_baton e).away w in
           let t = total_alone turn_count s.views a.0 a.1 a.3 (λ j u ne at. ap present (a.5 j u ne at)) in

@@ -9,6 +9,7 @@ use lib.Seq.{map-set}
 use Rattle.atomic_table.proofs.Lists.{at_set, at_snoc, set_else}
 use Rattle.al_count.specs.Counts.{one, below, times, total}
 use Rattle.al_count.proofs.Totals.{one_other, one_same, below_next, below_le, below_no, times_append, times_snoc, total_set, total_snoc, total_same, total_gap, place_has}
+use Rattle.al_board.specs.declared.view.Entry.{Entry}
 use Rattle.al_board.specs.Core.{Event, draws, puts, splits, joins, judges, Core, of, piece_of, listed, first_pieces, played, IsLegal, IsHistory}
 use Rattle.al_board.specs.declared.view.View.{View}
 use Rattle.al_board.specs.Journal.{events}
@@ -130,8 +131,8 @@ module _ {T : Type 0} (fits : ℕ → T → Type 0) (lanes : ℕ) where
   sound_of (puts p lane piece ∷ h) l =
       let c : Core T = played lanes h in
       let k = sound_of h l.1 in
-      let q = pass_of c k p l.0.0 in
-      go c k q.0 q.1 l.0.1 l.0.2
+      let q = pass_of c k p l.0.is_pass in
+      go c k q.0 q.1 l.0.drawn l.0.not_put
     where
       go : (c : Core T) (k : IsSound lanes c) (q : Pair) → get_elem? k.pairs p ≡ some q → 1 ≤ times lane (of c.own p) → times lane (of c.put p) ≡ 0
           → IsSound lanes (Rattle.al_board.specs.Core.after lanes (puts p lane piece) c)
@@ -285,7 +286,8 @@ module _ {T W : Type 0} (judge : List T → T → W) where
   verdicts_are fits lanes (puts p lane piece ∷ h) l =
       let c : Core T = played lanes h in
       verdicts_are fits lanes h l.1
-      ∙ ap (in_order judge []) (sym (first_else c.judged lane piece c.pieces (behind fits lanes c (sound_of fits lanes h l.1) p lane l.0.0 l.0.1 l.0.2)))
+      ∙ ap (in_order judge []) (sym (first_else c.judged lane piece c.pieces
+      (behind fits lanes c (sound_of fits lanes h l.1) p lane l.0.is_pass l.0.drawn l.0.not_put)))
   verdicts_are fits lanes (splits p ∷ h) l = verdicts_are fits lanes h l.1
   verdicts_are fits lanes (joins p q ∷ h) l = verdicts_are fits lanes h l.1
   verdicts_are fits lanes (judges lane ∷ h) l =
@@ -325,9 +327,10 @@ module _ {T W : Type 0} (judge : List T → T → W) where
       omega arith
 
   -- the verdicts of a round are those of its pieces
-  pub round_verdicts : {K : Type 0} (fits : ℕ → T → Type 0) (lanes pass : ℕ) (v : View T K) (pieces : List T) (round : IsRound fits lanes lanes pass v pieces)
+  pub round_verdicts : {K : Type 0} (fits : ℕ → T → Type 0) (lanes pass : ℕ) (v : View T K) (logs : List (List (Entry T))) (pieces : List T)
+      → (round : IsRound fits lanes lanes pass v logs pieces)
       → verdicts judge lanes (events lanes round.journal) ≡ in_order judge [] pieces
-  round_verdicts fits lanes pass v pieces round =
+  round_verdicts fits lanes pass v logs pieces round =
       verdicts_are fits lanes (events lanes round.journal) round.legal
       ∙ ap (λ (z : ℕ). in_order judge [] (first_pieces z (played lanes (events lanes round.journal)).pieces)) round.are_judged
       ∙ ap (in_order judge []) round.each

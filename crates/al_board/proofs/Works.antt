@@ -1,20 +1,12 @@
 -- A worker's run.
-use Rattle.std.proofs.Common.{◌≡◌, ℕ, ◌+◌, ◌≤◌, List, [], ◌∷◌, ◌++◌, refl, sym, ap, ◌∙◌, ⊎_elim, arith, length-append, subst, true, Option, Some, None, MatchOption, ◌<◌}
+use Rattle.std.proofs.Common.{◌≡◌, ℕ, ◌+◌, ◌≤◌, List, [], ◌∷◌, ◌++◌, refl, sym, ap, ◌∙◌, arith, subst, true, Option, Some, None, MatchOption, ◌<◌}
 use Rattle.std.proofs.lemmas.List.{append-nil, append_assoc}
 use Rattle.al_board.specs.declared.view.Helped.{Helped}
-use Rattle.al_board.specs.declared.view.Helped.TheVariants.{Busy, Advanced}
-use Rattle.al_board.specs.declared.view.Miss.{Miss}
-use Rattle.al_board.specs.declared.view.Miss.TheVariants.{Baton, Lane}
 use Rattle.al_board.specs.declared.view.View.{View}
 use Rattle.al_count.specs.Counts.{times}
 use Rattle.al_count.proofs.Totals.{one_same, times_append, times_snoc}
-use Rattle.al_board.specs.Views.{IsBounded, IsSameWork, HasPutAll, HasLaid, got, gave, joined, over, ran, handed, missed, met_times, tries_of}
-use Rattle.al_board.specs.Helps.{IsThrough, IsStopped, IsHelped}
-
-met_append : (ms ns : List Miss) → met_times (ms ++ ns) ≡ met_times ms + met_times ns
-met_append [] ns = omega arith
-met_append (Baton ∷ ms) ns = let ih = met_append ms ns in omega arith
-met_append (Lane j ∷ ms) ns = met_append ms ns
+use Rattle.al_board.specs.Views.{IsBounded, IsSameWork, HasPutAll, got, gave, joined, over, ran}
+use Rattle.al_board.specs.Helps.{IsHelped, HasLaidOne, HasLaidEach, HasLaid}
 
 module _ {T K : Type 0} where
   pub has_drawn : (v w : View T K) (lane : ℕ) → w ≡ got lane v → 1 ≤ times lane w.drawn
@@ -37,6 +29,15 @@ module _ {T K : Type 0} where
       let d : times x w.drawn ≡ times x (v.drawn ++ lanes) = ap (λ (z : View T K). times x z.drawn) e in
       let p : times x w.put ≡ times x (v.put ++ lanes) = ap (λ (z : View T K). times x z.put) e in
       let h = all x in omega arith
+
+  -- a run goes on by one lane
+  pub ran_more : (v u w : View T K) (lanes : List ℕ) (lane : ℕ) → v.holds ≡ None → w ≡ gave lane (got lane u) → u ≡ ran lanes v
+      → w ≡ ran (lanes ++ lane ∷ []) v
+  ran_more v u w lanes lane idle e e' = e ∙ ap (λ (z : View T K). gave lane (got lane z)) e' ∙ (λ i. record v {
+    holds = sym idle i;
+    drawn = append_assoc v.drawn lanes (lane ∷ []) i;
+    put = append_assoc v.put lanes (lane ∷ []) i;
+  })
 
   -- a lane that a draw gave is drawn
   pub has_drawn_some : (o : Option ℕ) (lane n : ℕ) (v w : View T K) → o ≡ Some lane
@@ -70,19 +71,10 @@ module _ {T K : Type 0} where
       let p' : times x w.put ≡ times x u.put = ap (λ (z : View T K). times x z.put) e in
       let h = all x in omega arith
 
-  -- each call that lays pieces tries once to take the baton
-  tried_once : (v w : View T K) (r : Helped) → IsHelped v w r → tries_of w ≡ tries_of v + 1
-  tried_once v w Busy h =
-      let e : tries_of w ≡ tries_of (missed Baton v) = ap tries_of h.0 in
-      let m = met_append v.misses (Baton ∷ []) in omega arith
-  tried_once v w (Advanced j) h =
-      let l = length-append v.given (j ∷ []) in
-      ⊎_elim
-      (λ (t : IsThrough v w j). let e : tries_of w ≡ tries_of (handed j v) = ap tries_of t.1 in omega arith)
-      (λ (t : IsStopped v w j).
-      let e : tries_of w ≡ tries_of (handed j (missed (Lane j) v)) = ap tries_of t.1 in
-      let m = met_append v.misses (Lane j ∷ []) in omega arith)
-      h.1
+  -- a run goes on by one lane
+  laid_on_each : (lanes : List ℕ) (v u w : View T K) (lane : ℕ) → HasLaidEach lanes v u → HasLaidOne lane u w → HasLaidEach (lanes ++ lane ∷ []) v w
+  laid_on_each [] v u w lane e h = (w, subst (λ (z : View T K). HasLaidOne lane z w) e h, refl)
+  laid_on_each (x ∷ xs) v u w lane h h' = (h.0, h.1, laid_on_each xs h.0 u w lane h.2 h')
 
   -- a run starts with no lane, and goes on by one lane
   pub laid_none : (v w : View T K) → w ≡ v → HasLaid v w
@@ -99,7 +91,7 @@ module _ {T K : Type 0} where
       allowance = refl;
       share = refl;
     };
-    tried = omega arith;
+    each = refl;
   }
 
   pub laid_more : (v u x w : View T K) (lane : ℕ) (r : Helped) → HasLaid v u → u.holds ≡ None → x ≡ gave lane (got lane u) → IsHelped x w r → IsSameWork x w
@@ -117,9 +109,5 @@ module _ {T K : Type 0} where
       allowance = same.allowance ∙ ap (λ (z : View T K). z.allowance) e ∙ h.same.allowance;
       share = same.share ∙ ap (λ (z : View T K). z.share) e ∙ h.same.share;
     };
-    tried =
-        let t = tried_once x w r helped in
-        let was = h.tried in
-        let is : tries_of x ≡ tries_of u = ap tries_of e in
-        let l = length-append h.ran_lanes (lane ∷ []) in omega arith;
+    each = laid_on_each h.ran_lanes v u w lane h.each (r, subst (λ (z : View T K). IsHelped z w r) e helped);
   }

@@ -50,13 +50,19 @@ module _ {T : Type 0} (lanes : ℕ) where
   played [] = record { drawn = 0; own = [] ∷ []; put = [] ∷ []; pieces = []; judged = 0 }
   played (e ∷ es) = after e (played es)
 
+-- a pass puts a piece that fits into a lane that it drew and has not put
+pub record MayPut {T : Type 0} (fits : ℕ → T → Type 0) (pass lane : ℕ) (piece : T) (own put : List (List ℕ)) : Type 0
+  where
+    pub is_pass : pass < length own
+    pub drawn : 1 ≤ times lane (of own pass)
+    pub not_put : times lane (of put pass) ≡ 0
+    pub fit : fits lane piece
+
 module _ {T : Type 0} (fits : ℕ → T → Type 0) (lanes : ℕ) where
-  -- the event may come next: a pass puts a lane that it drew and has not put, with a piece that fits,
-  -- and the next lane is judged once it is put
+  -- the event may come next; a lane is judged as the next one, and once it is put
   abbrev pub IsLegal : Event T → Core T → Type 0
   IsLegal (draws p) c = p < length c.own
-  IsLegal (puts p lane piece) c =
-      (p < length c.own) × (1 ≤ times lane (of c.own p)) × (times lane (of c.put p) ≡ 0) × fits lane piece
+  IsLegal (puts p lane piece) c = MayPut fits p lane piece c.own c.put
   IsLegal (splits p) c = p < length c.own
   IsLegal (joins p q) c = (p < length c.own) × (q < length c.own) × (q ≢ p)
   IsLegal (judges lane) c = (lane ≡ c.judged) × ((piece : T) × (piece_of lane c.pieces ≡ Some piece))

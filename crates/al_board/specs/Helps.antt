@@ -7,7 +7,7 @@ use Rattle.al_board.specs.declared.view.Helped.{Helped}
 use Rattle.al_board.specs.declared.view.Helped.TheVariants.{Busy, Advanced}
 use Rattle.al_board.specs.declared.view.Miss.TheVariants.{Baton, Lane}
 use Rattle.al_count.specs.Counts.{times}
-use Rattle.al_board.specs.Views.{missed, at_turn, handed, IsFull}
+use Rattle.al_board.specs.Views.{got, over, gave, missed, at_turn, handed, ran, IsFull, IsSameWork}
 
 module _ {T K : Type 0} where
   -- a view of this task, with a shelf, that is not spent
@@ -31,6 +31,29 @@ module _ {T K : Type 0} where
   abbrev pub IsHelped : View T K → View T K → Helped → Type 0
   IsHelped v w Busy = (w ≡ missed Baton v) × ¬ (IsFull v)
   IsHelped v w (Advanced j) = (j ≤ v.lanes) × (IsThrough v w j ⊎ IsStopped v w j)
+
+  -- it drew and put the lane, and tried once to lay pieces
+  abbrev pub HasLaidOne : ℕ → View T K → View T K → Type 0
+  HasLaidOne lane v w = (answer : Helped) × IsHelped (gave lane (got lane v)) w answer
+
+  -- and so with each of these lanes, one after another
+  abbrev pub HasLaidEach : List ℕ → View T K → View T K → Type 0
+  HasLaidEach [] v w = w ≡ v
+  HasLaidEach (lane ∷ lanes) v w = (u : View T K) × HasLaidOne lane v u × HasLaidEach lanes u w
+
+  -- a run that lays pieces: it drew some lanes and put these, and after each of them it tried once to lay
+  pub record HasLaid (v w : View T K) : Type 0 where
+    pub ran_lanes : List ℕ
+    pub same : IsSameWork (ran ran_lanes v) w
+    pub each : HasLaidEach ran_lanes v w
+
+  -- such a run that has ended: then no lane was left
+  abbrev pub HasWorked : View T K → View T K → Type 0
+  HasWorked v w = (u : View T K) × HasLaid v u × (w ≡ over u)
+
+  -- such a run that was stopped: then it drew one lane more
+  abbrev pub HasHalted : View T K → View T K → Type 0
+  HasHalted v w = (u : View T K) × HasLaid v u × ((lane : ℕ) × (w ≡ got lane u))
 
   -- the view v, which had the baton at `found`, after a run that stopped at `next` with this on the shelf
   pub record IsLaid (lanes found next : ℕ) (laid : List T) (v w : View T K) : Type 0 where

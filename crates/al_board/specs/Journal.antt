@@ -1,11 +1,10 @@
 -- All that the passes of one board do, as a list of entries; the events of the board are a part of it.
 use Rattle.std.specs.Prelude.{◌≡◌, ◌≢◌, ℕ, zero, suc, ◌+◌, ◌-◌, ◌<◌, ◌≤◌, nat_lt, cond, Option, Some, None, List, [], ◌∷◌, ◌++◌, length, slice_set}
-use Rattle.al_count.specs.Counts.{times}
 use Rattle.al_board.specs.declared.view.Entry.{Entry}
 use Rattle.al_board.specs.declared.view.Entry.TheVariants.{Drew, Put, Split, Joined, Seized, Met, Took, Skipped, Handed}
 use Rattle.al_board.specs.declared.view.Miss.{Miss}
 use Rattle.al_board.specs.declared.view.Miss.TheVariants.{Baton, Lane}
-use Rattle.al_board.specs.Core.{Event, draws, puts, splits, joins, judges, Core, of, piece_of}
+use Rattle.al_board.specs.Core.{MayPut, Event, draws, puts, splits, joins, judges, Core, of, piece_of}
 
 -- What a journal amounts to: the number of draws; the lanes that each pass drew and put, what it missed and where it
 -- gave the baton back;
@@ -92,13 +91,12 @@ abbrev pub core_of : {T : Type 0} → Account T → Core T
 core_of a = record { drawn = a.drawn; own = a.own; put = a.put; pieces = a.pieces; judged = a.judged }
 
 module _ {T : Type 0} (fits : ℕ → T → Type 0) (lanes : ℕ) where
-  -- The entry may come next. A pass that has put a lane seizes the baton where nobody has it, and meets it where
-  -- another pass has it.
+  -- The entry may come next. A pass puts a piece where none was put. A pass that has put a lane seizes the baton where
+  -- nobody has it, and meets it where another pass has it.
   -- Who has it takes the next lane where its piece was put, skips it where none was, and may give the baton back.
   abbrev pub MayEnter : Entry T → Account T → Type 0
   MayEnter (Drew p) a = p < length a.own
-  MayEnter (Put p lane piece) a =
-      (p < length a.own) × (1 ≤ times lane (of a.own p)) × (times lane (of a.put p) ≡ 0) × fits lane piece
+  MayEnter (Put p lane piece) a = MayPut fits p lane piece a.own a.put × (piece_of lane a.pieces ≡ None)
   MayEnter (Split p) a = p < length a.own
   MayEnter (Joined p q) a = (p < length a.own) × (q < length a.own) × (q ≢ p)
   MayEnter (Seized p) a = (p < length a.own) × (1 ≤ length (of a.put p)) × (a.holder ≡ None)

@@ -63,6 +63,7 @@ module _ {T K : Type 0} (W : Type 0) (fits : K → ℕ → T → Type 0) where
 
   -- where all lanes were judged, the pieces that a closed board gives have the verdicts of the history that put them
   abbrev pub RoundsAreJudged : Type 0
-  RoundsAreJudged = (judge : List T → T → W) (task : K) (lanes pass : ℕ) (view : View T K) (pieces : List T)
-      → (round : IsRound (fits task) lanes lanes pass view pieces)
+  RoundsAreJudged = (judge : List T → T → W) (task : K) (lanes pass : ℕ) (view : View T K)
+      (logs : List (List (Entry T))) (pieces : List T)
+      → (round : IsRound (fits task) lanes lanes pass view logs pieces)
       → verdicts judge lanes (events lanes round.journal) ≡ in_order judge [] pieces

@@ -5,6 +5,7 @@ pub mod Piles
 pub mod Views
 pub mod Counted
 pub mod Journal
+pub mod Logs
 pub mod Rule
 pub mod Ruled
 pub mod Steps

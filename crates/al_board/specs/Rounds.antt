@@ -4,14 +4,16 @@ use Rattle.al_board.specs.declared.view.Entry.{Entry}
 use Rattle.al_board.specs.declared.view.View.{View}
 use Rattle.al_board.specs.Core.{of, played, first_pieces, IsHistory}
 use Rattle.al_board.specs.Journal.{events, IsJournal}
+use Rattle.al_board.specs.Logs.{AreEnds}
 
--- There is a journal whose events are a legal history in which these pieces, and no other, were put into the lanes, in
--- their order;
--- so many were judged; and this pass drew and put what its view says.
+-- There is a journal, of which all that this pass has logged are ends. Its events are a legal history in which these
+-- pieces, and no other, were put into the lanes, in their order, and so many were judged. The pass drew and put what
+-- its view says.
 pub record IsRound {T K : Type 0} (fits : ℕ → T → Type 0) (lanes judged pass : ℕ) (v : View T K)
-    (pieces : List T) : Type 0 where
+    (logs : List (List (Entry T))) (pieces : List T) : Type 0 where
   pub journal : List (Entry T)
   pub kept : IsJournal fits lanes journal
+  pub ends : AreEnds logs journal
   pub legal : IsHistory fits lanes (events lanes journal)
   pub each : first_pieces lanes (played lanes (events lanes journal)).pieces ≡ pieces
   pub are_judged : (played lanes (events lanes journal)).judged ≡ judged

@@ -18,6 +18,7 @@ use Rattle.al_board.specs.Piles.{on_pile, room_of}
 use Rattle.al_board.specs.Core.{piece_of}
 use Rattle.al_board.specs.Counted.{drawn_times, put_times, held_count, share_of, allowance_of, turn_count}
 use Rattle.al_board.specs.Journal.{Account, account, IsJournal}
+use Rattle.al_board.specs.Logs.{AreEnds, IsIn}
 use Rattle.al_board.specs.Words.{filled_word, away_word}
 
 -- what a board is told: its setting, which pieces fit which lanes, and, of a shelf, its pieces and whether it is one
@@ -152,20 +153,15 @@ AreMoves (Split p ∷ es) = AreMoves es
 AreMoves (Joined p q ∷ es) = AreMoves es
 AreMoves (e ∷ es) = ⊥
 
--- The first list is the end of the second.
-abbrev pub IsEnd : {A : Type 0} → List A → List A → Type 0
-IsEnd {A} xs ys = (since : List A) × (ys ≡ since ++ xs)
-
--- Each view has logged the journal as it was at its last entry, but for splits and joins, and some view has logged the
--- last entry of all:
--- so the views fix the journal, and a step can only add to it.
+-- Each log is the journal as it was at an entry, and some view has logged the last entry of all, but for splits and
+-- joins: so the views fix the journal, and a step can only add to it.
 pub record AreLogs {T K : Type 0} (views : List (View T K)) (journal : List (Entry T)) : Type 0 where
   pub moves : List (Entry T)
   pub last : List (Entry T)
   pub are_moves : AreMoves moves
   pub whole : journal ≡ moves ++ last
-  pub ends : (id : ℕ) (v : View T K) → get_elem? views id ≡ some v → IsEnd v.log last
-  pub someone : (last ≡ []) ⊎ ((id : ℕ) × (v : View T K) × (get_elem? views id ≡ some v) × (v.log ≡ last))
+  pub ends : (id : ℕ) (v : View T K) → get_elem? views id ≡ some v → AreEnds v.logs last
+  pub someone : (last ≡ []) ⊎ ((id : ℕ) × (v : View T K) × (get_elem? views id ≡ some v) × IsIn last v.logs)
 
 module _ {T H K : Type 0} (b : Terms T H K) where
   abbrev pub baton_of : State (Slot T H) (View T K) → Option ℕ → Baton T H

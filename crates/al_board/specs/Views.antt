@@ -1,21 +1,9 @@
 -- What a pass knows, and how its steps change that.
-use Rattle.std.specs.Prelude.{◌≡◌, ℕ, ◌+◌, ◌-◌, ◌/◌, ◌^◌, ◌<◌, ◌≤◌, ◌⊎◌, nat_lt, cond, true, false, Option, List, [], ◌∷◌, ◌++◌, length, Some, None, MatchOption}
-use Rattle.al_board.specs.declared.view.Entry.{Entry}
+use Rattle.std.specs.Prelude.{◌≡◌, ℕ, ◌+◌, ◌-◌, ◌/◌, ◌^◌, ◌<◌, ◌≤◌, ◌⊎◌, true, false, Option, List, [], ◌∷◌, ◌++◌, length, Some, None, MatchOption}
 use Rattle.al_board.specs.declared.view.Setting.{Setting}
 use Rattle.al_board.specs.declared.view.Miss.{Miss}
-use Rattle.al_board.specs.declared.view.Miss.TheVariants.{Baton, Lane}
 use Rattle.al_board.specs.declared.view.View.{View}
 use Rattle.al_count.specs.Counts.{times, below}
-
--- how often the baton was missed
-abbrev pub met_times : List Miss → ℕ
-met_times [] = 0
-met_times (Baton ∷ ms) = 1 + met_times ms
-met_times (Lane j ∷ ms) = met_times ms
-
--- the longer one
-abbrev pub longer : {A : Type 0} → List A → List A → List A
-longer xs ys = cond (nat_lt (length xs) (length ys)) ys xs
 
 module _ {T K : Type 0} where
   -- the first pass of a board
@@ -33,7 +21,7 @@ module _ {T K : Type 0} where
     misses = [];
     given = [];
     turn = None;
-    log = [];
+    logs = [];
   }
 
   -- what is left of a pass that a join took in
@@ -51,16 +39,12 @@ module _ {T K : Type 0} where
     misses = [];
     given = [];
     turn = None;
-    log = [];
+    logs = [];
   }
 
-  -- the view without its log
+  -- the view without its logs
   abbrev pub unlogged : View T K → View T K
-  unlogged v = record v { log = [] }
-
-  -- it has logged the journal
-  abbrev pub logging : List (Entry T) → View T K → View T K
-  logging log v = record v { log = log }
+  unlogged v = record v { logs = [] }
 
   -- it drew the lane
   abbrev pub got : ℕ → View T K → View T K
@@ -97,17 +81,17 @@ module _ {T K : Type 0} where
     misses = [];
     given = [];
     turn = None;
-    log = [];
+    logs = [];
   }
 
-  -- it took in the lanes, the allowance and the share of another
+  -- it took in the lanes, the allowance, the share and the logs of another
   abbrev pub joined : View T K → View T K → View T K
   joined v w = record v {
     drawn = v.drawn ++ w.drawn;
     put = v.put ++ w.put;
     allowance = v.allowance + w.allowance;
     share = v.share + w.share;
-    log = longer v.log w.log;
+    logs = v.logs ++ w.logs;
   }
 
   -- an attempt failed
@@ -121,10 +105,6 @@ module _ {T K : Type 0} where
   -- it gave the baton back at this number
   abbrev pub handed : ℕ → View T K → View T K
   handed next v = record v { turn = None; given = v.given ++ next ∷ [] }
-
-  -- how often it tried to take the baton: it gave it back, or missed it
-  abbrev pub tries_of : View T K → ℕ
-  tries_of v = length v.given + met_times v.misses
 
   -- it drew some lanes more, and put these
   abbrev pub ran : List ℕ → View T K → View T K
@@ -175,17 +155,3 @@ module _ {T K : Type 0} where
   -- a lane was drawn, made and put, or the draw ended the pass
   abbrev pub HasFilled : View T K → View T K → Option ℕ → Type 0
   HasFilled v w r = MatchOption r (w ≡ over v) (λ lane. w ≡ gave lane (got lane v))
-
-  -- a run that lays pieces: it drew some lanes and put these, and after each of them tried once to take the baton
-  pub record HasLaid (v w : View T K) : Type 0 where
-    pub ran_lanes : List ℕ
-    pub same : IsSameWork (ran ran_lanes v) w
-    pub tried : tries_of w ≡ tries_of v + length ran_lanes
-
-  -- such a run that has ended: then no lane was left
-  abbrev pub HasWorked : View T K → View T K → Type 0
-  HasWorked v w = (u : View T K) × HasLaid v u × (w ≡ over u)
-
-  -- such a run that was stopped: then it drew one lane more
-  abbrev pub HasHalted : View T K → View T K → Type 0
-  HasHalted v w = (u : View T K) × HasLaid v u × ((lane : ℕ) × (w ≡ got lane u))

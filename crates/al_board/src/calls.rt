@@ -1,7 +1,9 @@
 //! The calls of a board that draw and put.
-ghost use Rattle.std.specs.Prelude.{ℕ, ◌≡◌, ◌+◌, ◌<◌, ◌≤◌, false, [], ◌∷◌, length};
+ghost use Rattle.std.specs.Prelude.{ℕ, ◌≡◌, ◌+◌, ◌<◌, ◌≤◌, false, [], ◌∷◌, ◌++◌, length};
 ghost use Rattle.al_count.specs.Counts.{times};
-ghost use Rattle.al_board.specs.Seen.{view, IsSame, IsPassOf, lane_count, task_of, has_shelf};
+ghost use Rattle.al_board.specs.declared.view.Entry.TheVariants.{Put};
+ghost use Rattle.al_board.specs.Logs.{HasLogged, HasLoggedDraw};
+ghost use Rattle.al_board.specs.Seen.{logs_of, view, IsSame, IsPassOf, lane_count, task_of, has_shelf};
 ghost use Rattle.al_board.specs.Views.{gave, keeping, parted, joined, HasDrawn, IsBounded};
 
 use crate::piece::Piece;
@@ -16,6 +18,7 @@ impl<T: Piece> Board<T> {
         requires going { (view pass.old).ended ≡ false }
         ensures own { IsSame self.now pass.old pass.new }
         ensures drawn { HasDrawn (lane_count self.now) (view pass.old) (view pass.new) result }
+        ensures logged { HasLoggedDraw (lane_count self.now) (logs_of pass.old) (logs_of pass.new) result }
         ensures once { IsBounded (view pass.new) }
     {
         let number = self.table.shared.fetch_add::<Draw>(&mut pass.seat, 0, 1);
@@ -57,6 +60,7 @@ impl<T: Piece> Board<T> {
         ensures own { IsSame self.now pass.old pass.new × IsPassOf self.now result }
         ensures kept { view pass.new ≡ keeping (view pass.old) }
         ensures given { view result ≡ parted (view pass.old) }
+        ensures logs { (logs_of pass.new ≡ logs_of pass.old) × (logs_of result ≡ []) }
     {
         let half = pass.allowance / 2;
         let seat = self.table.shared.split_seat::<Halve>(&mut pass.seat);
@@ -73,6 +77,7 @@ impl<T: Piece> Board<T> {
         requires own { IsPassOf self.now pass.old × IsPassOf self.now other }
         ensures own { IsSame self.now pass.old pass.new }
         ensures joined { view pass.new ≡ joined (view pass.old) (view other) }
+        ensures logs { logs_of pass.new ≡ logs_of pass.old ++ logs_of other }
         ensures once { IsBounded (view pass.new) }
     {
         let Pass {
@@ -94,6 +99,7 @@ impl<T: Piece> Board<T> {
         requires fits { T.fits (task_of self.now) lane piece }
         ensures own { IsSame self.now pass.old pass.new }
         ensures put { view pass.new ≡ gave lane (view pass.old) }
+        ensures logged { HasLogged (λ number. Put number lane piece) (logs_of pass.old) (logs_of pass.new) }
     {
         let word = lane as usize + 1;
         self.table.shared.swap::<Take>(&mut pass.seat, word, HELD);

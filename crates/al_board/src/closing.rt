@@ -4,7 +4,9 @@ ghost use Rattle.std.specs.Slots.{slots_items, slots_len, slots_filled};
 ghost use Rattle.al_board.specs.Closes.{AreFrom, AreLeft, HavePieces};
 ghost use Rattle.al_board.specs.Fits.{AreFit};
 ghost use Rattle.al_board.specs.Piles.{on_pile, room_of};
-ghost use Rattle.al_board.specs.Seen.{view, IsPassOf, IsRoundOf, lane_count, task_of, has_shelf};
+ghost use Rattle.al_board.specs.declared.view.Slot.TheVariants.{Shelf};
+ghost use Rattle.al_board.specs.Logs.{AreGiven};
+ghost use Rattle.al_board.specs.Seen.{logs_of, view, IsPassOf, IsRoundOf, lane_count, task_of, has_shelf};
 ghost use Rattle.al_board.specs.Views.{IsFull};
 
 use crate::piece::Piece;
@@ -24,6 +26,7 @@ impl<T: Piece> Board<T> {
         ensures each { length result ≡ lane_count self }
         ensures fit { AreFit (T.fits (task_of self)) result }
         ensures history { IsRoundOf T.fits self 0 pass result }
+        ensures given { AreGiven (logs_of pass) result }
     {
         self.close_pile(pass).into_pieces()
     }
@@ -36,6 +39,7 @@ impl<T: Piece> Board<T> {
         ensures each { length result.items ≡ lane_count self }
         ensures fit { AreFit (T.fits (task_of self)) result.items }
         ensures history { IsRoundOf T.fits self 0 pass result.items }
+        ensures given { AreGiven (logs_of pass) result.items }
     {
         self.close_pile(pass).into_vec()
     }
@@ -48,6 +52,7 @@ impl<T: Piece> Board<T> {
         ensures each { length (on_pile result) ≡ lane_count self }
         ensures fit { AreFit (T.fits (task_of self)) (on_pile result) }
         ensures history { IsRoundOf T.fits self 0 pass (on_pile result) }
+        ensures given { AreGiven (logs_of pass) (on_pile result) }
     {
         let Board { table, setting } = self;
         let Setting {
@@ -78,6 +83,7 @@ impl<T: Piece> Board<T> {
         ensures each { length (T.laid result) ≡ lane_count self }
         ensures fit { AreFit (T.fits (task_of self)) (T.laid result) }
         ensures history { IsRoundOf T.fits self (lane_count self) pass (T.laid result) }
+        ensures given { AreGiven (logs_of pass) (T.laid result) }
     {
         self.take_turn(&mut pass);
         let Board { table, setting } = self;
@@ -94,12 +100,20 @@ impl<T: Piece> Board<T> {
         let mut closed = table.close_with(seat);
         let last = closed.take(lanes as usize);
         discard(closed, lanes);
-        match last {
-            Slot::Shelf(shelf) => shelf,
-            Slot::Empty => unreachable!(),
-            Slot::Piece(_) => unreachable!(),
-            Slot::Room(_) => unreachable!(),
-        }
+        shelf_in(last)
+    }
+}
+
+// The shelf in a slot that has it.
+fn shelf_in<T: Drop, H: Drop>(slot: Slot<T, H>) -> H
+    requires { (shelf : _) × (slot ≡ Shelf shelf) }
+    ensures { slot ≡ Shelf result }
+{
+    match slot {
+        Slot::Shelf(shelf) => shelf,
+        Slot::Empty => unreachable!(),
+        Slot::Piece(_) => unreachable!(),
+        Slot::Room(_) => unreachable!(),
     }
 }
 

@@ -1,7 +1,8 @@
 //! The calls of a board with a shelf that lay pieces on it.
 ghost use Rattle.std.specs.Prelude.{ℕ, true, ◌≡◌, ◌≢◌, ◌+◌, ◌<◌, ◌≤◌, ◌⊎◌, [], ◌∷◌, Some, None, length};
 ghost use Rattle.al_board.specs.declared.view.Slot.TheVariants.{Empty};
-ghost use Rattle.al_board.specs.Seen.{seen, view, IsSame, IsPassOf, lane_count, task_of, has_shelf};
+ghost use Rattle.al_board.specs.Logs.{HasLaidOn, HasLoggedHelp};
+ghost use Rattle.al_board.specs.Seen.{logs_of, seat_logs, seen, view, IsSame, IsPassOf, lane_count, task_of, has_shelf};
 ghost use Rattle.al_board.specs.Views.{at_turn, IsFull, IsSameWork};
 ghost use Rattle.al_board.specs.Helps.{IsAbout, IsHelped, IsLaid, IsCarried};
 
@@ -31,6 +32,7 @@ impl<T: Piece> Board<T> {
         ensures shelf { T.stands (task_of self.now) shelf.new }
         ensures laid { IsLaid (lane_count self.now) found result (T.laid shelf.new) (seen seat.old) (seen seat.new) }
         ensures held { IsCarried (lane_count self.now) result seat.new.me.1 }
+        ensures logged { HasLaidOn (lane_count self.now) result (seat_logs seat.old) (seat_logs seat.new) }
     {
         let mut next = found;
         while next < self.setting.lanes {
@@ -59,6 +61,7 @@ impl<T: Piece> Board<T> {
         requires put { (1 ≤ length (view pass.old).put) ⊎ IsFull (view pass.old) }
         ensures own { IsSame self.now pass.old pass.new }
         ensures helped { IsHelped (view pass.old) (view pass.new) result }
+        ensures logged { HasLoggedHelp (lane_count self.now) (logs_of pass.old) (logs_of pass.new) result }
     {
         let last = self.setting.lanes as usize;
         let baton = last + 1;
@@ -96,6 +99,7 @@ impl<T: Piece> Board<T> {
         requires put { 1 ≤ length (view pass.old).put }
         ensures own { IsSame self.now pass.old pass.new }
         ensures helped { IsHelped (view pass.old) (view pass.new) result }
+        ensures logged { HasLoggedHelp (lane_count self.now) (logs_of pass.old) (logs_of pass.new) result }
         ensures same { IsSameWork (view pass.old) (view pass.new) }
     {
         self.take_turn(pass)

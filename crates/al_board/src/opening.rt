@@ -1,6 +1,6 @@
 //! How boards are made.
 ghost use Rattle.std.specs.Prelude.{ℕ, ◌≡◌, ◌+◌, ◌<◌, ◌≤◌, false, true, [], ◌∷◌, IfOk};
-ghost use Rattle.al_board.specs.Seen.{view, IsPassOf, lane_count, task_of, has_shelf};
+ghost use Rattle.al_board.specs.Seen.{logs_of, pass_number, view, IsPassOf, lane_count, task_of, has_shelf};
 ghost use Rattle.al_board.specs.Views.{opener};
 ghost use Rattle.al_board.specs.Rule.{IsOpening, IsRow, terms_of};
 
@@ -38,6 +38,7 @@ impl<T: Piece> Board<T> {
         requires { (1 ≤ lanes) × (lanes ≤ 1024) }
         ensures board { IfOk result (λ r. (lane_count r.0 ≡ lanes) × (task_of r.0 ≡ task) × (has_shelf r.0 ≡ false)) }
         ensures pass { IfOk result (λ r. IsPassOf r.0 r.1 × (view r.1 ≡ opener r.0.setting)) }
+        ensures first { IfOk result (λ r. (pass_number r.1 ≡ 0) × (logs_of r.1 ≡ [])) }
     {
         let room = Pile::new(alloc, lanes)?;
         let setting = Setting {
@@ -60,6 +61,7 @@ impl<T: Piece> Board<T> {
         requires shelf { T.stands task shelf × (T.laid shelf ≡ []) }
         ensures board { IfOk result (λ r. (lane_count r.0 ≡ lanes) × (task_of r.0 ≡ task) × (has_shelf r.0 ≡ true)) }
         ensures pass { IfOk result (λ r. IsPassOf r.0 r.1 × (view r.1 ≡ opener r.0.setting)) }
+        ensures first { IfOk result (λ r. (pass_number r.1 ≡ 0) × (logs_of r.1 ≡ [])) }
     {
         let setting = Setting {
             task,
@@ -79,6 +81,7 @@ impl<T: Piece> Board<T> {
         requires last { IsOpening (terms_of T.fits T.laid T.stands T.lanes setting) last }
         ensures board { IfOk result (λ r. r.0.setting ≡ setting) }
         ensures pass { IfOk result (λ r. IsPassOf r.0 r.1 × (view r.1 ≡ opener r.0.setting)) }
+        ensures first { IfOk result (λ r. (pass_number r.1 ≡ 0) × (logs_of r.1 ≡ [])) }
     {
         let lanes = setting.lanes;
         let words = Vec::from_elem(alloc, 0u64, lanes as usize + 2)?;

@@ -88,7 +88,7 @@ fn boards_of_any_size(rt: HostRuntime) -> Result<(), Fail> {
 }
 
 #[test]
-fn two_passes_in_turn(rt: HostRuntime) -> Result<(), Fail> {
+fn two_passes_draw_and_join(rt: HostRuntime) -> Result<(), Fail> {
     let (board, mut one) = Board::<Mark>::new(rt.alloc(), 2, 2)?;
     assert!(rt; board.allowance(&one) == 1 << 63);
     let mut two = board.split(&mut one);

@@ -59,8 +59,9 @@ pub struct View<T, K> {
     /// The numbers at which it gave the baton back.
     pub given: LinkedList<u32>,
     pub turn: Option<Turn<T>>,
-    /// The board's journal up to the pass's last entry, the last entry first.
-    pub log: LinkedList<Entry<T>>,
+    /// The board's journal up to the pass's last entry, the last entry first; and the same for each pass that it took
+    /// in since then.
+    pub logs: LinkedList<LinkedList<Entry<T>>>,
 }
 
 /// What lies in a slot of a board.

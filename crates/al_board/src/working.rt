@@ -1,7 +1,9 @@
 //! A worker's run.
 ghost use Rattle.std.specs.Prelude.{ℕ, true, false, ◌≡◌, ◌+◌, List, OnOk, OnErr, IfOk};
-ghost use Rattle.al_board.specs.Seen.{view, IsSame, IsPassOf, lane_count, task_of, has_shelf};
-ghost use Rattle.al_board.specs.Views.{got, HasFilled, HasPutAll, HasRun, HasStopped, HasWorked, HasHalted};
+ghost use Rattle.al_board.specs.Helps.{HasWorked, HasHalted};
+ghost use Rattle.al_board.specs.Logs.{AreKept, HasLoggedFill};
+ghost use Rattle.al_board.specs.Seen.{logs_of, view, IsSame, IsPassOf, lane_count, task_of, has_shelf};
+ghost use Rattle.al_board.specs.Views.{got, HasFilled, HasPutAll, HasRun, HasStopped};
 
 use crate::piece::{Maker, Piece};
 use crate::table::{Board, Pass};
@@ -19,6 +21,8 @@ pub fn fill_next<T: Piece, M: Maker<T>>(
     requires going { (view pass.old).ended ≡ false }
     ensures own { IsSame board.now pass.old pass.new }
     ensures filled { IfOk result (HasFilled (view pass.old) (view pass.new)) }
+    ensures kept { AreKept (logs_of pass.old) (logs_of pass.new) }
+    ensures logged { IfOk result (HasLoggedFill (T.fits (task_of board.now)) (logs_of pass.new)) }
     ensures memory { OnErr result ((lane : ℕ) × (view pass.new ≡ got lane (view pass.old))) }
 {
     let Some(lane) = board.draw(pass) else {
@@ -39,6 +43,7 @@ pub fn work<T: Piece, M: Maker<T>>(
     requires maker { (M.task maker.now ≡ task_of board.now) × (M.lanes maker.now ≡ lane_count board.now) }
     requires going { (view pass.old).ended ≡ false }
     ensures own { IsSame board.now pass.old pass.new }
+    ensures kept { AreKept (logs_of pass.old) (logs_of pass.new) }
     ensures done { OnOk result (HasRun (view pass.old) (view pass.new)) }
     ensures put { OnOk result (HasPutAll (view pass.old) → HasPutAll (view pass.new)) }
     ensures memory { OnErr result (HasStopped (view pass.old) (view pass.new)) }
@@ -58,6 +63,7 @@ pub fn work_and_lay<T: Piece, M: Maker<T>>(
     requires shelf { has_shelf board.now ≡ true }
     requires going { (view pass.old).ended ≡ false }
     ensures own { IsSame board.now pass.old pass.new }
+    ensures kept { AreKept (logs_of pass.old) (logs_of pass.new) }
     ensures done { OnOk result (HasWorked (view pass.old) (view pass.new)) }
     ensures put { OnOk result (HasPutAll (view pass.old) → HasPutAll (view pass.new)) }
     ensures memory { OnErr result (HasHalted (view pass.old) (view pass.new)) }

@@ -1,5 +1,5 @@
 -- What is said of a source whose tokens derive no program.
-use Rattle.std.proofs.Common.{◌≡◌, ℕ, List, Option, Result, IfOk, IsSomeAnd, sym, ap, subst, ◌∙◌}
+use Rattle.std.proofs.Common.{◌≡◌, ℕ, List, Result, IfOk, IsSomeAnd, sym, ap, subst, ◌∙◌}
 use Rattle.std.specs.declared.alloc.AllocError.{AllocError}
 use Rattle.al_source.specs.declared.tokens.Token.{Token}
 use Rattle.al_report.specs.Places.{bad_text}

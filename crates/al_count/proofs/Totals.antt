@@ -87,7 +87,8 @@ module _ {V : Type 0} (f : V → ℕ) where
   some_member [] h = absurd (omega arith)
   some_member (x ∷ xs) h = go (native.Mathlib.Decide.dec_le 1 (f x)) (λ (h' : 1 ≤ total f xs). some_member xs h')
     where
-      go : Dec (1 ≤ f x) → (1 ≤ total f xs → (i : ℕ) × (v : V) × (get_elem? xs i ≡ some v) × (1 ≤ f v)) → (i : ℕ) × (v : V) × (get_elem? (x ∷ xs) i ≡ some v) × (1 ≤ f v)
+      go : Dec (1 ≤ f x) → (1 ≤ total f xs → (i : ℕ) × (v : V) × (get_elem? xs i ≡ some v) × (1 ≤ f v))
+          → (i : ℕ) × (v : V) × (get_elem? (x ∷ xs) i ≡ some v) × (1 ≤ f v)
       go (yes y) ih = (0, x, refl, y)
       go (no n) ih = let r = ih (omega arith) in (suc r.0, r.1, r.2, r.3)
 
@@ -97,7 +98,8 @@ module _ {V : Type 0} (f g : V → ℕ) where
   total_le [] h = omega arith
   total_le (x ∷ xs) h = let here = h 0 x refl in let ih = total_le xs (λ i v e. h (suc i) v e) in omega arith
 
-  pub total_gap : (vs : List V) (i : ℕ) (v : V) → get_elem? vs i ≡ some v → ((j : ℕ) (u : V) → get_elem? vs j ≡ some u → f u ≤ g u) → total f vs + g v ≤ total g vs + f v
+  pub total_gap : (vs : List V) (i : ℕ) (v : V) → get_elem? vs i ≡ some v → ((j : ℕ) (u : V) → get_elem? vs j ≡ some u → f u ≤ g u)
+      → total f vs + g v ≤ total g vs + f v
   total_gap [] i v e h = absurd (some-ne-none v (sym e))
   total_gap (x ∷ xs) zero v e h =
       let same : f x ≡ f v = ap f (some-injective x v e) in
@@ -110,7 +112,8 @@ module _ {V : Type 0} (f g : V → ℕ) where
   total_sum (x ∷ xs) = let ih = total_sum xs in omega arith
 
   -- f is 0 wherever g is, and only one has g
-  pub total_only : (vs : List V) (i : ℕ) (v : V) → get_elem? vs i ≡ some v → total g vs ≤ g v → ((j : ℕ) (u : V) → get_elem? vs j ≡ some u → g u ≡ 0 → f u ≡ 0) → total f vs ≡ f v
+  pub total_only : (vs : List V) (i : ℕ) (v : V) → get_elem? vs i ≡ some v → total g vs ≤ g v
+      → ((j : ℕ) (u : V) → get_elem? vs j ≡ some u → g u ≡ 0 → f u ≡ 0) → total f vs ≡ f v
   total_only [] i v e h z = absurd (some-ne-none v (sym e))
   total_only (x ∷ xs) zero v e h z =
       let same : f x ≡ f v = ap f (some-injective x v e) in
@@ -188,7 +191,8 @@ module _ (n : ℕ) where
 
   -- and where it has n, each number below n stands in it
   pub distinct_full : (xs : List ℕ) → ((x : ℕ) → times x xs ≤ below x n) → length xs ≡ n → (x : ℕ) → x < n → 1 ≤ times x xs
-  distinct_full xs h is x lt = let e = sum_times xs h in sum_full (λ x. times x xs) n (λ x. let a = h x in let b = below_le x n in omega arith) (omega arith) x lt
+  distinct_full xs h is x lt =
+      let e = sum_times xs h in sum_full (λ x. times x xs) n (λ x. let a = h x in let b = below_le x n in omega arith) (omega arith) x lt
 
 -- something stands in a list that is not empty
 pub some_number : (xs : List ℕ) → 1 ≤ length xs → (x : ℕ) × (1 ≤ times x xs)
@@ -241,7 +245,8 @@ times_length x [] = omega arith
 times_length x (y ∷ ys) = let ih = times_length x ys in let o = one_le x y in omega arith
 
 -- where f of all but one is 0, the total is f of that one
-pub total_alone : {V : Type 0} (f : V → ℕ) (vs : List V) (i : ℕ) (v : V) → get_elem? vs i ≡ some v → ((j : ℕ) (u : V) → j ≢ i → get_elem? vs j ≡ some u → f u ≡ 0) → total f vs ≡ f v
+pub total_alone : {V : Type 0} (f : V → ℕ) (vs : List V) (i : ℕ) (v : V) → get_elem? vs i ≡ some v
+    → ((j : ℕ) (u : V) → j ≢ i → get_elem? vs j ≡ some u → f u ≡ 0) → total f vs ≡ f v
 total_alone f [] i v at none = absurd (some-ne-none v (sym at))
 total_alone f (x ∷ xs) zero v at none =
     let rest = total_zero f xs (λ j u at'. none (suc j) u (λ e. omega arith) at') in

@@ -1,5 +1,5 @@
 -- From what each layer answers to what a source comes to.
-use Rattle.std.proofs.Common.{◌≡◌, ◌⊎◌, inl, inr, ℕ, ◌<◌, ◌≤◌, true, false, nat_lt, List, length, Option, Some, None, Result, Ok, Err, refl, sym, ap, subst, ◌∙◌, arith, rules}
+use Rattle.std.proofs.Common.{◌≡◌, ◌⊎◌, inl, inr, ℕ, ◌<◌, ◌≤◌, true, false, nat_lt, List, length, Option, Some, None, Result, Ok, Err, refl, ap, ◌∙◌, arith, rules}
 use Rattle.std.specs.Prelude.{option_map}
 use Rattle.al_source.specs.Answers.{Fails}
 use Rattle.al_source.specs.declared.faults.LexFault.{LexFault}
@@ -80,6 +80,7 @@ stops part next (Some e) is = ap (λ r. and_then r next) is
 stops part next None is = tt
 
 -- the cause of a part is that of a refusal
-pub causes : {A F : Type 0} (cause : F → Refusal) (part : Result A F) (fault : Option F) → Fails part fault → Fails (because cause part) (option_map cause fault)
+pub causes : {A F : Type 0} (cause : F → Refusal) (part : Result A F) (fault : Option F) → Fails part fault
+    → Fails (because cause part) (option_map cause fault)
 causes cause part (Some e) is = ap (because cause) is
 causes cause part None is = tt

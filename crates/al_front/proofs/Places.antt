@@ -1,5 +1,5 @@
 -- Where the grammar refuses a source, and that nothing else does as it does.
-use Rattle.std.proofs.Common.{◌≡◌, ◌⊎◌, inl, inr, ℕ, ◌<◌, ◌≤◌, ◌-◌, Bool, true, false, if◌then◌else◌, nat_lt, List, length, Option, Some, None, Result, Ok, Err, IsSomeAnd, IfErr, refl, sym, ap, subst, ◌∙◌, arith}
+use Rattle.std.proofs.Common.{◌≡◌, ◌⊎◌, inl, inr, ℕ, ◌<◌, ◌≤◌, ◌-◌, Bool, true, false, if◌then◌else◌, nat_lt, List, length, Some, Result, Ok, Err, IsSomeAnd, IfErr, refl, sym, ap, subst, ◌∙◌, arith}
 use Rattle.al_source.specs.Answers.{Fails, Gives}
 use Rattle.al_source.specs.Steps.{and_then}
 use Rattle.al_source.specs.declared.limits.TheConstants.{SOURCE_BYTES, SOURCE_NODES}
@@ -119,7 +119,10 @@ bad_read : (source : Bytes) (bad : BadTokens) → IsBadIn source bad → tokens_
 bad_read source bad h = spelled_tokens source bad.tokens (λ long. absurd (omega (arith, h.short))) h.spelled
 
 pub bad_one : (source : Bytes) (bad : BadTokens) → IsBadIn source bad → bad_tokens source ≡ Some bad
-bad_one source bad h = ap placed_in (bad_read source bad h) ∙ ap (placed bad.tokens) (one_place bad.tokens (place_of bad.tokens (all_items bad.tokens)) (Some bad.place) (stops_at_first_bad bad.tokens) h.first)
+bad_one source bad h =
+    let stop = place_of bad.tokens (all_items bad.tokens) in
+    let same = one_place bad.tokens stop (Some bad.place) (stops_at_first_bad bad.tokens) h.first in
+    ap placed_in (bad_read source bad h) ∙ ap (placed bad.tokens) same
 
 pub bad_within : (source : Bytes) (bad : BadTokens) → IsBadIn source bad → (0 < length bad.tokens) × (bad.place ≤ length bad.tokens)
 bad_within source bad h = place_within bad.tokens bad.place h.first

@@ -25,7 +25,8 @@ abbrev pub placed_in : Result Tokens Refusal → Option BadTokens
 placed_in (Ok tokens) = placed tokens (place_of tokens (all_items tokens))
 placed_in (Err cause) = None
 
--- The bad tokens of a source, where it has some. The place is that at which the function stops that reads them: that it
--- is the one above, and that there is one exactly where the grammar refuses the source, is proved (`bad_tokens_are_told`).
+-- The bad tokens of a source, where it has some. The place is that at which the function stops that reads them: that
+-- it is the one above, and that there is one exactly where the grammar refuses the source, is proved
+-- (`bad_tokens_are_told`).
 abbrev pub bad_tokens : Bytes → Option BadTokens
 bad_tokens source = placed_in (tokens_of source)

@@ -1,5 +1,5 @@
--- What is said of each fault of a source or an input. Want of memory is no cause and has no text: a condition of each call
--- rules it out.
+-- What is said of each fault of a source or an input. Want of memory is no cause and has no text: a condition of each
+-- call rules it out.
 use Rattle.std.specs.Prelude.{ℕ, List, [], codes, Option, Some, None, option_map}
 use Rattle.al_source.specs.declared.faults.LexFault.{LexFault}
 use Rattle.al_source.specs.declared.faults.ParseFault.{ParseFault}

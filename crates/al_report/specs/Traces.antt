@@ -64,7 +64,8 @@ loop_line number execution line trips chunks =
 -- Each execution's rounds are counted from 0. The number is that of the next round.
 abbrev pub event_lines : ℕ → List Event → List ℕ
 event_lines round [] = []
-event_lines round (event.Enter number execution line trips chunks ∷ es) = loop_line number execution line trips chunks ++ event_lines 0 es
+event_lines round (event.Enter number execution line trips chunks ∷ es) =
+    loop_line number execution line trips chunks ++ event_lines 0 es
 event_lines round (event.Round chunks ∷ es) = round_line round chunks ++ event_lines (round + 1) es
 
 -- ---- the whole
@@ -75,8 +76,9 @@ ending_line (ending.Trap trap line) = labelled (codes "end trap ") line ++ codes
 
 abbrev pub totals_text : Report → List ℕ
 totals_text r =
-    labelled (codes "loops ") r.loops ++ labelled (codes " rounds ") r.rounds ++ labelled (codes " attempts ") r.attempts
-    ++ labelled (codes " aborted ") r.aborted ++ labelled (codes " span ") r.span ++ codes "\n"
+    labelled (codes "loops ") r.loops ++ labelled (codes " rounds ") r.rounds
+    ++ labelled (codes " attempts ") r.attempts ++ labelled (codes " aborted ") r.aborted
+    ++ labelled (codes " span ") r.span ++ codes "\n"
 
 abbrev pub trace_text : Report → List ℕ
 trace_text r = event_lines 0 r.events ++ ending_line r.ending ++ totals_text r

@@ -7,7 +7,8 @@ use sqlite_items::Items;
 use std::alloc::{AllocError, Global};
 use std::test::Fail;
 
-/// Whether the run of one loop with these events has this trace. The counts are its rounds, attempts and aborted chunks.
+/// Whether the run of one loop with these events has this trace. The counts are its rounds, attempts and aborted
+/// chunks.
 fn is_trace(
     alloc: Global,
     events: Items<Event>,
@@ -72,7 +73,8 @@ fn a_failed_chunk_runs_again(rt: HostRuntime) -> Result<(), Fail> {
     events.push(round(alloc, 0, &[Verdict::Commit, Verdict::Fail])?)?;
     events.push(round(alloc, 1, &[Verdict::Commit])?)?;
     let expected =
-        "loop 0 execution 0 line 5 trips 2 chunks 2\nround 0: 0 commit, 1 fail\nround 1: 1 commit\nend done\nloops 1 rounds 2 attempts 3 aborted 1 span 13\n";
+        "loop 0 execution 0 line 5 trips 2 chunks 2\nround 0: 0 commit, 1 fail\nround 1: 1 commit\nend done\n\
+        loops 1 rounds 2 attempts 3 aborted 1 span 13\n";
     assert!(rt; is_trace(alloc, events, Ending::Done, [2, 3, 1], 13, expected)?);
     Ok(())
 }
@@ -95,7 +97,10 @@ fn chunks_commit_one_by_one(rt: HostRuntime) -> Result<(), Fail> {
     events.push(round(alloc, 4, &all[..2])?)?;
     events.push(round(alloc, 5, &all[..1])?)?;
     let expected =
-        "loop 0 execution 0 line 5 trips 6 chunks 6\nround 0: 0 commit, 1 fail, 2 after, 3 after\nround 1: 1 commit, 2 fail, 3 after, 4 after\nround 2: 2 commit, 3 fail, 4 after, 5 after\nround 3: 3 commit, 4 fail, 5 after\nround 4: 4 commit, 5 fail\nround 5: 5 commit\nend done\nloops 1 rounds 6 attempts 18 aborted 12 span 60\n";
+        "loop 0 execution 0 line 5 trips 6 chunks 6\nround 0: 0 commit, 1 fail, 2 after, 3 after\n\
+        round 1: 1 commit, 2 fail, 3 after, 4 after\nround 2: 2 commit, 3 fail, 4 after, 5 after\n\
+        round 3: 3 commit, 4 fail, 5 after\nround 4: 4 commit, 5 fail\nround 5: 5 commit\nend done\n\
+        loops 1 rounds 6 attempts 18 aborted 12 span 60\n";
     assert!(rt; is_trace(alloc, events, Ending::Done, [6, 18, 12], 60, expected)?);
     Ok(())
 }
@@ -106,8 +111,8 @@ fn a_chunk_has_all_trips(rt: HostRuntime) -> Result<(), Fail> {
     let mut events = Items::new(alloc);
     events.push(enter(5, 3, 1))?;
     events.push(round(alloc, 0, &[Verdict::Commit])?)?;
-    let expected =
-        "loop 0 execution 0 line 5 trips 3 chunks 1\nround 0: 0 commit\nend done\nloops 1 rounds 1 attempts 1 aborted 0 span 21\n";
+    let expected = "loop 0 execution 0 line 5 trips 3 chunks 1\nround 0: 0 commit\nend done\n\
+        loops 1 rounds 1 attempts 1 aborted 0 span 21\n";
     assert!(rt; is_trace(alloc, events, Ending::Done, [1, 1, 0], 21, expected)?);
     Ok(())
 }
@@ -125,7 +130,8 @@ fn a_trap_ends_the_trace(rt: HostRuntime) -> Result<(), Fail> {
     events.push(enter(5, 5, 5))?;
     events.push(round(alloc, 0, &verdicts)?)?;
     let expected =
-        "loop 0 execution 0 line 5 trips 5 chunks 5\nround 0: 0 commit, 1 commit, 2 commit, 3 trap\nend trap 7 out of bounds\nloops 1 rounds 1 attempts 4 aborted 0 span 7\n";
+        "loop 0 execution 0 line 5 trips 5 chunks 5\nround 0: 0 commit, 1 commit, 2 commit, 3 trap\n\
+        end trap 7 out of bounds\nloops 1 rounds 1 attempts 4 aborted 0 span 7\n";
     assert!(rt;
         is_trace(
             alloc,
@@ -153,7 +159,8 @@ fn rounds_are_counted_anew(rt: HostRuntime) -> Result<(), Fail> {
     })?;
     events.push(round(alloc, 16_777_215, &[Verdict::Commit])?)?;
     let expected =
-        "round 0: 0 commit\nloop 7 execution 1 line 9 trips 16777216 chunks 16777216\nround 0: 16777215 commit\nend done\nloops 1 rounds 2 attempts 2 aborted 0 span 340282366920938463463374607431768211455\n";
+        "round 0: 0 commit\nloop 7 execution 1 line 9 trips 16777216 chunks 16777216\nround 0: 16777215 commit\n\
+        end done\nloops 1 rounds 2 attempts 2 aborted 0 span 340282366920938463463374607431768211455\n";
     assert!(rt; is_trace(alloc, events, Ending::Done, [2, 2, 0], u128::MAX, expected)?);
     Ok(())
 }

@@ -171,6 +171,17 @@ module _ (at : Addr) (v : Val) (bs : List Block) (rows : List (List Val)) (up : 
             ∙ ap (λ c. cond c (Some v) (value_in bs rows a)) (sym (by_other a e))
       ] refl
 
+-- ---- a row with the same values
+
+pub row_kept : (a : Addr) (bs : List Block) (rows : List (List Val)) (i : ℕ) (row : List Val)
+    → ((n : ℕ) → value_in_row row n ≡ value_in_row (get_or rows i []) n)
+    → value_in bs (slice_set rows i row) a ≡ value_in bs rows a
+row_kept a [] rows i row h = refl
+row_kept a (b ∷ bs) [] i row h = refl
+row_kept a (b ∷ bs) (r ∷ rows) zero row h = ap (λ v. cond (block_has a b) (Some v) (value_in bs rows a)) (h (offset_of a))
+row_kept a (b ∷ bs) (r ∷ rows) (suc i) row h =
+    ap (cond (block_has a b) (Some (value_in_row r (offset_of a)))) (row_kept a bs rows i row h)
+
 -- ---- as a map
 
 first : {X : Type 0} → Option X → Option X → Option X
@@ -266,6 +277,11 @@ values_insert bs cs rows more at v e = fin.same_map addr_total addr_apart _ _ (�
     ∙ e q
     ∙ ap (cond (addr_eq q at) (Some v)) (sym (values_have bs rows q))
     ∙ sym (fin.get-insert addr_total (values_of bs rows) at v q))
+
+pub values_kept : (bs cs : List Block) (rows more : List (List Val))
+    → ((a : Addr) → value_in cs more a ≡ value_in bs rows a) → values_of cs more ≡ values_of bs rows
+values_kept bs cs rows more e = fin.same_map addr_total addr_apart _ _ (λ q.
+    values_have cs more q ∙ e q ∙ sym (values_have bs rows q))
 
 -- ---- what a look-up finds
 

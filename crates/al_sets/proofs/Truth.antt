@@ -1,5 +1,6 @@
 -- Tests that are true, and tests of lists.
 use Rattle.std.proofs.Common.{◌≡◌, ℕ, zero, suc, ◌<◌, Bool, true, false, ◌&&◌, ◌||◌, List, [], ◌∷◌, length, map, flat_map, get_or, slice_set, refl, sym, ap, ◌∙◌, arith}
+use Rattle.std.specs.Prelude.{Result, Ok, Err, OnErr}
 use Rattle.std.specs.List.{list_any, insert}
 use Rattle.std.proofs.Math.Bool.{true≢false}
 use Rattle.std.proofs.lemmas.List.Folds.{list_any-append}
@@ -65,3 +66,8 @@ pub any_flat : {X Y : Type 0} (t : Y → Bool) (f : X → List Y) (u : X → Boo
     → (xs : List X) → list_any t (flat_map f xs) ≡ list_any u xs
 any_flat t f u e [] = refl
 any_flat t f u e (x ∷ xs) = list_any-append t (f x) (flat_map f xs) ∙ (λ z. e x z || any_flat t f u e xs z)
+
+-- what holds after any error
+pub on_any_err : {A E : Type 0} (r : Result A E) (P : Type 0) → P → OnErr r P
+on_any_err (Ok a) P h = tt
+on_any_err (Err e) P h = h

@@ -1,4 +1,4 @@
-ghost use Rattle.std.specs.Prelude.{◌≡◌, ℕ, ◌==◌, if◌then◌else◌, [], Some, OnOk, length};
+ghost use Rattle.std.specs.Prelude.{◌≡◌, ℕ, ◌==◌, if◌then◌else◌, [], Some, OnOk, OnErr, length};
 ghost use Rattle.al_core.specs.declared.values.Addr.{Addr};
 ghost use Rattle.al_core.specs.Orders.{addr_eq};
 ghost use Rattle.al_sets.specs.Places.{place_of, offset_of};
@@ -40,7 +40,7 @@ impl Model for AddrMap {
     ghost invariant = { λ m. IsAscending m.blocks.items × (length m.rows.items ≡ length m.blocks.items) };
 }
 
-/// Puts a value into the block at i, which is that of the address.
+/// Puts a value into the block at i, which is that of the address. After want of memory the values are as before.
 fn put(
     blocks: &mut Vec<Block>,
     rows: &mut Vec<Row>,
@@ -57,13 +57,16 @@ fn put(
         ((a : Addr)
         → value_in blocks.new.items rows.new.items a
         ≡ (if addr_eq a at then Some value else value_in blocks.old.items rows.old.items a)) }
+    ensures err { OnErr result
+        ((a : Addr)
+        → value_in blocks.new.items rows.new.items a ≡ value_in blocks.old.items rows.old.items a) }
 {
-    set_bit(&mut blocks[i].masks, offset(at));
     rows[i].put(offset(at), value)?;
+    set_bit(&mut blocks[i].masks, offset(at));
     Ok(())
 }
 
-/// Makes a block at i, with the row of one value.
+/// Makes a block at i, with the row of one value. After want of memory the values are as before.
 fn add(
     blocks: &mut Vec<Block>,
     rows: &mut Vec<Row>,
@@ -82,6 +85,9 @@ fn add(
         → value_in blocks.new.items rows.new.items a
         ≡ (if addr_eq a at then Some (value_in_row row (offset_of at))
         else value_in blocks.old.items rows.old.items a)) }
+    ensures err { OnErr result
+        ((a : Addr)
+        → value_in blocks.new.items rows.new.items a ≡ value_in blocks.old.items rows.old.items a) }
 {
     rows.reserve(1)?;
     blocks.insert(i, single(at))?;
@@ -118,9 +124,10 @@ impl AddrMap {
         }
     }
 
-    /// Gives an address a value.
+    /// Gives an address a value. After want of memory the map is as before.
     pub fn insert(&mut self, at: Addr, value: PackedValue) -> Result<(), AllocError>
-        ensures { OnOk result (self.new ≡ map.insert self.old at value) }
+        ensures ok { OnOk result (self.new ≡ map.insert self.old at value) }
+        ensures err { OnErr result (self.new ≡ self.old) }
     {
         match search(self.blocks.as_slice(), place(at)) {
             Ok(i) => put(&mut self.blocks, &mut self.rows, i, at, value)?,

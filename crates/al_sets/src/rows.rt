@@ -1,4 +1,4 @@
-ghost use Rattle.std.specs.Prelude.{◌≡◌, ℕ, ◌==◌, if◌then◌else◌, [], OnOk};
+ghost use Rattle.std.specs.Prelude.{◌≡◌, ℕ, ◌==◌, if◌then◌else◌, [], OnOk, OnErr};
 ghost use Rattle.al_sets.specs.Rows.{value_in_row};
 
 use al_values::PackedValue;
@@ -42,10 +42,11 @@ impl Row {
         }
     }
 
-    /// Puts a value at an offset.
+    /// Puts a value at an offset. After want of memory the values are as before.
     pub fn put(&mut self, offset: usize, v: PackedValue) -> Result<(), AllocError>
-        ensures { OnOk result
+        ensures ok { OnOk result
             ((n : ℕ) → value_in_row self.new n ≡ (if n == offset then v else value_in_row self.old n)) }
+        ensures err { OnErr result ((n : ℕ) → value_in_row self.new n ≡ value_in_row self.old n) }
     {
         'values: while self.values.len() <= offset {
             self.values.push(PackedValue::zero())?;

@@ -6,18 +6,19 @@ use Rattle.std.proofs.Common.{Bor}
 use Rattle.std.specs.FinMap as map
 use Rattle.std.specs.FinMap.{FinMap}
 use Rattle.std.specs.FinSet as set
+use Rattle.std.specs.FinSet.{FinSet}
 use Rattle.std.proofs.Math.Bool.{true≢false}
 use Rattle.al_core.specs.declared.values.Obj.{Obj}
 use Rattle.al_core.specs.declared.values.Val.{Val}
 use Rattle.al_core.specs.declared.values.Addr.{Addr}
 use Rattle.al_core.specs.declared.values.Addr.TheVariants.{Word, Head, Local}
-use Rattle.al_core.specs.Orders.{obj_cmp, obj_eq}
+use Rattle.al_core.specs.Orders.{obj_cmp, obj_eq, addr_cmp}
 use Rattle.al_core.specs.Memory.{word_in, value_at, has_object, length_at, put, add, remove}
 use Rattle.al_laws.proofs.Orders.{obj_total, obj_apart}
 use Rattle.al_heap.specs.Stores.{slot_in, objects_in, with_name}
 use Rattle.al_heap.proofs.SlotLemmas.{get_objects, has_name}
 use Rattle.al_heap.proofs.Replaced.{none_replaced}
-use Rattle.al_snap.specs.Layers.{Layers, laid, is_among, own_has, seen, made_by}
+use Rattle.al_snap.specs.Layers.{Layers, laid, is_among, own_has, seen, made_by, touched_unless}
 use Rattle.al_snap.proofs.Seen.{own_seen, freed_seen, below_seen, seen_added, seen_removed, seen_put_back, seen_freed}
 use Rattle.al_snap.proofs.Writing.{written, seen_written, seen_local_written, made_has, made_insert, made_same}
 
@@ -57,7 +58,7 @@ same_cond : {A : Type 0} (b : Bool) (x y z : A) → cond b x (cond b y z) ≡ co
 same_cond true x y z = refl
 same_cond false x y z = refl
 
-named_then_set : (own : FinMap obj_cmp (Option (List Val))) (o : Obj) (s : Option (List Val))
+pub named_then_set : (own : FinMap obj_cmp (Option (List Val))) (o : Obj) (s : Option (List Val))
     → map.insert (with_name own o) o s ≡ map.insert own o s
 named_then_set own o s =
     elim (map.contains_key own o) as (λ b. map.insert (cond b own (map.insert own o None)) o s ≡ map.insert own o s) [
@@ -102,6 +103,19 @@ module _ (l n : Layers) (e : l ≡ n) (o : Obj) where
   freed_own h =
       ap (λ (l : Layers). l.freed) e
       ∙ ap (λ b. cond b n.freed (n.freed ++ o ∷ [])) (h ∙ own_by l n e o)
+
+  pub touched_own : true ≡ map.contains_key l.own o
+      → l.touched ≡ touched_unless (set.contains (made_by n.own) o) n.touched (Head o)
+  touched_own h =
+      ap (λ (l : Layers). l.touched) e
+      ∙ ap (λ b. touched_unless b n.touched (Head o)) (h ∙ own_by l n e o)
+
+  pub touched_below : (touched : FinSet addr_cmp) → touched ≡ set.insert l.touched (Head o) → false ≡ map.contains_key l.own o
+      → touched ≡ touched_unless (set.contains (made_by n.own) o) n.touched (Head o)
+  touched_below touched f h =
+      f
+      ∙ ap (λ (l : Layers). set.insert l.touched (Head o)) e
+      ∙ ap (λ b. touched_unless b n.touched (Head o)) (h ∙ own_by l n e o)
 
   pub remove_below_seen : (freed : List Obj) → freed ≡ l.freed ++ o ∷ [] → false ≡ map.contains_key l.own o
       → seen (record l { freed = freed }) ≡ remove (seen n) o

@@ -17,7 +17,7 @@ use Rattle.al_core.specs.Access.{Allocations, AccessRecord, Content, is_own, rec
 use Rattle.al_heap.specs.Stores.{value_or_trap}
 use Rattle.al_snap.specs.declared.marks.Marks.{Marks}
 use Rattle.al_snap.specs.Makers.{allocated}
-use Rattle.al_snap.specs.Layers.{Layers, own_has, made_by}
+use Rattle.al_snap.specs.Layers.{Layers, own_has, made_by, touched_unless}
 use Rattle.al_snap.specs.Marks.{marked, with_stored, with_freed}
 use Rattle.al_snap.specs.Snaps.{chunk_record}
 
@@ -27,37 +27,74 @@ own_is l reds accumulators m (Word o w) = refl
 own_is l reds accumulators m (Head o) = refl
 own_is l reds accumulators m (Local k) = refl
 
--- the record of layers that were made and freed alike
-pub same_record : (l n : Layers) (reds : List Red) (accumulators : List Val) → made_by l.own ≡ made_by n.own → l.freed ≡ n.freed
-    → chunk_record l reds accumulators ≡ chunk_record n reds accumulators
-same_record l n reds accumulators made freed = λ t. record {
-  reads = set.empty;
-  touched = set.empty;
-  made = made t;
-  freed = freed t;
-  reds = reds;
-  accumulators = accumulators;
-}
+-- ---- what is recorded once the layers are changed
 
+module _ (l n : Layers) (reds : List Red) (accumulators : List Val) (before after : Marks) where
+  abbrev pub recorded : AccessRecord
+  recorded = marked (chunk_record n reds accumulators) before
+
+  -- of a store that found a value
+  pub stored_after : (own : Bool) (a : Addr) → made_by l.own ≡ made_by n.own → l.freed ≡ n.freed
+      → l.touched ≡ touched_unless own n.touched a
+      → ((r : AccessRecord) → marked r after ≡ with_stored (marked r before) own a false)
+      → marked (chunk_record l reds accumulators) after ≡ with_stored recorded own a true
+  stored_after true a made freed touched marks =
+      (λ t. marked (record {
+        reads = set.empty;
+        touched = touched t;
+        made = made t;
+        freed = freed t;
+        reds = reds;
+        accumulators = accumulators;
+      }) after)
+      ∙ marks (chunk_record n reds accumulators)
+  stored_after false a made freed touched marks =
+      (λ t. marked (record {
+        reads = set.empty;
+        touched = touched t;
+        made = made t;
+        freed = freed t;
+        reds = reds;
+        accumulators = accumulators;
+      }) after)
+      ∙ ap (λ (r : AccessRecord). with_touched r a) (marks (chunk_record n reds accumulators))
+
+  -- of an object that was freed
+  pub freed_after : (own : Bool) (o : Obj) → made_by l.own ≡ made_by n.own
+      → l.touched ≡ touched_unless own n.touched (Head o)
+      → ((r : AccessRecord) → marked r after ≡ with_freed (marked r before) own o false)
+      → marked (chunk_record l reds accumulators) after ≡ with_freed (record recorded { freed = l.freed }) own o true
+  freed_after true o made touched marks =
+      (λ t. marked (record {
+        reads = set.empty;
+        touched = touched t;
+        made = made t;
+        freed = l.freed;
+        reds = reds;
+        accumulators = accumulators;
+      }) after)
+      ∙ marks (record (chunk_record n reds accumulators) { freed = l.freed })
+  freed_after false o made touched marks =
+      (λ t. marked (record {
+        reads = set.empty;
+        touched = touched t;
+        made = made t;
+        freed = l.freed;
+        reds = reds;
+        accumulators = accumulators;
+      }) after)
+      ∙ ap (λ (r : AccessRecord). with_touched r (Head o)) (marks (record (chunk_record n reds accumulators) { freed = l.freed }))
+
+-- of an object that was made
 pub made_record : (l n : Layers) (o : Obj) (reds : List Red) (accumulators : List Val)
-    → made_by l.own ≡ set.insert (made_by n.own) o → l.freed ≡ n.freed
-    → chunk_record l reds accumulators ≡ record (chunk_record n reds accumulators) { made = set.insert (made_by n.own) o }
-made_record l n o reds accumulators made freed = λ t. record {
+    → made_by l.own ≡ set.insert (made_by n.own) o → l.freed ≡ n.freed → l.touched ≡ set.insert n.touched (Head o)
+    → chunk_record l reds accumulators
+    ≡ with_touched (record (chunk_record n reds accumulators) { made = set.insert (made_by n.own) o }) (Head o)
+made_record l n o reds accumulators made freed touched = λ t. record {
   reads = set.empty;
-  touched = set.empty;
+  touched = touched t;
   made = made t;
   freed = freed t;
-  reds = reds;
-  accumulators = accumulators;
-}
-
-pub freed_record : (l n : Layers) (reds : List Red) (accumulators : List Val) → made_by l.own ≡ made_by n.own
-    → chunk_record l reds accumulators ≡ record (chunk_record n reds accumulators) { freed = l.freed }
-freed_record l n reds accumulators made = λ t. record {
-  reads = set.empty;
-  touched = set.empty;
-  made = made t;
-  freed = l.freed;
   reds = reds;
   accumulators = accumulators;
 }

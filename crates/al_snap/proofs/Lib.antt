@@ -6,3 +6,5 @@ pub mod Changing
 pub mod Recording
 pub mod Doing
 pub mod Fresh
+pub mod Fitting
+pub mod Outcomes

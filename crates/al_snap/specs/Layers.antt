@@ -1,5 +1,5 @@
 -- A memory under what a chunk did to it.
-use Rattle.std.specs.Prelude.{ℕ, suc, Bool, false, if◌then◌else◌, List, [], ◌∷◌, ◌++◌, Option, Some, None, unwrap_or, Result, Ok, Err, slice_get, refl}
+use Rattle.std.specs.Prelude.{◌≡◌, ℕ, suc, Bool, true, false, if◌then◌else◌, List, [], ◌∷◌, ◌++◌, Option, Some, None, is_some, unwrap_or, Result, Ok, Err, slice_get, refl}
 use Rattle.std.specs.Coded.{Coded, code_by, coded×, coded_list, coded_option}
 use Rattle.std.specs.List.{list_any}
 use Rattle.std.specs.FinMap as map
@@ -16,14 +16,15 @@ use Rattle.al_core.specs.contracts.values.Obj as obj
 use Rattle.al_core.specs.contracts.values.Val as val
 use Rattle.al_core.specs.contracts.values.Addr as addr
 use Rattle.al_core.specs.Orders.{obj_cmp, addr_cmp, obj_eq}
-use Rattle.al_core.specs.Memory.{Memory}
+use Rattle.al_core.specs.Memory.{Memory, value_at}
 use Rattle.al_heap.specs.Stores.{objects_in}
 
--- the memory below, what was written over it, which of its objects were freed, and the objects that the chunk made, of
--- which those that it freed again have none
+-- the memory below, what was written over it, the addresses that were written, which of its objects were freed, and the
+-- objects that the chunk made, of which those that it freed again have none
 pub record Layers : Type 0 where
   pub base : Memory
   pub writes : FinMap addr_cmp Val
+  pub touched : FinSet addr_cmp
   pub freed : List Obj
   pub own : FinMap obj_cmp (Option (List Val))
 
@@ -78,7 +79,25 @@ own_has l (Local k) = false
 
 -- the layers of a chunk that did nothing yet
 abbrev pub over : Memory → Layers
-over m = record { base = m; writes = map.empty; freed = []; own = map.empty }
+over m = record { base = m; writes = map.empty; touched = set.empty; freed = []; own = map.empty }
+
+abbrev pub is_head : Addr → Bool
+is_head (Word o w) = false
+is_head (Head o) = true
+is_head (Local k) = false
+
+-- what is true of the layers of every chunk
+pub record Fits (l : Layers) : Type 0 where
+  -- no own object has the name of one of the memory below
+  pub apart : (o : Obj) → map.contains_key l.own o ≡ true → map.get l.base.objects o ≡ None
+  -- the words and locals that were touched are those that were written
+  pub same : (a : Addr) → is_head a ≡ false → set.contains l.touched a ≡ map.contains_key l.writes a
+  -- and each of them has a value in the memory below
+  pub there : (a : Addr) → map.contains_key l.writes a ≡ true → is_some (value_at l.base a) ≡ true
+
+-- the touched addresses with one more, where it is not a word of an own object
+abbrev pub touched_unless : Bool → FinSet addr_cmp → Addr → FinSet addr_cmp
+touched_unless own touched a = if own then touched else set.insert touched a
 
 abbrev pub words_code : Coded (List Val)
 words_code = coded_list val.the_row.coded
@@ -90,9 +109,9 @@ memory_code =
 
 abbrev pub layers_code : Coded Layers
 layers_code =
-    code_by (Memory × (FinMap addr_cmp Val × (List Obj × FinMap obj_cmp (Option (List Val)))))
-    (coded× memory_code (coded× (map.code addr.the_row.coded val.the_row.coded)
-    (coded× (coded_list obj.the_row.coded) (map.code obj.the_row.coded (coded_option words_code)))))
-    (λ l. (l.base, (l.writes, (l.freed, l.own))))
-    (λ p. record { base = p.0; writes = p.1.0; freed = p.1.1.0; own = p.1.1.1 })
+    code_by (Memory × (FinMap addr_cmp Val × (FinSet addr_cmp × (List Obj × FinMap obj_cmp (Option (List Val))))))
+    (coded× memory_code (coded× (map.code addr.the_row.coded val.the_row.coded) (coded× (set.code addr.the_row.coded)
+    (coded× (coded_list obj.the_row.coded) (map.code obj.the_row.coded (coded_option words_code))))))
+    (λ l. (l.base, (l.writes, (l.touched, (l.freed, l.own)))))
+    (λ p. record { base = p.0; writes = p.1.0; touched = p.1.1.0; freed = p.1.1.1.0; own = p.1.1.1.1 })
     (λ _. refl)

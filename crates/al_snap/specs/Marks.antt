@@ -7,12 +7,12 @@ use Rattle.al_core.specs.declared.values.Obj.{Obj}
 use Rattle.al_core.specs.Access.{AccessRecord, with_read, with_head, with_load, with_touched}
 use Rattle.al_snap.specs.declared.marks.Marks.{Marks}
 
--- the record with these reads and touched addresses
+-- the record with these reads
 abbrev pub marked : AccessRecord → Marks → AccessRecord
-marked x m = record x { reads = m.reads.members; touched = m.touched.members }
+marked x m = record x { reads = m.reads.members }
 
 abbrev pub no_marks : AccessRecord → AccessRecord
-no_marks x = record x { reads = set.empty; touched = set.empty }
+no_marks x = record x { reads = set.empty }
 
 -- a load that found a value or not
 abbrev pub with_found_load : AccessRecord → Addr → Bool → AccessRecord

@@ -6,11 +6,11 @@ use Rattle.al_core.specs.declared.values.Val.{Val}
 use Rattle.al_core.specs.Access.{AccessRecord}
 use Rattle.al_snap.specs.Layers.{Layers, made_by}
 
--- the record but for what was read and touched
+-- the record but for what was read
 abbrev pub chunk_record : Layers → List Red → List Val → AccessRecord
 chunk_record l reds accumulators = record {
   reads = set.empty;
-  touched = set.empty;
+  touched = l.touched;
   made = made_by l.own;
   freed = l.freed;
   reds = reds;

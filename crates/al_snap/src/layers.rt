@@ -1,26 +1,38 @@
 ghost use Rattle.std.specs.Prelude.{◌≡◌, true, false, OnOk, IsSome, [], ◌∷◌, ◌++◌, if◌then◌else◌, option_map, unwrap_or, slice_get};
 ghost use Rattle.al_core.specs.Orders.{obj_eq};
 ghost use Rattle.al_core.specs.Memory.{value_at};
-ghost use Rattle.al_core.specs.declared.values.Addr.TheVariants.{Word};
+ghost use Rattle.al_core.specs.declared.values.Addr.TheVariants.{Word, Head};
 ghost use Rattle.std.specs.FinMap as map;
 ghost use Rattle.std.specs.FinSet as set;
 ghost use Rattle.al_core.specs.Memory as spec;
+ghost use Rattle.al_core.specs.Chunk.{writes_of, made_objects};
 ghost use Rattle.al_heap.specs.Stores.{value_or_trap, objects_in};
-ghost use Rattle.al_snap.specs.Layers.{is_among, laid, word_or_trap, own_has, made_by, seen, over};
+ghost use Rattle.al_snap.specs.Layers.{is_among, laid, word_or_trap, own_has, made_by, seen, over, touched_unless};
+ghost use Rattle.al_snap.specs.Changes.{writes_left};
 
 use al_core::{Addr, Obj, Trap};
 use al_heap::{Slots, Store};
-use al_sets::AddrMap;
+use al_sets::{AddrMap, AddrSet};
 use al_values::{PackedValue, Words};
 use sqlite_items::Items;
 use std::alloc::{AllocError, Global};
 use std::marker::Model;
+
+/// What a chunk did to a store.
+#[derive(Drop)]
+pub(crate) struct Parts {
+    pub writes: AddrMap,
+    pub touched: AddrSet,
+    pub freed: Items<Obj>,
+    pub own: Slots,
+}
 
 /// A store under what a chunk does to it. The store itself is only read.
 #[derive(Drop)]
 pub(crate) struct Layers<'a, S: Store> {
     base: &'a S,
     writes: AddrMap,
+    touched: AddrSet,
     freed: Items<Obj>,
     own: Slots,
 }
@@ -32,7 +44,21 @@ impl<'a, S: Store> Model for Layers<'a, S> {
 
     ghost coded = { layers.layers_code };
 
-    ghost view = { λ l. record { base = S.memory l.base.now; writes = l.writes; freed = l.freed; own = l.own } };
+    ghost view = { λ l. record {
+      base = S.memory l.base.now;
+      writes = l.writes;
+      touched = l.touched.members;
+      freed = l.freed;
+      own = l.own;
+    } };
+
+    ghost invariant = { λ l. layers.Fits (record {
+      base = S.memory l.base.now;
+      writes = l.writes;
+      touched = l.touched.members;
+      freed = l.freed;
+      own = l.own;
+    }) };
 }
 
 fn is_same(a: Obj, b: Obj) -> bool
@@ -61,6 +87,7 @@ impl<'a, S: Store> Layers<'a, S> {
         Layers {
             base,
             writes: AddrMap::new(alloc),
+            touched: AddrSet::new(alloc),
             freed: Items::new(alloc),
             own: Slots::new(alloc),
         }
@@ -156,12 +183,20 @@ impl<'a, S: Store> Layers<'a, S> {
         }
     }
 
+    /// The addresses that were written: words and locals, and the heads of objects that were made or freed.
+    pub fn touched(&self) -> &AddrSet
+        ensures { result.now.members ≡ self.now.touched }
+    {
+        &self.touched
+    }
+
     /// Puts a value in place of a word of an own object.
     fn put_own(&mut self, obj: Obj, w: u32, v: PackedValue)
         requires { map.contains_key self.old.own obj ≡ true }
         ensures seen { seen self.new ≡ spec.put (seen self.old) (Word obj w) v }
         ensures made { made_by self.new.own ≡ made_by self.old.own }
         ensures freed { self.new.freed ≡ self.old.freed }
+        ensures touched { self.new.touched ≡ self.old.touched }
     {
         if let Some(mut words) = self.own.replace(obj, None) {
             words.put(w, v);
@@ -175,6 +210,8 @@ impl<'a, S: Store> Layers<'a, S> {
         ensures seen { OnOk result (seen self.new ≡ spec.put (seen self.old) at v) }
         ensures made { OnOk result (made_by self.new.own ≡ made_by self.old.own) }
         ensures freed { OnOk result (self.new.freed ≡ self.old.freed) }
+        ensures touched { OnOk result
+            (self.new.touched ≡ touched_unless (own_has self.old at) self.old.touched at) }
     {
         if self.is_own(at) {
             if let Addr::Word(obj, w) = at {
@@ -182,36 +219,62 @@ impl<'a, S: Store> Layers<'a, S> {
             }
             Ok(())
         } else {
+            self.touched.reserve(1)?;
             self.writes.insert(at, v)?;
+            self.touched.insert(at)?;
             Ok(())
         }
     }
 
-    /// Adds an own object.
+    /// Adds an own object, and touches its head. One of a name that the store has is answered as want of memory; no run
+    /// makes one.
     pub fn add(&mut self, obj: Obj, words: Words) -> Result<(), AllocError>
         ensures seen { OnOk result (seen self.new ≡ spec.add (seen self.old) obj words) }
         ensures made { OnOk result (made_by self.new.own ≡ set.insert (made_by self.old.own) obj) }
         ensures freed { OnOk result (self.new.freed ≡ self.old.freed) }
+        ensures touched { OnOk result (self.new.touched ≡ set.insert self.old.touched (Head obj)) }
     {
+        if self.base.length(obj).is_some() {
+            return Err(AllocError);
+        }
+        self.touched.insert(Addr::Head(obj))?;
         self.own.make(obj)?;
         self.own.set(obj, Some(words));
         Ok(())
     }
 
-    /// Takes an object out.
+    /// Takes an object out, and touches its head where it is not an own one.
     pub fn remove(&mut self, obj: Obj) -> Result<(), AllocError>
         ensures seen { OnOk result (seen self.new ≡ spec.remove (seen self.old) obj) }
         ensures made { OnOk result (made_by self.new.own ≡ made_by self.old.own) }
         ensures freed { OnOk result
             (self.new.freed
             ≡ (if set.contains (made_by self.old.own) obj then self.old.freed else self.old.freed ++ obj ∷ [])) }
+        ensures touched { OnOk result
+            (self.new.touched ≡ touched_unless (set.contains (made_by self.old.own) obj) self.old.touched (Head obj)) }
     {
         if self.own.has(obj) {
             self.own.set(obj, None);
             Ok(())
         } else {
+            self.touched.insert(Addr::Head(obj))?;
             self.freed.push(obj)?;
             Ok(())
+        }
+    }
+
+    /// What was done, without the store.
+    pub fn into_parts(self) -> Parts
+        ensures writes { writes_left result.writes result.freed ≡ writes_of (seen self.entry) self.entry.touched }
+        ensures touched { result.touched.members ≡ self.entry.touched }
+        ensures freed { result.freed ≡ self.entry.freed }
+        ensures made { objects_in result.own ≡ made_objects (seen self.entry) (made_by self.entry.own) }
+    {
+        Parts {
+            writes: self.writes,
+            touched: self.touched,
+            freed: self.freed,
+            own: self.own,
         }
     }
 }

@@ -1,4 +1,4 @@
-ghost use Rattle.std.specs.Prelude.{◌≡◌, if◌then◌else◌, OnOk, IfOk};
+ghost use Rattle.std.specs.Prelude.{◌≡◌, false, if◌then◌else◌, OnOk, IfOk};
 ghost use Rattle.std.specs.FinSet as set;
 ghost use Rattle.al_core.specs.Access as spec;
 ghost use Rattle.al_core.specs.Access.{AccessRecord};
@@ -8,11 +8,10 @@ use al_core::{Addr, Obj};
 use al_sets::AddrSet;
 use std::alloc::{AllocError, Global};
 
-/// The addresses that a chunk read before it wrote them, and those that it wrote.
+/// The addresses that a chunk read before it wrote them.
 #[derive(Drop)]
 pub(crate) struct Marks {
     pub reads: AddrSet,
-    pub touched: AddrSet,
 }
 
 impl Marks {
@@ -21,7 +20,6 @@ impl Marks {
     {
         Marks {
             reads: AddrSet::new(alloc),
-            touched: AddrSet::new(alloc),
         }
     }
 
@@ -30,14 +28,6 @@ impl Marks {
         ensures { OnOk result ((x : AccessRecord) → marked x self.new ≡ spec.with_read (marked x self.old) at) }
     {
         self.reads.insert(at)?;
-        Ok(())
-    }
-
-    /// An address is written.
-    pub fn touch(&mut self, at: Addr) -> Result<(), AllocError>
-        ensures { OnOk result ((x : AccessRecord) → marked x self.new ≡ spec.with_touched (marked x self.old) at) }
-    {
-        self.touched.insert(at)?;
         Ok(())
     }
 
@@ -51,42 +41,35 @@ impl Marks {
         }
     }
 
-    /// A load of an address, which found a value or not.
-    pub fn load(&mut self, at: Addr, found: bool) -> Result<(), AllocError>
-        ensures { OnOk result ((x : AccessRecord) → marked x self.new ≡ with_found_load (marked x self.old) at found) }
+    /// A load of an address, which found a value or not, and which was written before or not.
+    pub fn load(&mut self, at: Addr, found: bool, touched: bool) -> Result<(), AllocError>
+        ensures { OnOk result
+            ((x : AccessRecord)
+            → touched ≡ set.contains x.touched at
+            → marked x self.new ≡ with_found_load (marked x self.old) at found) }
     {
         self.head(at)?;
-        if found && !self.touched.has(&at) {
+        if found && !touched {
             self.read(at)?;
         }
         Ok(())
     }
 
-    /// A store at an address, where there was a value or not. Of a word of an own object nothing is recorded.
-    pub fn store(&mut self, own: bool, at: Addr, found: bool) -> Result<(), AllocError>
-        ensures { OnOk result ((x : AccessRecord) → marked x self.new ≡ with_stored (marked x self.old) own at found) }
+    /// A store at an address, whether or not there is a value. Of a word of an own object nothing is recorded.
+    pub fn store(&mut self, own: bool, at: Addr) -> Result<(), AllocError>
+        ensures { OnOk result ((x : AccessRecord) → marked x self.new ≡ with_stored (marked x self.old) own at false) }
     {
-        if own {
-            return Ok(());
-        }
-        self.head(at)?;
-        if found {
-            self.touch(at)?;
-        }
-        Ok(())
+        if own { Ok(()) } else { self.head(at) }
     }
 
-    /// An object that is freed, which was there or not. Of an own one nothing is recorded.
-    pub fn free(&mut self, own: bool, obj: Obj, there: bool) -> Result<(), AllocError>
-        ensures { OnOk result ((x : AccessRecord) → marked x self.new ≡ with_freed (marked x self.old) own obj there) }
+    /// An object that is freed, whether or not it is there. Of an own one nothing is recorded.
+    pub fn free(&mut self, own: bool, obj: Obj) -> Result<(), AllocError>
+        ensures { OnOk result ((x : AccessRecord) → marked x self.new ≡ with_freed (marked x self.old) own obj false) }
     {
         if own {
-            return Ok(());
+            Ok(())
+        } else {
+            self.read(Addr::Head(obj))
         }
-        self.read(Addr::Head(obj))?;
-        if there {
-            self.touch(Addr::Head(obj))?;
-        }
-        Ok(())
     }
 }

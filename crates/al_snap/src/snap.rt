@@ -2,18 +2,20 @@ ghost use Rattle.std.specs.Prelude.{◌≡◌, [], Some, None, OnOk, IfOk, optio
 ghost use Rattle.al_source.specs.Answers.{Does};
 ghost use Rattle.al_core.specs.Access as spec;
 ghost use Rattle.al_core.specs.Action.{or_zero};
-ghost use Rattle.al_core.specs.Chunk.{fresh_accesses};
+ghost use Rattle.al_core.specs.Chunk.{fresh_accesses, gathered_from};
 ghost use Rattle.al_core.specs.Orders.{addr_eq};
 ghost use Rattle.al_core.specs.Views.{trapped};
+ghost use Rattle.al_snap.specs.Changes.{IsOutcome};
 ghost use Rattle.al_snap.specs.Layers.{seen, made_by};
 ghost use Rattle.al_snap.specs.Marks.{marked};
 ghost use Rattle.al_snap.specs.Snaps.{chunk_record};
 
+use crate::change::Change;
 use crate::direct::is_freeable;
 use crate::layers::Layers;
 use crate::marks::Marks;
 use crate::names::Names;
-use al_core::{Addr, Kind, Obj, Red, Trap, Val, View, ViewFault, of_kind, red_identity};
+use al_core::{Addr, Ending, Kind, Obj, Red, Trap, Val, View, ViewFault, of_kind, red_identity};
 use al_heap::Store;
 use al_sets::AddrSet;
 use al_values::{PackedValue, Words};
@@ -123,7 +125,7 @@ impl<'a, S: Store> Snap<'a, S> {
         ensures { option_map (λ x. x.touched) (⟦<Snap<'a, S> as View>⟧.content self.now).accesses
             ≡ Some result.now.members }
     {
-        &self.marks.touched
+        self.layers.touched()
     }
 
     /// From now on the next objects have these names.
@@ -132,6 +134,26 @@ impl<'a, S: Store> Snap<'a, S> {
             ≡ record (⟦<Snap<'a, S> as View>⟧.content self.old) { allocations = names } }
     {
         self.names = names;
+    }
+
+    /// What the chunk did, where its iterations ended so and spent so many steps. It takes no memory.
+    pub fn into_change(self, ending: Ending, steps: u64) -> Change
+        ensures { IsOutcome result
+            (gathered_from
+            (record { ending = ending; steps = steps; content = ⟦<Snap<'a, S> as View>⟧.content self.entry })) }
+    {
+        let parts = self.layers.into_parts();
+        Change {
+            reads: self.marks.reads,
+            touched: parts.touched,
+            writes: parts.writes,
+            made: parts.own,
+            freed: parts.freed,
+            accumulators: self.accumulators,
+            printed: self.printed,
+            ending,
+            steps,
+        }
     }
 }
 
@@ -151,7 +173,8 @@ impl<'a, S: Store> View for Snap<'a, S> {
         }
         let found = self.layers.value(at);
         if !self.layers.is_own(at) {
-            self.marks.load(at, found.is_ok())?;
+            let touched = self.layers.touched().has(&at);
+            self.marks.load(at, found.is_ok(), touched)?;
         }
         match found {
             Ok(v) => read_as(at, want, v.unpack()).map_err(ViewFault::Trap),
@@ -172,7 +195,7 @@ impl<'a, S: Store> View for Snap<'a, S> {
         }
         let found = self.layers.value(at);
         let own = self.layers.is_own(at);
-        self.marks.store(own, at, found.is_ok())?;
+        self.marks.store(own, at)?;
         match found {
             Ok(_) => Ok(self.layers.put(at, value)?),
             Err(t) => Err(ViewFault::Trap(t)),
@@ -186,7 +209,6 @@ impl<'a, S: Store> View for Snap<'a, S> {
             Err(t) => return Err(ViewFault::Trap(t)),
         };
         self.layers.add(obj, Words::zeros(self.alloc, words)?)?;
-        self.marks.touch(Addr::Head(obj))?;
         Ok(obj)
     }
 
@@ -197,7 +219,7 @@ impl<'a, S: Store> View for Snap<'a, S> {
         }
         let there = self.layers.has_object(obj);
         let own = self.layers.is_own(Addr::Word(obj, 0));
-        self.marks.free(own, obj, there)?;
+        self.marks.free(own, obj)?;
         if !there {
             return Err(ViewFault::Trap(Trap::Freed));
         }

@@ -5,3 +5,8 @@
 mod calls;
 #[cfg(test)]
 mod chunks;
+pub mod grounds;
+#[cfg(test)]
+mod outcomes;
+#[cfg(test)]
+mod samples;

@@ -2,8 +2,6 @@
 #![tactic(auto)]
 
 mod gate;
-#[cfg(test)]
-mod tests;
 mod tree;
 
 pub use gate::{FreeGate, Gate};

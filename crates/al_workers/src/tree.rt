@@ -2,7 +2,8 @@
 ghost use Rattle.std.specs.Prelude.{ℕ, true, false, ◌≡◌, ◌≤◌, ◌^◌, IfOk};
 ghost use Rattle.std.specs.Thread.{IsSync};
 ghost use denote.Param.Send.{IsSend};
-ghost use Rattle.al_board.specs.Seen.{view, IsSame, IsPassOf, lane_count, task_of};
+ghost use Rattle.al_board.specs.Logs.{AreKept};
+ghost use Rattle.al_board.specs.Seen.{logs_of, view, IsSame, IsPassOf, lane_count, task_of};
 ghost use Rattle.al_board.specs.Views.{HasPutAll, IsFull};
 ghost use Rattle.al_workers.specs.Workers.{HasEnded, IsJoined, IsFresh, MayWork};
 
@@ -29,6 +30,7 @@ pub fn work_all<R: Threads + Sync, T: Piece, M: Maker<T>, G: Gate>(
     requires threads { (1 ≤ threads) × (threads ≤ (view pass).allowance) }
     ensures own { IfOk result (IsSame board.now pass) }
     ensures full { IfOk result (λ p. IsFull (view p)) }
+    ensures kept { IfOk result (λ p. AreKept (logs_of pass) (logs_of p)) }
 {
     work_tree(rt, board, pass, &Gated { maker, gate }, threads)
 }

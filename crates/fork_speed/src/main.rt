@@ -10,8 +10,10 @@ use anyhow::Error;
 use std::alloc::AllocError;
 use std::env;
 
-// How many boards are filled for each word.
+// How many boards are filled for each word, and their lanes.
 const BOARDS: u32 = 1000;
+
+const LANES: u32 = 4;
 
 #[derive(Drop)]
 struct Nothing;
@@ -51,14 +53,14 @@ impl Maker<Nothing> for Idler {
     }
 }
 
-/// For each word, a number of threads from 1 to 64, fills 1,000 boards of as many lanes with as many threads, and says
-/// `filled`. Another word counts as 1.
+/// For each word, a number of threads from 1 to 64, fills 1,000 boards of four lanes with as many threads, and says
+/// `filled`. A greater number counts as 64, and another word as 1.
 fn main(rt: HostRuntime) -> Result<(), Error> {
     for word in env::args(&rt)?.skip(1) {
         let threads = word.parse::<u32>().unwrap_or(1).clamp(1, 64);
-        let maker = Idler { lanes: threads };
+        let maker = Idler { lanes: LANES };
         for _ in 0..BOARDS {
-            let (board, pass) = Board::<Nothing>::new(rt.alloc(), threads, threads)?;
+            let (board, pass) = Board::<Nothing>::new(rt.alloc(), LANES, LANES)?;
             let pass = work_all(&rt, &board, pass, &maker, threads, &FreeGate)?;
             drop(board.close_vec(pass));
         }

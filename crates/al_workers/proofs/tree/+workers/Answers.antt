@@ -1,6 +1,7 @@
 use Rattle.std.proofs.Common.{arith, ap, ◌∙◌, ◌≡◌, ◌-◌, ◌/◌}
 use Rattle.std.proofs.lemmas.Result.{IfOk-weaker, IfOk-at_ok}
-use Rattle.al_board.specs.Seen.{view}
+use Rattle.al_board.specs.Seen.{logs_of, view}
+use Rattle.al_board.proofs.Kept.{kept_same, kept_trans, kept_left}
 use Rattle.al_board.proofs.Works.{joined_all}
 use Rattle.al_workers.proofs.tree.+workers.Goals as goal
 
@@ -23,6 +24,10 @@ work_in_two-returns g t c = record {
         ended = all.0;
         put = all.1;
         share = omega arith;
+        kept = kept_trans (logs_of c.args.pass) (logs_of c.split-other.new.pass) (logs_of p)
+            (kept_same (logs_of c.args.pass) (logs_of c.split-other.new.pass) c.split-other.ensures.logs.0)
+            (kept_trans (logs_of c.split-other.new.pass) (logs_of both.first) (logs_of p) one.kept
+            (kept_left (logs_of both.first) (logs_of both.last) (logs_of p) both.logs));
       })
       c.join_both.ensures.both;
 }

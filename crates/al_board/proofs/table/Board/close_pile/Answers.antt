@@ -8,35 +8,37 @@ use Rattle.al_board.proofs.table.Board.close_pile.Goals as goal
 
 pub gather-requires-clause-room : goal.gather-requires-clause-room
 gather-requires-clause-room g c =
-    close_room g.T.Piece.fits g.T.Piece.laid (λ k n h. g.T.Piece.stands k h × (g.T.Piece.lanes k ≡ n)) c.args.self.table.shared.key c.args.self.setting
-    c.args.self.about
-    _ c.args.pass.seat.me.0 _ (slots_items c.close_with-closed.result.slots) c.take.result c.in-Room.room c.requires.plain
-    c.close_with-closed.ensures.values.2
-    c.take.ensures.value c.in-Room.is
+    close_room g.T.Piece.fits g.T.Piece.laid (λ k n h. g.T.Piece.stands k h × (g.T.Piece.lanes k ≡ n)) c.args.self.table.shared.key
+    c.args.self.setting c.args.self.about _ c.args.pass.seat.me.0 _ (slots_items c.close_with-closed.result.slots) record {
+      plain = c.requires.plain;
+      live = c.args.pass.live.0;
+      full = c.requires.full;
+      final = c.close_with-closed.ensures.values.2;
+    } c.take.result c.in-Room.room c.take.ensures.value
+    c.in-Room.is
 
 pub gather-requires-clause-pieces : goal.gather-requires-clause-pieces
 gather-requires-clause-pieces g c = λ k lt.
     let found = close_pieces g.T.Piece.fits g.T.Piece.laid (λ k n h. g.T.Piece.stands k h × (g.T.Piece.lanes k ≡ n)) c.args.self.table.shared.key
-    c.args.self.setting
-    c.args.self.about _ c.args.pass.seat.me.0 _ (slots_items c.close_with-closed.result.slots) c.requires.plain c.args.pass.live.0 c.requires.full
-    c.close_with-closed.ensures.values.2 k lt in
+    c.args.self.setting c.args.self.about _ c.args.pass.seat.me.0 _ (slots_items c.close_with-closed.result.slots) record {
+      plain = c.requires.plain;
+      live = c.args.pass.live.0;
+      full = c.requires.full;
+      final = c.close_with-closed.ensures.values.2;
+    } k lt in
     (found.0, ap (λ z. get_elem? z k) c.take.ensures.others.0 ∙ found.1)
 
-pub returns-clause-fit : goal.returns-clause-fit
-returns-clause-fit g c = (
-    close_round g.T.Piece.fits g.T.Piece.laid (λ k n h. g.T.Piece.stands k h × (g.T.Piece.lanes k ≡ n)) c.args.self.table.shared.key c.args.self.setting
-    c.args.self.about
-    _ c.args.pass.seat.me.0 _ (slots_items c.close_with-closed.result.slots) _ (on_pile c.gather.result) c.requires.plain c.args.pass.live.0 c.requires.full
-    c.close_with-closed.ensures.values.2 c.gather.ensures.each c.take.ensures.others.0 c.gather.ensures.from
-    ).0
-
-pub returns-clause-history : goal.returns-clause-history
-returns-clause-history g c = (
-    close_round g.T.Piece.fits g.T.Piece.laid (λ k n h. g.T.Piece.stands k h × (g.T.Piece.lanes k ≡ n)) c.args.self.table.shared.key c.args.self.setting
-    c.args.self.about
-    _ c.args.pass.seat.me.0 _ (slots_items c.close_with-closed.result.slots) _ (on_pile c.gather.result) c.requires.plain c.args.pass.live.0 c.requires.full
-    c.close_with-closed.ensures.values.2 c.gather.ensures.each c.take.ensures.others.0 c.gather.ensures.from
-    ).1
+pub returns : goal.returns
+returns g c =
+    let round = close_round g.T.Piece.fits g.T.Piece.laid (λ k n h. g.T.Piece.stands k h × (g.T.Piece.lanes k ≡ n)) c.args.self.table.shared.key
+    c.args.self.setting c.args.self.about _ c.args.pass.seat.me.0 _ (slots_items c.close_with-closed.result.slots) record {
+      plain = c.requires.plain;
+      live = c.args.pass.live.0;
+      full = c.requires.full;
+      final = c.close_with-closed.ensures.values.2;
+    } (on_pile c.gather.result)
+    c.gather.ensures.each (λ k piece h. ap (λ z. get_elem? z k) (sym c.take.ensures.others.0) ∙ c.gather.ensures.from k piece h) in
+    record { each = c.gather.ensures.each; fit = round.0; history = round.1; given = round.2 }
 
 pub gather-requires-clause-slots : goal.gather-requires-clause-slots
 gather-requires-clause-slots g c =

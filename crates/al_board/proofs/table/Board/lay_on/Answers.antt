@@ -3,9 +3,11 @@ use Rattle.atomic_table.specs.Table.{rest}
 use Rattle.al_board.specs.declared.view.Slot.TheVariants.{Empty, Piece}
 use Rattle.al_board.specs.declared.view.Miss.TheVariants.{Lane}
 use Rattle.al_count.specs.Counts.{times}
-use Rattle.al_board.specs.Seen.{seen}
+use Rattle.al_board.specs.declared.view.Entry.TheVariants.{Took}
+use Rattle.al_board.specs.Seen.{seen, seat_logs}
 use Rattle.al_board.specs.Views.{at_turn, missed, unlogged, IsFull}
 use Rattle.al_board.proofs.Batons.{tries}
+use Rattle.al_board.proofs.Kept.{kept_same, kept_trans, kept_entry, laid_on}
 use Rattle.al_board.proofs.Lays.{slot_is, same_piece, empty_piece, shelf_piece, room_piece, spared_is}
 use Rattle.al_board.proofs.table.Board.lay_on.Goals as goal
 
@@ -22,7 +24,13 @@ compare_exchange-word-requires g c =
       tries g.T.Piece.fits g.T.Piece.laid (λ k n h. g.T.Piece.stands k h × (g.T.Piece.lanes k ≡ n)) c.args.self.now.table.shared.key _
           c.args.self.now.setting.lanes
           _ _ _ record { found = c.args.found; next = c.loop-next.next; laid = g.T.Piece.laid c.loop-next.shelf }
-          (ap (λ z. z.lanes) i.view ∙ a.lanes) (omega arith) (ap (λ z. z.shelved) i.view ∙ a.shelved) (ap (λ z. z.turn) i.view) t i.held,
+          record {
+            many = ap (λ z. z.lanes) i.view ∙ a.lanes;
+            live = omega arith;
+            shelved = ap (λ z. z.shelved) i.view ∙ a.shelved;
+            turn = ap (λ z. z.turn) i.view;
+          }
+          t i.held,
     )
 
 pub returns-then-word-ne-FILLED-clause-laid : goal.returns-then-word-ne-FILLED-clause-laid
@@ -131,4 +139,25 @@ loop-next-preserved g c =
       stands = c.lay.ensures.stands;
       many = let m = i.many in
           let a = length-append (g.T.Piece.laid c.loop-next.shelf) (c.in-Piece.piece ∷ []) in ap length c.lay.ensures.laid ∙ (omega arith);
+      kept = kept_trans (seat_logs c.args.seat.now) (seat_logs c.loop-next.seat) (seat_logs c.exchange.new.seat) i.kept
+          (kept_trans (seat_logs c.loop-next.seat) (seat_logs c.compare_exchange-word.new.seat) (seat_logs c.exchange.new.seat)
+          (kept_entry Took (seat_logs c.loop-next.seat) (seat_logs c.compare_exchange-word.new.seat) hit.logged)
+          (kept_same (seat_logs c.compare_exchange-word.new.seat) (seat_logs c.exchange.new.seat) (ap (λ z. z.0.logs) c.exchange.ensures.3)));
     }
+
+pub returns-then-word-ne-FILLED-clause-logged : goal.returns-then-word-ne-FILLED-clause-logged
+returns-then-word-ne-FILLED-clause-logged g c =
+    let i = c.loop-next.invariant in
+    let n : ℕ = c.loop-next.next in
+    let told = c.compare_exchange-word.ensures.2.missing record { found = c.args.found; next = n; laid = g.T.Piece.laid c.loop-next.shelf }
+    (ap (λ z. z.turn) i.view) in
+    let miss = told c.if-word-ne-FILLED.true in
+    let lanes : c.loop-next.seat.me.0.lanes ≡ c.args.self.now.setting.lanes = ap (λ z. z.lanes) i.view ∙ c.requires.about.lanes in
+    laid_on c.args.self.now.setting.lanes c.loop-next.seat.me.0.lanes n (seat_logs c.args.seat.now) (seat_logs c.loop-next.seat)
+    (seat_logs c.compare_exchange-word.new.seat) lanes i.kept miss.logged
+
+pub returns-clause-logged : goal.returns-clause-logged
+returns-clause-logged g c =
+    let i = c.loop-next.invariant in
+    let t = c.loop-next-test.false in
+    record { kept = i.kept; halt = λ lt. absurd (omega arith) }

@@ -1,5 +1,6 @@
 use Rattle.std.proofs.Common.{◌≡◌, ◌-◌, ◌≤◌, length}
-use Rattle.al_board.specs.Seen.{seen}
+use Rattle.al_board.specs.Logs.{AreKept}
+use Rattle.al_board.specs.Seen.{seen, seat_logs}
 use Rattle.al_board.specs.Views.{at_turn}
 use Rattle.al_board.specs.Helps.{IsCarried}
 use Rattle.al_board.proofs.table.Board.lay_on.Given as goal
@@ -14,6 +15,7 @@ invariant-loop-next g l = record {
   to : l.next ≤ l.self.setting.lanes;
   stands : g.T.Piece.stands l.self.setting.task l.shelf;
   many : length (g.T.Piece.laid l.shelf) ≡ l.next;
+  kept : AreKept (seat_logs l.initial.seat) (seat_logs l.seat);
 }
 
 abbrev pub decreases-loop-next : goal.decreases-loop-next

@@ -1,6 +1,8 @@
 use Rattle.std.proofs.Common.{arith, refl, sym, subst, ap, ◌∙◌, ◌≡◌, length, length-append, ◌++◌, [], ◌∷◌}
 use Rattle.atomic_table.specs.Table.{rest}
 use Rattle.al_board.specs.declared.view.Slot.TheVariants.{Empty, Piece}
+use Rattle.al_board.specs.declared.view.Entry.TheVariants.{Put}
+use Rattle.al_board.specs.Logs.{HasLogged}
 use Rattle.al_board.specs.Seen.{view}
 use Rattle.al_board.specs.Views.{gave, unlogged}
 use Rattle.al_board.proofs.Passes.{drawn_below}
@@ -14,7 +16,13 @@ swap-requires g c =
     let lt = drawn_below (view c.args.pass.now) c.args.lane c.args.pass.now.bounded c.requires.drawn in (
       c.requires.own.0,
       omega arith,
-      takes_lane _ _ _ _ _ c.args.lane c.args.pass.now.live.0 lt c.requires.drawn c.requires.not_put c.args.pass.now.idle.1,
+      takes_lane _ _ _ _ _ c.args.lane record {
+        live = c.args.pass.now.live.0;
+        near = lt;
+        drawn = c.requires.drawn;
+        not_put = c.requires.not_put;
+        free = c.args.pass.now.idle.1;
+      },
     )
 
 pub exchange-requires : goal.exchange-requires
@@ -30,8 +38,13 @@ swap-requires-2 g c =
     let took = c.swap.ensures.2.view c.args.lane refl in (
       c.exchange.ensures.0 ∙ c.swap.ensures.0 ∙ c.requires.own.0,
       omega arith,
-      fills_lane _ _ _ (view c.args.pass.now) _ _ _ c.args.lane c.args.piece c.args.pass.now.live.0 lt took c.exchange.ensures.3
-          (subst (λ k. g.T.Piece.fits k.task c.args.lane c.args.piece) (sym c.args.self.now.about) c.requires.fits),
+      fills_lane _ _ _ (view c.args.pass.now) _ _ _ c.args.lane c.args.piece record {
+        live = c.args.pass.now.live.0;
+        near = lt;
+        took = took;
+        holds = c.exchange.ensures.3;
+        fit = subst (λ k. g.T.Piece.fits k.task c.args.lane c.args.piece) (sym c.args.self.now.about) c.requires.fits;
+      },
     )
 
 pub invariant_of-pass : goal.invariant_of-pass
@@ -77,3 +90,10 @@ returns-clause-own g c =
 pub returns-clause-put : goal.returns-clause-put
 returns-clause-put g c = put_view (view c.args.pass.now) c.swap.new.seat.me.0 c.swap-2.new.seat.me.0 _ c.exchange.new.seat.me c.args.lane
     (c.swap.ensures.2.view c.args.lane refl) c.exchange.ensures.3 (c.swap-2.ensures.2.view c.args.lane refl)
+
+pub returns-clause-logged : goal.returns-clause-logged
+returns-clause-logged g c =
+    let took = c.swap.ensures.2 in
+    let e = c.exchange.ensures.3 in
+    subst (λ z. HasLogged (λ p. Put p c.args.lane c.args.piece) z c.swap-2.new.seat.me.0.logs)
+    (ap (λ z. z.0.logs) e ∙ took.logs) (c.swap-2.ensures.2.logged c.args.lane c.args.piece _ (ap (λ z. z.1) e))

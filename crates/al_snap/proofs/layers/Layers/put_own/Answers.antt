@@ -1,8 +1,9 @@
-use Rattle.std.proofs.Common.{None, sym, ap, ◌∙◌}
+use Rattle.std.proofs.Common.{None, Some, sym, ap, ◌∙◌}
 use Rattle.std.specs.FinMap as map
 use Rattle.al_heap.proofs.SlotLemmas.{has_name}
 use Rattle.al_snap.specs.Layers.{Layers}
 use Rattle.al_snap.proofs.Changing.{put_own_seen, put_none_seen, put_own_made, own_made_same}
+use Rattle.al_snap.proofs.Fitting.{fits_reset, fits_put_back}
 use Rattle.al_snap.proofs.layers.Layers.put_own.Goals as goal
 
 pub set-requires : goal.set-requires
@@ -30,3 +31,13 @@ pub returns-in_default-clause-made : goal.returns-in_default-clause-made
 returns-in_default-clause-made g c =
     own_made_same _ c.args.self.now c.self.view_is c.args.obj _ None c.in_default.ensures.after
     (sym (ap (λ (l : Layers). map.contains_key l.own c.args.obj) c.self.view_is ∙ c.requires))
+
+pub invariant_of-self : goal.invariant_of-self
+invariant_of-self g c =
+    fits_put_back _ c.self.invariant c.args.obj c.replace.new.self c.set.new.self (Some c.put.new.self)
+    (ap (λ (l : Layers). map.contains_key l.own c.args.obj) c.self.view_is ∙ c.requires) c.in-Some.ensures.after c.set.ensures
+
+pub invariant_of-self-in_default : goal.invariant_of-self-in_default
+invariant_of-self-in_default g c =
+    fits_reset _ c.self.invariant c.args.obj c.replace.new.self None c.in_default.ensures.after
+    (ap (λ (l : Layers). map.contains_key l.own c.args.obj) c.self.view_is ∙ c.requires)

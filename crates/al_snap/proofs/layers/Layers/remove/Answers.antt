@@ -1,5 +1,6 @@
-use Rattle.std.proofs.Common.{None}
-use Rattle.al_snap.proofs.Changing.{remove_own_seen, own_made_same, freed_own, remove_below_seen, freed_below}
+use Rattle.std.proofs.Common.{None, sym}
+use Rattle.al_snap.proofs.Changing.{remove_own_seen, own_made_same, freed_own, remove_below_seen, freed_below, touched_own, touched_below}
+use Rattle.al_snap.proofs.Fitting.{fits_reset, fits_freed}
 use Rattle.al_snap.proofs.layers.Layers.remove.Goals as goal
 
 pub returns-then-has-clause-seen : goal.returns-then-has-clause-seen
@@ -19,3 +20,21 @@ returns-in_ok-push-clause-seen g c =
 pub returns-in_ok-push-clause-freed : goal.returns-in_ok-push-clause-freed
 returns-in_ok-push-clause-freed g c =
     freed_below _ c.args.self.now c.self.view_is c.args.obj _ c.in_ok-push.ensures.ok c.if-has.ensures
+
+pub returns-then-has-clause-touched : goal.returns-then-has-clause-touched
+returns-then-has-clause-touched g c = touched_own _ c.args.self.now c.self.view_is c.args.obj c.if-has.ensures
+
+pub returns-in_ok-push-clause-touched : goal.returns-in_ok-push-clause-touched
+returns-in_ok-push-clause-touched g c =
+    touched_below _ c.args.self.now c.self.view_is c.args.obj _ c.in_ok-insert.ensures.ok c.if-has.ensures
+
+pub invariant_of-self : goal.invariant_of-self
+invariant_of-self g c = fits_reset _ c.self.invariant c.args.obj c.set.new.self None c.set.ensures (sym c.if-has.ensures)
+
+pub invariant_of-self-in_err-push : goal.invariant_of-self-in_err-push
+invariant_of-self-in_err-push g c =
+    fits_freed _ c.self.invariant c.args.obj _ c.in_ok-insert.ensures.ok c.push.new.self
+
+pub invariant_of-self-else-has : goal.invariant_of-self-else-has
+invariant_of-self-else-has g c =
+    fits_freed _ c.self.invariant c.args.obj _ c.in_ok-insert.ensures.ok c.push.new.self

@@ -14,7 +14,7 @@ returns g c =
     let accesses : marked rest c.new-2.result ≡ fresh_accesses c.args.reds.now =
     c.new-2.ensures rest ∙ (λ t. record {
       reads = set.empty;
-      touched = set.empty;
+      touched = (c.new.ensures t).touched;
       made = (ap (λ (l : Layers). made_by l.own) c.new.ensures ∙ nothing_made_yet) t;
       freed = (c.new.ensures t).freed;
       reds = c.in_ok-from_slice.ensures t;

@@ -1,8 +1,7 @@
 use Rattle.std.proofs.Common.{List, ap, ◌∙◌}
 use Rattle.al_core.specs.declared.choices.Red.{Red}
 use Rattle.al_core.specs.declared.values.Val.{Val}
-use Rattle.al_core.specs.Access.{AccessRecord, with_touched}
-use Rattle.al_core.specs.declared.values.Addr.TheVariants.{Head}
+use Rattle.al_core.specs.Access.{AccessRecord}
 use Rattle.al_core.specs.Memory.{add}
 use Rattle.al_snap.specs.declared.marks.Marks.{Marks}
 use Rattle.al_snap.specs.Layers.{Layers, seen}
@@ -22,6 +21,5 @@ returns g c =
     make_does (seen l) c.args.self.now.names c.args.self.now.printed x c.args.words c.in-Ok.obj c.allocate.result
     c.allocate.new.self c.in-Ok.is c.allocate.ensures (seen c.add.new.self)
     (c.in_ok-add.ensures.seen ∙ ap (add (seen l) c.in-Ok.obj) c.in_ok-zeros.ensures) _
-    (c.in_ok-touch.ensures (chunk_record c.add.new.self reds accumulators)
-    ∙ ap (λ r. with_touched (marked r marks) (Head c.in-Ok.obj))
-    (made_record c.add.new.self l c.in-Ok.obj reds accumulators c.in_ok-add.ensures.made c.in_ok-add.ensures.freed))
+    (ap (λ r. marked r marks) (made_record c.add.new.self l c.in-Ok.obj reds accumulators c.in_ok-add.ensures.made
+    c.in_ok-add.ensures.freed c.in_ok-add.ensures.touched))

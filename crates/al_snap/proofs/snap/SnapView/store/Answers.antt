@@ -4,10 +4,10 @@ use Rattle.al_core.specs.declared.values.Val.{Val}
 use Rattle.al_core.specs.Access.{AccessRecord, red_index}
 use Rattle.al_core.specs.Memory.{put}
 use Rattle.al_snap.specs.declared.marks.Marks.{Marks}
-use Rattle.al_snap.specs.Layers.{Layers, seen}
+use Rattle.al_snap.specs.Layers.{Layers, seen, own_has, touched_unless}
 use Rattle.al_snap.specs.Marks.{marked, with_stored}
 use Rattle.al_snap.specs.Snaps.{chunk_record}
-use Rattle.al_snap.proofs.Doing.{own_is, same_record, store_missing, store_there}
+use Rattle.al_snap.proofs.Doing.{own_is, stored_after, store_missing, store_there}
 use Rattle.al_snap.proofs.snap.SnapView.store.Goals as goal
 
 pub returns-in_ok-put-in-Ok : goal.returns-in_ok-put-in-Ok
@@ -21,13 +21,15 @@ returns-in_ok-put-in-Ok g c =
     let found : None ≡ red_index reds c.args.at =
     c.in_default-index_of.ensures ∙ ap (λ r. red_index r c.args.at) c.as_slice.ensures in
     let none : red_index reds c.args.at ≡ None = sym found in
-    let recorded : marked rest c.store.new.self ≡ with_stored x c.is_own-own.result c.args.at (is_ok c.value-found.result) =
-    c.in_ok-store.ensures rest ∙ ap (with_stored x c.is_own-own.result c.args.at) c.is_ok.ensures.value in
+    let own : c.is_own-own.result ≡ own_has l c.args.at = c.is_own-own.ensures in
     store_there (seen l) c.args.self.now.names c.args.self.now.printed x
     c.args.at c.args.val none c.value-found.result c.value-found.ensures c.is_own-own.result
     (c.is_own-own.ensures ∙ own_is l reds accumulators marks c.args.at)
-    _ (ap (λ r. marked r c.store.new.self) (same_record c.put.new.self l reds accumulators c.in_ok-put-in-Ok.ensures.made
-    c.in_ok-put-in-Ok.ensures.freed) ∙ recorded) c.in-Ok.field-0 c.in-Ok.is (seen c.put.new.self)
+    _ (stored_after c.put.new.self l reds accumulators marks c.store.new.self c.is_own-own.result c.args.at
+    c.in_ok-put-in-Ok.ensures.made c.in_ok-put-in-Ok.ensures.freed
+    (c.in_ok-put-in-Ok.ensures.touched ∙ ap (λ b. touched_unless b l.touched c.args.at) (sym own)) c.in_ok-store.ensures
+    ∙ ap (λ r. with_stored x c.is_own-own.result c.args.at (is_ok r)) (sym c.in-Ok.is))
+    c.in-Ok.field-0 c.in-Ok.is (seen c.put.new.self)
     (c.in_ok-put-in-Ok.ensures.seen ∙ ap (put (seen l) c.args.at) c.in-Some.ensures.same)
 
 pub returns-in-Err : goal.returns-in-Err
@@ -42,7 +44,7 @@ returns-in-Err g c =
     c.in_default-index_of.ensures ∙ ap (λ r. red_index r c.args.at) c.as_slice.ensures in
     let none : red_index reds c.args.at ≡ None = sym found in
     let recorded : marked rest c.store.new.self ≡ with_stored x c.is_own-own.result c.args.at (is_ok c.value-found.result) =
-    c.in_ok-store.ensures rest ∙ ap (with_stored x c.is_own-own.result c.args.at) c.is_ok.ensures.value in
+    c.in_ok-store.ensures rest ∙ ap (λ r. with_stored x c.is_own-own.result c.args.at (is_ok r)) (sym c.in-Err.is) in
     store_missing (seen l) c.args.self.now.names c.args.self.now.printed x
     c.args.at c.args.val none c.value-found.result c.value-found.ensures c.is_own-own.result
     (c.is_own-own.ensures ∙ own_is l reds accumulators marks c.args.at)

@@ -1,0 +1,7 @@
+use Rattle.std.proofs.Common.{sym, subst}
+use Rattle.al_board.specs.Logs.{AreGiven}
+use Rattle.al_board.specs.Seen.{logs_of}
+use Rattle.al_board.proofs.table.Board.close.Goals as goal
+
+pub returns-clause-given : goal.returns-clause-given
+returns-clause-given g c = subst (AreGiven (logs_of c.args.pass)) (sym c.into_pieces.ensures) c.close_pile.ensures.given

@@ -1,0 +1,15 @@
+//! Tests of boards that threads work on.
+#![tactic(auto)]
+
+#[cfg(test)]
+mod counting;
+#[cfg(test)]
+mod held;
+#[cfg(test)]
+mod jobs;
+#[cfg(test)]
+mod marks;
+#[cfg(test)]
+mod tally;
+#[cfg(test)]
+mod workers;
