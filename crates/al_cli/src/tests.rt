@@ -8,6 +8,7 @@ use al_io::{Cut, MemFile, MemFiles, MemSink};
 use sqlite_items::Items;
 use std::alloc::{AllocError, Global};
 use std::test::Fail;
+use std::thread::Threads;
 
 /// The room of each sink.
 const ROOM: u32 = 1048576;
@@ -92,13 +93,18 @@ fn sink(alloc: Global, cut: Cut) -> Result<MemSink, AllocError> {
     MemSink::new(alloc, ROOM, cuts)
 }
 
-fn gives(alloc: Global, call: &Call, wanted: &Wanted) -> Result<bool, AllocError> {
+fn gives<R: Threads + Sync>(
+    rt: &R,
+    alloc: Global,
+    call: &Call,
+    wanted: &Wanted,
+) -> Result<bool, AllocError> {
     let words = words_of(alloc, call.words)?;
     let files = one_file(alloc, call.name, call.bytes)?;
     let mut files = MemFiles::new(files, Items::from_slice(alloc, &[call.failing])?);
     let mut out = sink(alloc, call.out)?;
     let mut err = sink(alloc, call.err)?;
-    let status = alter(alloc, words.as_slice(), &mut files, &mut out, &mut err);
+    let status = alter(rt, alloc, words.as_slice(), &mut files, &mut out, &mut err);
     Ok(
         status == wanted.status
             && out.bytes() == wanted.out.as_bytes()
@@ -130,7 +136,7 @@ fn refused_words_have_their_line(rt: HostRuntime) -> Result<(), Fail> {
     ];
     for (words, err) in rows {
         assert!(rt;
-            gives(rt.alloc(), &over_a_file(words), &line(2, err, 0))?,
+            gives(&rt, rt.alloc(), &over_a_file(words), &line(2, err, 0))?,
             "{words}"
         );
     }
@@ -141,12 +147,19 @@ fn refused_words_have_their_line(rt: HostRuntime) -> Result<(), Fail> {
 fn files_that_are_not_read_have_their_line(rt: HostRuntime) -> Result<(), Fail> {
     let alloc = rt.alloc();
     let missing = over_a_file("run p2.c n.txt");
-    assert!(rt; gives(alloc, &missing, &line(4, "alter: no such file: p2.c\n", 1))?);
+    assert!(rt;
+        gives(
+            &rt,
+            alloc,
+            &missing,
+            &line(4, "alter: no such file: p2.c\n", 1)
+        )?
+    );
     for words in ["run p1.c n.txt", "plain p1.c", "trace p1.c", "check p1.c"] {
         let mut call = over_a_file(words);
         call.failing = 0;
         assert!(rt;
-            gives(alloc, &call, &line(4, "alter: cannot read p1.c\n", 1))?,
+            gives(&rt, alloc, &call, &line(4, "alter: cannot read p1.c\n", 1))?,
             "{words}"
         );
     }
@@ -158,10 +171,10 @@ fn a_line_is_cut(rt: HostRuntime) -> Result<(), Fail> {
     let alloc = rt.alloc();
     let mut call = over_a_file("run");
     call.err = Cut { call: 0, taken: 6 };
-    assert!(rt; gives(alloc, &call, &line(5, "alter:", 0))?);
+    assert!(rt; gives(&rt, alloc, &call, &line(5, "alter:", 0))?);
     let mut call = over_a_file("run p1.c");
     call.failing = 0;
     call.err = Cut { call: 0, taken: 0 };
-    assert!(rt; gives(alloc, &call, &line(5, "", 1))?);
+    assert!(rt; gives(&rt, alloc, &call, &line(5, "", 1))?);
     Ok(())
 }

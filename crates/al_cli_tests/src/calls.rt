@@ -7,6 +7,7 @@ use al_cli::alter;
 use al_io::{Cut, MemFile, MemFiles, MemSink};
 use sqlite_items::Items;
 use std::alloc::{AllocError, Global};
+use std::thread::Threads;
 
 /// The room of each sink.
 const ROOM: u32 = 1048576;
@@ -101,7 +102,11 @@ fn sink(alloc: Global, cut: Cut) -> Result<MemSink, AllocError> {
 }
 
 /// Makes the call. The names of the files differ.
-pub fn serve(alloc: Global, call: &Call<'_>) -> Result<Seen, AllocError> {
+pub fn serve<R: Threads + Sync>(
+    rt: &R,
+    alloc: Global,
+    call: &Call<'_>,
+) -> Result<Seen, AllocError> {
     let words = words_of(alloc, call.words)?;
     let files = two_files(alloc, &call.source, &call.input)?;
     if call.source.name == call.input.name {
@@ -110,7 +115,7 @@ pub fn serve(alloc: Global, call: &Call<'_>) -> Result<Seen, AllocError> {
     let mut files = MemFiles::new(files, Items::from_slice(alloc, &[call.failing])?);
     let mut out = sink(alloc, call.out)?;
     let mut err = sink(alloc, call.err)?;
-    let status = alter(alloc, words.as_slice(), &mut files, &mut out, &mut err);
+    let status = alter(rt, alloc, words.as_slice(), &mut files, &mut out, &mut err);
     Ok(Seen {
         status,
         out: Vec::from_slice(alloc, out.bytes())?,
@@ -118,8 +123,13 @@ pub fn serve(alloc: Global, call: &Call<'_>) -> Result<Seen, AllocError> {
     })
 }
 
-pub fn gives(alloc: Global, call: &Call<'_>, wanted: &Wanted<'_>) -> Result<bool, AllocError> {
-    let seen = serve(alloc, call)?;
+pub fn gives<R: Threads + Sync>(
+    rt: &R,
+    alloc: Global,
+    call: &Call<'_>,
+    wanted: &Wanted<'_>,
+) -> Result<bool, AllocError> {
+    let seen = serve(rt, alloc, call)?;
     Ok(
         seen.status == wanted.status
             && seen.out.as_slice() == wanted.out.as_bytes()

@@ -2,6 +2,7 @@
 use crate::rows::{Row, broken, changed, ends_in};
 use std::alloc::{AllocError, Global};
 use std::test::Fail;
+use std::thread::Threads;
 
 const F1: &str = "struct n { long v; };
 int main(void) {
@@ -55,17 +56,17 @@ fn objects_are_freed_once(rt: HostRuntime) -> Result<(), Fail> {
             "alter: f1.c:8: trap: freed already\n",
         ),
     ];
-    assert_eq!(rt; broken(alloc, "f1.c", F1, &rows)?, None);
+    assert_eq!(rt; broken(&rt, alloc, "f1.c", F1, &rows)?, None);
     let rows: [Row; 1] = [(
         "run f3.c",
         3,
         "",
         "alter: f3.c:3: trap: not an allocated object\n",
     )];
-    assert_eq!(rt; broken(alloc, "f3.c", F3, &rows)?, None);
+    assert_eq!(rt; broken(&rt, alloc, "f3.c", F3, &rows)?, None);
     let used = changed(alloc, F3, "free(&q[1]);", "free(q); q[0] = 1;")?;
     let rows: [Row; 1] = [("run f3.c", 3, "", "alter: f3.c:3: trap: missing object\n")];
-    assert_eq!(rt; broken(alloc, "f3.c", used.as_str(), &rows)?, None);
+    assert_eq!(rt; broken(&rt, alloc, "f3.c", used.as_str(), &rows)?, None);
     Ok(())
 }
 
@@ -73,9 +74,10 @@ fn objects_are_freed_once(rt: HostRuntime) -> Result<(), Fail> {
 fn a_chunk_frees_what_another_uses(rt: HostRuntime) -> Result<(), Fail> {
     let alloc = rt.alloc();
     let rows: [Row; 1] = [("run f2.c --lanes 2 --chunk 1", 0, "1\n", "")];
-    assert_eq!(rt; broken(alloc, "f2.c", F2, &rows)?, None);
+    assert_eq!(rt; broken(&rt, alloc, "f2.c", F2, &rows)?, None);
     assert!(rt;
         ends_in(
+            &rt,
             alloc,
             TWO_LANES,
             F2,
@@ -84,9 +86,10 @@ fn a_chunk_frees_what_another_uses(rt: HostRuntime) -> Result<(), Fail> {
     );
     for policy in ["WAW", "NONE"] {
         let text = changed(alloc, F2, "RAW", policy)?;
-        assert_eq!(rt; broken(alloc, "f2.c", text.as_str(), &rows)?, None);
+        assert_eq!(rt; broken(&rt, alloc, "f2.c", text.as_str(), &rows)?, None);
         assert!(rt;
             ends_in(
+                &rt,
                 alloc,
                 TWO_LANES,
                 text.as_str(),
@@ -98,9 +101,14 @@ fn a_chunk_frees_what_another_uses(rt: HostRuntime) -> Result<(), Fail> {
 }
 
 /// Whether the words with this line size print the numbers and end in these totals.
-fn by_lines(alloc: Global, size: &str, totals: &str) -> Result<bool, AllocError> {
+fn by_lines<R: Threads + Sync>(
+    rt: &R,
+    alloc: Global,
+    size: &str,
+    totals: &str,
+) -> Result<bool, AllocError> {
     let words = format!(in alloc; "trace p.c --lanes 4 --chunk 1 --line {size}")?;
-    ends_in(alloc, words.as_str(), L, totals)
+    ends_in(rt, alloc, words.as_str(), L, totals)
 }
 
 #[test]
@@ -117,11 +125,26 @@ fn conflicts_are_found_by_lines(rt: HostRuntime) -> Result<(), Fail> {
             "alter: bad value for --line: 3\n",
         ),
     ];
-    assert_eq!(rt; broken(alloc, "l.c", L, &rows)?, None);
-    assert!(rt; by_lines(alloc, "1", "loops 1 rounds 1 attempts 4 aborted 0 span 5\n")?);
-    assert!(rt; by_lines(alloc, "2", "loops 1 rounds 3 attempts 8 aborted 4 span 9\n")?);
+    assert_eq!(rt; broken(&rt, alloc, "l.c", L, &rows)?, None);
     assert!(rt;
         by_lines(
+            &rt,
+            alloc,
+            "1",
+            "loops 1 rounds 1 attempts 4 aborted 0 span 5\n"
+        )?
+    );
+    assert!(rt;
+        by_lines(
+            &rt,
+            alloc,
+            "2",
+            "loops 1 rounds 3 attempts 8 aborted 4 span 9\n"
+        )?
+    );
+    assert!(rt;
+        by_lines(
+            &rt,
             alloc,
             "4",
             "loops 1 rounds 4 attempts 10 aborted 6 span 11\n"

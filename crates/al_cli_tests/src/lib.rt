@@ -13,3 +13,5 @@ mod limits;
 mod places;
 #[cfg(test)]
 mod rows;
+#[cfg(test)]
+mod searches;

@@ -3,6 +3,7 @@ use crate::calls::{Call, File, Wanted, gives};
 use al_samples::P1;
 use std::alloc::{AllocError, Global};
 use std::test::Fail;
+use std::thread::Threads;
 
 const NUMBERS: File<'static> = File {
     name: "n.txt",
@@ -23,7 +24,8 @@ fn repeated(alloc: Global, piece: &str, count: usize) -> Result<String, AllocErr
 }
 
 /// Whether words over this source give what is wanted.
-fn over<'a>(
+fn over<'a, R: Threads + Sync>(
+    rt: &R,
     alloc: Global,
     words: &'a str,
     name: &'a str,
@@ -31,6 +33,7 @@ fn over<'a>(
     wanted: &Wanted<'_>,
 ) -> Result<bool, AllocError> {
     gives(
+        rt,
         alloc,
         &Call::new(words, File { name, text }, NUMBERS),
         wanted,
@@ -43,9 +46,9 @@ fn the_length_of_a_source(rt: HostRuntime) -> Result<(), Fail> {
     let blanks = repeated(alloc, " ", 1048577)?;
     let most = blanks.as_str().get(1..).ok_or("it has a byte")?;
     let no_main = wanted(1, "", "alter: e.c:1: no main function\n");
-    assert!(rt; over(alloc, "check e.c", "e.c", most, &no_main)?);
+    assert!(rt; over(&rt, alloc, "check e.c", "e.c", most, &no_main)?);
     let too_long = wanted(1, "", "alter: e.c: source too long\n");
-    assert!(rt; over(alloc, "check e.c", "e.c", blanks.as_str(), &too_long)?);
+    assert!(rt; over(&rt, alloc, "check e.c", "e.c", blanks.as_str(), &too_long)?);
     Ok(())
 }
 
@@ -60,10 +63,19 @@ fn blocks(alloc: Global, count: usize) -> Result<String, AllocError> {
 fn the_nesting_of_blocks(rt: HostRuntime) -> Result<(), Fail> {
     let alloc = rt.alloc();
     let most = blocks(alloc, 128)?;
-    assert!(rt; over(alloc, "run b.c", "b.c", most.as_str(), &wanted(0, "", ""))?);
+    assert!(rt;
+        over(
+            &rt,
+            alloc,
+            "run b.c",
+            "b.c",
+            most.as_str(),
+            &wanted(0, "", "")
+        )?
+    );
     let more = blocks(alloc, 129)?;
     let refused = wanted(1, "", "alter: b.c: not a program\n");
-    assert!(rt; over(alloc, "run b.c", "b.c", more.as_str(), &refused)?);
+    assert!(rt; over(&rt, alloc, "run b.c", "b.c", more.as_str(), &refused)?);
     Ok(())
 }
 
@@ -79,6 +91,7 @@ fn the_operators_of_an_expression(rt: HostRuntime) -> Result<(), Fail> {
     let most = ones(alloc, 128)?;
     assert!(rt;
         over(
+            &rt,
             alloc,
             "run o.c",
             "o.c",
@@ -88,7 +101,7 @@ fn the_operators_of_an_expression(rt: HostRuntime) -> Result<(), Fail> {
     );
     let more = ones(alloc, 129)?;
     let refused = wanted(1, "", "alter: o.c: not a program\n");
-    assert!(rt; over(alloc, "run o.c", "o.c", more.as_str(), &refused)?);
+    assert!(rt; over(&rt, alloc, "run o.c", "o.c", more.as_str(), &refused)?);
     Ok(())
 }
 
@@ -106,6 +119,7 @@ fn the_depth_of_calls(rt: HostRuntime) -> Result<(), Fail> {
     let most = deep(alloc, 254)?;
     assert!(rt;
         over(
+            &rt,
             alloc,
             "run d.c",
             "d.c",
@@ -115,12 +129,17 @@ fn the_depth_of_calls(rt: HostRuntime) -> Result<(), Fail> {
     );
     let more = deep(alloc, 255)?;
     let trap = wanted(3, "", "alter: d.c:1: trap: calls nested too deep\n");
-    assert!(rt; over(alloc, "run d.c", "d.c", more.as_str(), &trap)?);
+    assert!(rt; over(&rt, alloc, "run d.c", "d.c", more.as_str(), &trap)?);
     Ok(())
 }
 
 /// Whether a program runs over so many zeros as wanted.
-fn over_zeros(alloc: Global, count: usize, wanted: &Wanted<'_>) -> Result<bool, AllocError> {
+fn over_zeros<R: Threads + Sync>(
+    rt: &R,
+    alloc: Global,
+    count: usize,
+    wanted: &Wanted<'_>,
+) -> Result<bool, AllocError> {
     let zeros = repeated(alloc, "0 ", count)?;
     let source = File {
         name: "p1.c",
@@ -130,14 +149,19 @@ fn over_zeros(alloc: Global, count: usize, wanted: &Wanted<'_>) -> Result<bool, 
         name: "i.txt",
         text: zeros.as_str(),
     };
-    gives(alloc, &Call::new("run p1.c i.txt", source, input), wanted)
+    gives(
+        rt,
+        alloc,
+        &Call::new("run p1.c i.txt", source, input),
+        wanted,
+    )
 }
 
 #[test]
 fn the_numbers_of_an_input(rt: HostRuntime) -> Result<(), Fail> {
     let alloc = rt.alloc();
-    assert!(rt; over_zeros(alloc, 1048576, &wanted(0, "5\n", ""))?);
+    assert!(rt; over_zeros(&rt, alloc, 1048576, &wanted(0, "5\n", ""))?);
     let refused = wanted(7, "", "alter: i.txt: too many numbers\n");
-    assert!(rt; over_zeros(alloc, 1048577, &refused)?);
+    assert!(rt; over_zeros(&rt, alloc, 1048577, &refused)?);
     Ok(())
 }

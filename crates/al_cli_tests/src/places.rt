@@ -2,6 +2,7 @@
 use crate::calls::{Call, File, Wanted, gives};
 use std::alloc::{AllocError, Global};
 use std::test::Fail;
+use std::thread::Threads;
 
 const NUMBERS: File<'static> = File {
     name: "n.txt",
@@ -301,7 +302,13 @@ fn written(alloc: Global, words: &str) -> Result<String, AllocError> {
 }
 
 /// Whether `check` of a source says this of this line.
-fn tells(alloc: Global, source: &str, line: u32, text: &str) -> Result<bool, AllocError> {
+fn tells<R: Threads + Sync>(
+    rt: &R,
+    alloc: Global,
+    source: &str,
+    line: u32,
+    text: &str,
+) -> Result<bool, AllocError> {
     let err = format!(in alloc; "alter: s.c:{line}: {text}\n")?;
     let file = File {
         name: "s.c",
@@ -312,14 +319,18 @@ fn tells(alloc: Global, source: &str, line: u32, text: &str) -> Result<bool, All
         out: "",
         err: err.as_str(),
     };
-    gives(alloc, &Call::new("check s.c", file, NUMBERS), &wanted)
+    gives(rt, alloc, &Call::new("check s.c", file, NUMBERS), &wanted)
 }
 
 /// The first row of which something else is said.
-fn first_wrong(alloc: Global, rows: &[Place]) -> Result<Option<&'static str>, AllocError> {
+fn first_wrong<R: Threads + Sync>(
+    rt: &R,
+    alloc: Global,
+    rows: &[Place],
+) -> Result<Option<&'static str>, AllocError> {
     for (words, line, text) in rows {
         let source = written(alloc, words)?;
-        if !tells(alloc, source.as_str(), *line, text)? {
+        if !tells(rt, alloc, source.as_str(), *line, text)? {
             return Ok(Some(words));
         }
     }
@@ -336,7 +347,7 @@ fn check_tells_the_first_bad_token(rt: HostRuntime) -> Result<(), Fail> {
         ANNOTATIONS.as_slice(),
         LIMITS.as_slice(),
     ] {
-        assert_eq!(rt; first_wrong(alloc, rows)?, None);
+        assert_eq!(rt; first_wrong(&rt, alloc, rows)?, None);
     }
     Ok(())
 }
@@ -360,7 +371,12 @@ fn all_other_commands_say_that_it_is_no_program(rt: HostRuntime) -> Result<(), F
                 err,
             };
             assert!(rt;
-                gives(alloc, &Call::new(words.as_str(), file, NUMBERS), &wanted)?,
+                gives(
+                    &rt,
+                    alloc,
+                    &Call::new(words.as_str(), file, NUMBERS),
+                    &wanted
+                )?,
                 "{words}"
             );
         }
@@ -370,12 +386,16 @@ fn all_other_commands_say_that_it_is_no_program(rt: HostRuntime) -> Result<(), F
 
 /// The first word behind which a source is cut off and something else is said. A line feed is a word; a `#pragma` with
 /// nothing behind it is skipped.
-fn first_wrong_cut(alloc: Global, words: &'static str) -> Result<Option<&'static str>, AllocError> {
+fn first_wrong_cut<R: Threads + Sync>(
+    rt: &R,
+    alloc: Global,
+    words: &'static str,
+) -> Result<Option<&'static str>, AllocError> {
     let mut source = String::new(alloc);
     let mut line: u32 = 1;
     let mut last = 1;
     for (place, word) in words.split(' ').enumerate() {
-        if place > 0 && !tells(alloc, source.as_str(), last, "unfinished")? {
+        if place > 0 && !tells(rt, alloc, source.as_str(), last, "unfinished")? {
             return Ok(Some(word));
         }
         match word {
@@ -392,7 +412,7 @@ fn first_wrong_cut(alloc: Global, words: &'static str) -> Result<Option<&'static
 #[test]
 fn what_is_cut_off_is_unfinished(rt: HostRuntime) -> Result<(), Fail> {
     for words in CUTS {
-        assert_eq!(rt; first_wrong_cut(rt.alloc(), words)?, None, "{words}");
+        assert_eq!(rt; first_wrong_cut(&rt, rt.alloc(), words)?, None, "{words}");
     }
     Ok(())
 }

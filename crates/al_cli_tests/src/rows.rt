@@ -3,6 +3,7 @@ use crate::calls::{Call, File, Wanted, gives, serve};
 use al_samples::*;
 use std::alloc::{AllocError, Global};
 use std::test::Fail;
+use std::thread::Threads;
 
 const NUMBERS: File<'static> = File {
     name: "n.txt",
@@ -13,21 +14,28 @@ const NUMBERS: File<'static> = File {
 pub type Row = (&'static str, u8, &'static str, &'static str);
 
 /// Whether words over the program of this name give what the row says.
-fn holds(alloc: Global, name: &str, text: &str, row: &Row) -> Result<bool, AllocError> {
+fn holds<R: Threads + Sync>(
+    rt: &R,
+    alloc: Global,
+    name: &str,
+    text: &str,
+    row: &Row,
+) -> Result<bool, AllocError> {
     let (words, status, out, err) = *row;
     let call = Call::new(words, File { name, text }, NUMBERS);
-    gives(alloc, &call, &Wanted { status, out, err })
+    gives(rt, alloc, &call, &Wanted { status, out, err })
 }
 
 /// The first row that does not hold.
-pub fn broken(
+pub fn broken<R: Threads + Sync>(
+    rt: &R,
     alloc: Global,
     name: &str,
     text: &str,
     rows: &[Row],
 ) -> Result<Option<&'static str>, AllocError> {
     for row in rows {
-        if !holds(alloc, name, text, row)? {
+        if !holds(rt, alloc, name, text, row)? {
             return Ok(Some(row.0));
         }
     }
@@ -41,13 +49,15 @@ pub fn changed(alloc: Global, text: &str, old: &str, new: &str) -> Result<String
 }
 
 /// Whether the trace that words ask for ends in this text.
-pub fn ends_in<'a>(
+pub fn ends_in<'a, R: Threads + Sync>(
+    rt: &R,
     alloc: Global,
     words: &'a str,
     text: &'a str,
     tail: &str,
 ) -> Result<bool, AllocError> {
     let seen = serve(
+        rt,
         alloc,
         &Call::new(words, File { name: "p.c", text }, NUMBERS),
     )?;
@@ -59,6 +69,7 @@ fn programs_print(rt: HostRuntime) -> Result<(), Fail> {
     let alloc = rt.alloc();
     assert_eq!(rt;
         broken(
+            &rt,
             alloc,
             "p1.c",
             P1,
@@ -68,6 +79,7 @@ fn programs_print(rt: HostRuntime) -> Result<(), Fail> {
     );
     assert_eq!(rt;
         broken(
+            &rt,
             alloc,
             "p2.c",
             P2,
@@ -77,6 +89,7 @@ fn programs_print(rt: HostRuntime) -> Result<(), Fail> {
     );
     assert_eq!(rt;
         broken(
+            &rt,
             alloc,
             "p12.c",
             P12,
@@ -91,6 +104,7 @@ fn programs_print(rt: HostRuntime) -> Result<(), Fail> {
     );
     assert_eq!(rt;
         broken(
+            &rt,
             alloc,
             "p11.c",
             P11,
@@ -117,7 +131,7 @@ fn loops_of_no_trips(rt: HostRuntime) -> Result<(), Fail> {
             "",
         ),
     ];
-    assert_eq!(rt; broken(rt.alloc(), "p3.c", P3, &rows)?, None);
+    assert_eq!(rt; broken(&rt, rt.alloc(), "p3.c", P3, &rows)?, None);
     Ok(())
 }
 
@@ -135,15 +149,16 @@ fn chunks_that_read_what_others_write(rt: HostRuntime) -> Result<(), Fail> {
         ),
         ("plain p4.c", 0, "1 2\n", ""),
     ];
-    assert_eq!(rt; broken(alloc, "p4.c", P4, &rows)?, None);
+    assert_eq!(rt; broken(&rt, alloc, "p4.c", P4, &rows)?, None);
     let waw = changed(alloc, P4, "RAW", "WAW")?;
     let rows: [Row; 2] = [
         ("run p4.c --lanes 2 --chunk 1", 0, "1 1\n", ""),
         ("plain p4.c", 0, "1 2\n", ""),
     ];
-    assert_eq!(rt; broken(alloc, "p4.c", waw.as_str(), &rows)?, None);
+    assert_eq!(rt; broken(&rt, alloc, "p4.c", waw.as_str(), &rows)?, None);
     assert!(rt;
         ends_in(
+            &rt,
             alloc,
             "trace p.c --lanes 2 --chunk 1",
             waw.as_str(),
@@ -159,11 +174,12 @@ fn orders_of_commit(rt: HostRuntime) -> Result<(), Fail> {
     let in_order = changed(alloc, P5, "OutOfOrder", "InOrder")?;
     let words = "run p5.c --lanes 3 --chunk 1";
     assert_eq!(rt;
-        broken(alloc, "p5.c", P5, &[(words, 0, "0 2 1 ", "")])?,
+        broken(&rt, alloc, "p5.c", P5, &[(words, 0, "0 2 1 ", "")])?,
         None
     );
     assert_eq!(rt;
         broken(
+            &rt,
             alloc,
             "p5.c",
             in_order.as_str(),
@@ -178,7 +194,7 @@ fn orders_of_commit(rt: HostRuntime) -> Result<(), Fail> {
         loops 1 rounds 1 attempts 1 aborted 0 span 21\n",
         "",
     );
-    assert_eq!(rt; broken(alloc, "p5.c", P5, &[whole])?, None);
+    assert_eq!(rt; broken(&rt, alloc, "p5.c", P5, &[whole])?, None);
     Ok(())
 }
 
@@ -187,10 +203,13 @@ fn traps_of_chunks_that_fail(rt: HostRuntime) -> Result<(), Fail> {
     let alloc = rt.alloc();
     let words = "run p6.c --lanes 2 --chunk 1";
     let waw = changed(alloc, P6, "RAW", "WAW")?;
-    assert_eq!(rt; broken(alloc, "p6.c", P6, &[(words, 0, "10\n", "")])?, None);
+    assert_eq!(rt;
+        broken(&rt, alloc, "p6.c", P6, &[(words, 0, "10\n", "")])?,
+        None
+    );
     let trap = "alter: p6.c:6: trap: divide by zero\n";
     assert_eq!(rt;
-        broken(alloc, "p6.c", waw.as_str(), &[(words, 3, "", trap)])?,
+        broken(&rt, alloc, "p6.c", waw.as_str(), &[(words, 3, "", trap)])?,
         None
     );
     Ok(())
@@ -201,10 +220,13 @@ fn budgets(rt: HostRuntime) -> Result<(), Fail> {
     let alloc = rt.alloc();
     let words = "run p7.c --lanes 2 --chunk 1 --iter-steps 100";
     let none = changed(alloc, P7, "RAW", "NONE")?;
-    assert_eq!(rt; broken(alloc, "p7.c", P7, &[(words, 0, "ok\n", "")])?, None);
+    assert_eq!(rt;
+        broken(&rt, alloc, "p7.c", P7, &[(words, 0, "ok\n", "")])?,
+        None
+    );
     let trap = "alter: p7.c:6: trap: step budget spent\n";
     assert_eq!(rt;
-        broken(alloc, "p7.c", none.as_str(), &[(words, 3, "", trap)])?,
+        broken(&rt, alloc, "p7.c", none.as_str(), &[(words, 3, "", trap)])?,
         None
     );
     let rows: [Row; 2] = [
@@ -216,7 +238,7 @@ fn budgets(rt: HostRuntime) -> Result<(), Fail> {
             "alter: p8.c:4: trap: step budget spent\n",
         ),
     ];
-    assert_eq!(rt; broken(alloc, "p8.c", P8, &rows)?, None);
+    assert_eq!(rt; broken(&rt, alloc, "p8.c", P8, &rows)?, None);
     Ok(())
 }
 
@@ -224,9 +246,10 @@ fn budgets(rt: HostRuntime) -> Result<(), Fail> {
 fn reductions_over_an_input(rt: HostRuntime) -> Result<(), Fail> {
     let alloc = rt.alloc();
     let row: Row = ("run p9.c n.txt --lanes 4 --chunk 1", 0, "17\n", "");
-    assert_eq!(rt; broken(alloc, "p9.c", P9, &[row])?, None);
+    assert_eq!(rt; broken(&rt, alloc, "p9.c", P9, &[row])?, None);
     assert!(rt;
         ends_in(
+            &rt,
             alloc,
             "trace p.c n.txt --lanes 4 --chunk 1",
             P9,
@@ -251,7 +274,7 @@ fn lists_that_grow(rt: HostRuntime) -> Result<(), Fail> {
             "",
         ),
     ];
-    assert_eq!(rt; broken(rt.alloc(), "p10.c", P10, &rows)?, None);
+    assert_eq!(rt; broken(&rt, rt.alloc(), "p10.c", P10, &rows)?, None);
     Ok(())
 }
 
@@ -268,7 +291,7 @@ fn a_trap_that_is_committed(rt: HostRuntime) -> Result<(), Fail> {
             trap,
         ),
     ];
-    assert_eq!(rt; broken(rt.alloc(), "p13.c", P13, &rows)?, None);
+    assert_eq!(rt; broken(&rt, rt.alloc(), "p13.c", P13, &rows)?, None);
     Ok(())
 }
 
@@ -276,14 +299,14 @@ fn a_trap_that_is_committed(rt: HostRuntime) -> Result<(), Fail> {
 fn sources_are_refused(rt: HostRuntime) -> Result<(), Fail> {
     let alloc = rt.alloc();
     let left: Row = ("check p14.c", 1, "", "alter: p14.c:3: loop is left\n");
-    assert_eq!(rt; broken(alloc, "p14.c", P14, &[left])?, None);
+    assert_eq!(rt; broken(&rt, alloc, "p14.c", P14, &[left])?, None);
     let no_main: Row = ("check e.c", 1, "", "alter: e.c:1: no main function\n");
-    assert_eq!(rt; broken(alloc, "e.c", "", &[no_main])?, None);
+    assert_eq!(rt; broken(&rt, alloc, "e.c", "", &[no_main])?, None);
     let cut = "int main(void) { printf(\"%ld\\n\", 2 +";
     let row: Row = ("run cut.c", 1, "", "alter: cut.c: not a program\n");
-    assert_eq!(rt; broken(alloc, "cut.c", cut, &[row])?, None);
+    assert_eq!(rt; broken(&rt, alloc, "cut.c", cut, &[row])?, None);
     let row: Row = ("run open.c", 1, "", "alter: open.c:1: open comment\n");
-    assert_eq!(rt; broken(alloc, "open.c", "/* x", &[row])?, None);
+    assert_eq!(rt; broken(&rt, alloc, "open.c", "/* x", &[row])?, None);
     Ok(())
 }
 
@@ -297,14 +320,19 @@ fn a_beginning_of_a_program_is_none(rt: HostRuntime) -> Result<(), Fail> {
             name: "p10.c",
             text: begun,
         };
-        let seen = serve(alloc, &Call::new("check p10.c", file, NUMBERS))?;
+        let seen = serve(&rt, alloc, &Call::new("check p10.c", file, NUMBERS))?;
         assert_eq!(rt; seen.status, 1, "{at}");
     }
     Ok(())
 }
 
 /// Whether a program runs over this input as wanted.
-fn over(alloc: Global, numbers: &str, wanted: &Wanted<'_>) -> Result<bool, AllocError> {
+fn over<R: Threads + Sync>(
+    rt: &R,
+    alloc: Global,
+    numbers: &str,
+    wanted: &Wanted<'_>,
+) -> Result<bool, AllocError> {
     let source = File {
         name: "p1.c",
         text: P1,
@@ -313,7 +341,12 @@ fn over(alloc: Global, numbers: &str, wanted: &Wanted<'_>) -> Result<bool, Alloc
         name: "big.txt",
         text: numbers,
     };
-    gives(alloc, &Call::new("run p1.c big.txt", source, input), wanted)
+    gives(
+        rt,
+        alloc,
+        &Call::new("run p1.c big.txt", source, input),
+        wanted,
+    )
 }
 
 #[test]
@@ -323,13 +356,13 @@ fn inputs_are_refused(rt: HostRuntime) -> Result<(), Fail> {
         out: "",
         err: "alter: big.txt:2: out of range\n",
     };
-    assert!(rt; over(rt.alloc(), "1\n9223372036854775808\n", &refused)?);
+    assert!(rt; over(&rt, rt.alloc(), "1\n9223372036854775808\n", &refused)?);
     let done = Wanted {
         status: 0,
         out: "5\n",
         err: "",
     };
-    assert!(rt; over(rt.alloc(), "1\n-9223372036854775808\n", &done)?);
+    assert!(rt; over(&rt, rt.alloc(), "1\n-9223372036854775808\n", &done)?);
     Ok(())
 }
 
@@ -341,7 +374,7 @@ fn the_generated_program(rt: HostRuntime) -> Result<(), Fail> {
         "0 1 0 0 0 0 1 0 0 0 0 0 0 0 1 0 32709\nloops 1 rounds 1 attempts 1 aborted 0 span 69\n",
         "",
     );
-    assert_eq!(rt; broken(rt.alloc(), "p1.c", P1, &[row])?, None);
+    assert_eq!(rt; broken(&rt, rt.alloc(), "p1.c", P1, &[row])?, None);
     Ok(())
 }
 
@@ -354,7 +387,7 @@ fn clusters_of_points(rt: HostRuntime) -> Result<(), Fail> {
         "step 0 cost 10000 used 1000\nstep 1 cost 0 used 1000\n",
         "",
     );
-    assert_eq!(rt; broken(alloc, "p15.c", P15, &[row])?, None);
+    assert_eq!(rt; broken(&rt, alloc, "p15.c", P15, &[row])?, None);
     Ok(())
 }
 
@@ -362,6 +395,6 @@ fn clusters_of_points(rt: HostRuntime) -> Result<(), Fail> {
 fn rounds_of_clusters(rt: HostRuntime) -> Result<(), Fail> {
     let alloc = rt.alloc();
     let totals = "end done\nloops 4 rounds 34 attempts 128 aborted 0 span 108637\n";
-    assert!(rt; ends_in(alloc, "trace p.c", P15, totals)?);
+    assert!(rt; ends_in(&rt, alloc, "trace p.c", P15, totals)?);
     Ok(())
 }

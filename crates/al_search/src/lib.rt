@@ -5,3 +5,6 @@ mod search;
 mod trials;
 
 pub use search::searched;
+
+#[cfg(test)]
+mod tests;

@@ -18,7 +18,7 @@ returns-in_err-push-in-Numbers-clause-err g c =
     let before : FilesSeen = files_seen g.F.Files.contents g.F.Files.calls g.F.Files.faults c.loop-place.files in
     let after : FilesSeen = files_seen g.F.Files.contents g.F.Files.calls g.F.Files.faults c.numbers_of.new.files in
     let left = next_named words c.args.places.now c.loop-place.place-index c.from.result _ c.word_at.result.now c.loop-place-test.true c.from.ensures
-        c.word_at.ensures in
+    c.word_at.ensures in
     let so_far = subst (λ left. Onward names first left before c.loop-place.all) left c.loop-place.invariant.onward in
     on_any_err c.from_residual-in_err-push-in-Numbers.result _
     (inputs_stop names first others after _
@@ -34,12 +34,12 @@ loop-place-preserved g c =
     let before : FilesSeen = files_seen g.F.Files.contents g.F.Files.calls g.F.Files.faults c.loop-place.files in
     let after : FilesSeen = files_seen g.F.Files.contents g.F.Files.calls g.F.Files.faults c.numbers_of.new.files in
     let left = next_named words c.args.places.now c.loop-place.place-index c.from.result _ c.word_at.result.now c.loop-place-test.true c.from.ensures
-        c.word_at.ensures in
+    c.word_at.ensures in
     let so_far = subst (λ left. Onward names first left before c.loop-place.all) left c.loop-place.invariant.onward in
     let pushed = c.in_ok-push-in-Numbers.ensures.ok in
     let counted = c.loop-place.invariant.counted in
     let on = inputs_go names first c.word_at.result.now others before after c.loop-place.all c.in_ok-numbers.field-0 so_far c.in_ok-numbers.ensures.ok
-        c.in-Numbers.numbers c.in-Numbers.is in
+    c.in-Numbers.numbers c.in-Numbers.is in
     record {
       onward = subst (Onward names first others after) (sym pushed) on;
       counted = rw (pushed, length-append c.loop-place.all (c.in-Numbers.numbers ∷ [])) (omega arith);
