@@ -25,6 +25,6 @@ module _ (d : Detail) (name source : List ℕ) (fault : FrontFault) (bad : BadTo
   bad_is_told by_token is same h made =
       let one = ap (bad_line_or_none name source) (bad_one source bad (is_bad source fault bad is h)) in
       let told : IfOk r (λ line. line ≡ refused_line detail.Token name source Grammar) =
-          if_ok r _ _ (λ line e. e ∙ ap (λ ts. bad_text name source ts bad.place) same ∙ sym one) made in
+      if_ok r _ _ (λ line e. e ∙ ap (λ ts. bad_text name source ts bad.place) same ∙ sym one) made in
       subst (λ f. IfOk r (λ line. IsSomeAnd (refused f) (λ cause. line ≡ refused_line d name source cause))) (sym is)
       (subst (λ x. IfOk r (λ line. line ≡ refused_line x name source Grammar)) (sym by_token) told)

@@ -92,7 +92,7 @@ valid_status words files (to_run t job program input e h) = subst (λ (a : Answe
     (sym (holds_shows words files t job program input e h)) (task_status t job.knobs (source_name words job) program input)
 valid_status words files (to_check job source program e there is) =
     let same = shown_by words files ∙ ap (λ r. played files (plan_of words r)) e
-        ∙ source_played files detail.Token (source_name words job) source program _ there is in
+    ∙ source_played files detail.Token (source_name words job) source program _ there is in
     inl (ap (λ (a : Answer). a.status) same)
 valid_status words files (to_show start size knobs program e is) =
     let same = shown_by words files ∙ ap (λ r. played files (plan_of words r)) e in

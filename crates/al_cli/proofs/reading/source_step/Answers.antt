@@ -24,7 +24,7 @@ pub returns-clause-ok : goal.returns-clause-ok
 returns-clause-ok g c =
     let is = subst (λ b. Fails (accepted b) (refused c.in-Err.fault)) c.as_slice.ensures c.in-Err.ensures.answer in
     let told = subst
-        (λ b. IsSomeAnd (refused c.in-Err.fault) (λ of. c.in_ok-line-in-Err.line ≡ refused_line c.args.detail c.args.name.now b of))
-        c.as_slice-in-Err.ensures c.in_ok-line-in-Err.ensures in
+    (λ b. IsSomeAnd (refused c.in-Err.fault) (λ of. c.in_ok-line-in-Err.line ≡ refused_line c.args.detail c.args.name.now b of))
+    c.as_slice-in-Err.ensures c.in_ok-line-in-Err.ensures in
     source_told c.args.detail c.args.name.now c.in-Bytes.source _ _ c.in_ok-source.field-0 c.in-Bytes.is c.in_ok-source.ensures.ok
     (refused c.in-Err.fault) c.in_ok-line-in-Err.line c.failed.result is told c.failed.ensures

@@ -1,4 +1,3 @@
-
 use Rattle.al_answers.specs.Outcome.{at_once}
 use Rattle.al_cli.specs.declared.tasks.Detail.TheVariants as detail
 use Rattle.al_cli.proofs.Comings.{if_ok, on_any_err, source_accepted, came_answer}
