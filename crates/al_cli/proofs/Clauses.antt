@@ -1,12 +1,12 @@
 -- Clauses of the top call that speak of valid words, and of refused ones.
-use Rattle.std.proofs.Common.{◌≡◌, ◌≢◌, ◌⊎◌, inl, inr, ℕ, ◌<◌, length, true, List, [], ◌∷◌, Option, None, Some, Result, Ok, Err, IfSome, IsErr, ℤ, refl, sym, ap, subst, ◌∙◌, arith, rules}
+use Rattle.std.proofs.Common.{◌≡◌, ◌≢◌, ◌⊎◌, inl, inr, ℕ, ◌<◌, length, true, List, [], ◌∷◌, Option, None, Some, Result, Ok, Err, IfSome, IsErr, ℤ, refl, ap, subst, ◌∙◌, arith, rules}
 use Rattle.al_rules.specs.Refusals.{Noted}
 use Rattle.al_front.specs.declared.fault.BadTokens.{BadTokens}
 use Rattle.al_front.specs.Places.{IsBadIn}
 use Rattle.al_io.specs.Contents.{Contents, contents_of}
 use Rattle.al_io.specs.Counts.{DidNotRise}
 use Rattle.al_answers.specs.declared.answers.Answer.{Answer}
-use Rattle.al_answers.specs.Plans.{Answers, failed}
+use Rattle.al_answers.specs.Plans.{failed}
 use Rattle.al_answers.specs.Seen.{FilesSeen, SinkSeen}
 use Rattle.al_answers.specs.Outcome.{Outcome}
 use Rattle.al_answers.specs.Written.{IsOneOf, Writes}

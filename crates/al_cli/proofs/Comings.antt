@@ -1,15 +1,14 @@
 -- What the parts of a plan come to.
-use Rattle.std.proofs.Common.{◌≡◌, ◌≢◌, ℕ, ◌+◌, ◌<◌, length, map, drop, get_or, true, false, List, [], ◌∷◌, ◌++◌, Option, None, Some, Result, Ok, Err, IfOk, OnErr, IsSomeAnd, ℤ, refl, sym, ap, subst, ◌∙◌}
+use Rattle.std.proofs.Common.{◌≡◌, ℕ, ◌+◌, ◌<◌, length, map, drop, get_or, true, false, List, [], ◌∷◌, ◌++◌, Option, None, Some, Result, Ok, Err, IfOk, OnErr, IsSomeAnd, ℤ, refl, sym, ap, subst, ◌∙◌}
 use Rattle.std.proofs.lemmas.List.{append_assoc, append-nil, drop_more}
 use Rattle.std.specs.declared.alloc.AllocError.{AllocError}
-use Rattle.al_core.specs.declared.choices.Knobs.{Knobs}
 use Rattle.al_rules.specs.Refusals.{Noted, accepted}
-use Rattle.al_report.specs.Faults.{refusal_text, input_cause_text}
+use Rattle.al_report.specs.Faults.{input_cause_text}
 use Rattle.al_rules.specs.declared.faults.Refusal.{Refusal}
 use Rattle.al_answers.specs.declared.answers.Answer.{Answer}
 use Rattle.al_answers.specs.declared.reading.FileRead.{FileRead}
 use Rattle.al_answers.specs.declared.reading.FileRead.TheVariants as file
-use Rattle.al_answers.specs.Plans.{Plan, Reads, Answers, failed}
+use Rattle.al_answers.specs.Plans.{Plan, Answers, failed}
 use Rattle.al_answers.specs.Seen.{FilesSeen, ReadsOnce, TriesOnce}
 use Rattle.al_answers.specs.Outcome.{IsBeginning, Reading, Came, planned, read_on, Starved, at_once, at_read, later}
 use Rattle.al_text.specs.declared.faults.InputCause.{InputCause}

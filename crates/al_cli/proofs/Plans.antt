@@ -1,10 +1,10 @@
 -- What holds of all answers of the plan of words.
-use Rattle.std.proofs.Common.{◌≡◌, ◌⊎◌, inl, inr, ℕ, Bool, true, false, if◌then◌else◌, nat_lt, length, List, [], ◌∷◌, codes, Option, None, Some, Result, Ok, Err, IsSomeAnd, ℤ, refl, ap, subst}
+use Rattle.std.proofs.Common.{◌≡◌, inl, inr, ℕ, Bool, true, false, if◌then◌else◌, List, [], ◌∷◌, codes, Option, None, Some, Result, Ok, Err, IsSomeAnd, ℤ, refl, ap, subst}
 use Rattle.al_core.specs.declared.reports.Ending.{Ending}
 use Rattle.al_core.specs.declared.reports.Ending.TheVariants as ending
 use Rattle.al_rules.specs.Refusals.{Noted, accepted}
 use Rattle.al_gen.specs.Generated.{source as made_source}
-use Rattle.al_report.specs.Faults.{refusal_text, input_cause_text}
+use Rattle.al_report.specs.Faults.{input_cause_text}
 use Rattle.al_rules.specs.declared.faults.Refusal.{Refusal}
 use Rattle.al_rules.specs.declared.faults.Refusal.TheVariants.{Lexical, Grammar, Layout, Types, Notes, TooManyNodes}
 use Rattle.al_front.specs.declared.fault.BadTokens.{BadTokens}
@@ -21,9 +21,8 @@ use Rattle.al_words.specs.declared.command.Job.{Job}
 use Rattle.al_words.specs.declared.command.WordFault.{WordFault}
 use Rattle.al_words.specs.Words.{command}
 use Rattle.al_words.specs.Jobs.{job_of, source_name, input_names}
-use Rattle.al_cli.specs.Lines.{word_line}
-use Rattle.al_cli.specs.Shown.{answer_of, ended, bad_line_or_none, refused_line, if_accepted, source_plan, has_loop, no_loop_line, if_numbers, input_plan, inputs_plan, after_source, job_plan, made_inputs, made_plan, plan_by, plan_of, plan, job_names, names_by, names_of}
-use Rattle.al_cli.specs.Why.{IsSource, TellsCause, IsNamed, AreNumbers, Why, words_refused, source_refused, token_bad, no_loop, input_refused, all_done, made_done}
+use Rattle.al_cli.specs.Shown.{answer_of, ended, bad_line_or_none, refused_line, if_accepted, source_plan, has_loop, no_loop_line, if_numbers, input_plan, inputs_plan, after_source, made_inputs, made_plan, plan_by, plan_of, plan, job_names, names_by, names_of}
+use Rattle.al_cli.specs.Why.{IsNamed, AreNumbers, Why, words_refused, source_refused, token_bad, no_loop, input_refused, all_done, made_done}
 
 -- ---- parts of plans
 

@@ -1,17 +1,17 @@
 -- What valid words show.
-use Rattle.std.proofs.Common.{◌≡◌, ◌⊎◌, inl, inr, ℕ, ◌<◌, ◌≤◌, Bool, true, false, nat_lt, nat_le, List, [], ◌∷◌, length, take, codes, Option, None, Some, Result, Ok, Err, IfSome, ℤ, refl, sym, ap, subst, ◌∙◌, arith, rules}
+use Rattle.std.proofs.Common.{◌≡◌, ◌⊎◌, inl, inr, ℕ, ◌<◌, ◌≤◌, true, false, nat_lt, nat_le, List, [], ◌∷◌, length, take, codes, Option, None, Some, Ok, Err, ℤ, refl, sym, ap, subst, ◌∙◌, arith, rules}
 use Rattle.std.proofs.lemmas.List.{take_all, length-take}
 use Rattle.al_source.specs.declared.limits.TheConstants.{SOURCE_BYTES, INPUT_BYTES}
 use Rattle.al_rules.specs.Refusals.{Noted, accepted}
 use Rattle.al_io.specs.Contents.{Contents, contents_of}
-use Rattle.al_rules.specs.declared.faults.Refusal.TheVariants.{Lexical, Grammar}
+use Rattle.al_rules.specs.declared.faults.Refusal.TheVariants.{Lexical}
 use Rattle.al_rules.specs.declared.faults.LexicalCause.TheVariants as lex
 use Rattle.al_front.specs.declared.fault.BadTokens.{BadTokens}
-use Rattle.al_front.specs.Places.{IsBadIn, bad_tokens}
+use Rattle.al_front.specs.Places.{IsBadIn}
 use Rattle.al_front.proofs.Places.{bad_one, bad_refused}
 use Rattle.al_answers.specs.declared.answers.Answer.{Answer}
 use Rattle.al_answers.specs.Plans.{Plan, Answers, failed, played}
-use Rattle.al_answers.specs.Written.{IsOneOf, Writes}
+use Rattle.al_answers.specs.Written.{IsOneOf}
 use Rattle.al_text.specs.declared.faults.InputCause.TheVariants.{TooLong}
 use Rattle.al_text.specs.Numbers.{numbers_of}
 use Rattle.al_words.specs.declared.command.Command.{Command}

@@ -1,5 +1,5 @@
 -- What valid words do, said by itself.
-use Rattle.std.specs.Prelude.{⊤, ◌≡◌, ℕ, true, List, [], ◌∷◌, Option, Some, None, Ok, ℤ}
+use Rattle.std.specs.Prelude.{⊤, ◌≡◌, ℕ, true, List, [], ◌∷◌, Some, None, Ok, ℤ}
 use Rattle.al_rules.specs.Refusals.{Noted, accepted}
 use Rattle.al_gen.specs.Generated.{source as made_source}
 use Rattle.al_io.specs.Contents.{Contents, contents_of}

@@ -1,5 +1,5 @@
 -- The lines of refused words.
-use Rattle.std.specs.Prelude.{ℕ, ◌+◌, List, [], ◌∷◌, ◌++◌, codes}
+use Rattle.std.specs.Prelude.{ℕ, ◌+◌, List, [], ◌++◌, codes}
 use Rattle.al_words.specs.declared.command.WordFault.{WordFault}
 use Rattle.al_words.specs.declared.command.WordFault.TheVariants.{NoCommand, BadCommand, Unknown, Repeated, NoValue, BadValue, Names, BadNumber}
 use Rattle.al_words.specs.Words.{word_at}

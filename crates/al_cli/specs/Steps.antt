@@ -1,6 +1,6 @@
 -- A part of a plan: what it gives, and that whatever comes next comes of the whole.
-use Rattle.std.specs.Prelude.{⊤, ◌≡◌, ℕ, List, length, Ok, ℤ}
-use Rattle.al_rules.specs.Refusals.{Noted, accepted}
+use Rattle.std.specs.Prelude.{⊤, ◌≡◌, ℕ, List, length, Ok}
+use Rattle.al_rules.specs.Refusals.{accepted}
 use Rattle.al_answers.specs.declared.answers.Answer.{Answer}
 use Rattle.al_answers.specs.Plans.{Plan}
 use Rattle.al_answers.specs.Seen.{FilesSeen}

@@ -1,8 +1,7 @@
 -- At most 80 choices are tried.
-use Rattle.std.proofs.Common.{◌≡◌, ◌≤◌, ◌+◌, ◌*◌, ℕ, suc, List, [], ◌∷◌, ◌++◌, Option, Some, None, length, map, take, min, Result, Ok, Err, IfOk, refl, ap, subst, sym, ◌∙◌, arith, rules}
+use Rattle.std.proofs.Common.{◌≡◌, ◌≤◌, ◌+◌, ◌*◌, ℕ, suc, List, [], ◌∷◌, Option, Some, None, length, map, take, min, Result, Ok, Err, IfOk, refl, ◌∙◌, arith}
 use Rattle.std.proofs.lemmas.List.{length-append, length-map, length-take}
 use Rattle.std.specs.List.{flat_map, filter_map}
-use Rattle.al_source.specs.declared.limits.TheConstants.{TRIED_REDUCTIONS}
 use Rattle.al_core.specs.declared.choices.Choice.{Choice}
 use Rattle.al_core.specs.declared.choices.LoopInfo.{LoopInfo}
 use Rattle.al_core.specs.declared.choices.Red.{Red}

@@ -1,5 +1,5 @@
 -- The search for annotations of a program's loop: what its trials tell, and the text of its table.
-use Rattle.std.specs.Prelude.{ℕ, List, [], ◌∷◌, map, length, Option, Some, None, slice_get, slice_set, unwrap_or, ℤ}
+use Rattle.std.specs.Prelude.{ℕ, List, [], map, length, Option, Some, None, slice_get, slice_set, unwrap_or, ℤ}
 use Rattle.al_core.specs.declared.choices.Choice.{Choice}
 use Rattle.al_core.specs.declared.choices.Knobs.{Knobs}
 use Rattle.al_core.specs.declared.choices.LoopInfo.{LoopInfo}

@@ -19,7 +19,7 @@ use Rattle.al_words.specs.declared.verb.Verb.TheVariants as verb
 use Rattle.al_words.specs.declared.walk.Waiting.{Waiting}
 use Rattle.al_words.specs.declared.walk.Walk.{Walk}
 use Rattle.al_words.specs.Words.{within, number_in, value_of, taken, takes_number, least, greatest, give, knobs_of, begin, valued, optioned, named, step_by, step, walked, word_at, place, with_size, with_start, asked, job_of, ended, after_walk, by_verb, command, verb_of, takes, loop_of, given_to, knob_for}
-use Rattle.al_words.specs.Ranges.{HasRanges, IsJob}
+use Rattle.al_words.specs.Ranges.{HasRanges}
 
 abbrev IsIn : ℕ → ℕ → ℕ → Type 0
 IsIn least most n = (least ≤ n) × (n ≤ most)

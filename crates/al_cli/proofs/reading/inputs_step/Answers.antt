@@ -1,4 +1,4 @@
-use Rattle.std.proofs.Common.{◌≡◌, ◌∷◌, [], ℕ, List, ap, sym, map, drop, ◌+◌, string_bytes, subst, length, arith}
+use Rattle.std.proofs.Common.{◌∷◌, [], ℕ, List, ap, sym, map, drop, ◌+◌, string_bytes, subst, length, arith}
 use Rattle.std.proofs.lemmas.List.{length-append}
 use Rattle.al_answers.specs.Seen.{FilesSeen, files_seen}
 use Rattle.al_words.specs.Words.{word_at}

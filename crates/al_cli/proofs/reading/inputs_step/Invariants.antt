@@ -1,4 +1,4 @@
-use Rattle.std.proofs.Common.{◌≡◌, List, length, map, drop, string_bytes}
+use Rattle.std.proofs.Common.{◌≡◌, length, map, drop, string_bytes}
 use Rattle.al_answers.specs.Seen.{files_seen}
 use Rattle.al_words.specs.Words.{word_at}
 use Rattle.al_cli.proofs.Onward.{Onward}

@@ -1,4 +1,4 @@
-use Rattle.std.proofs.Common.{◌≡◌, sym}
+use Rattle.std.proofs.Common.{sym}
 use Rattle.al_answers.specs.Outcome.{at_once}
 use Rattle.al_cli.proofs.Comings.{on_any_err, lacks_loop, inputs_done, inputs_starved}
 use Rattle.al_cli.proofs.serving.accepted_answer.Goals as goal
