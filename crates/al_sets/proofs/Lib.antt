@@ -1,4 +1,5 @@
 pub mod Truth
+pub mod Cleared
 pub mod Placing
 pub mod Found
 pub mod Edits

@@ -9,23 +9,21 @@ ghost use Rattle.al_interpreter.specs.Faults.{stopped};
 ghost use Rattle.al_interpreter.specs.Stages.{is_outside};
 
 use al_core::{Addr, Kind, Obj, Val, View, ViewFault};
-use al_heap::Store;
 use al_interpreter::ground::Ground;
 use al_interpreter::stage::Stage;
 use al_interpreter::{Fault, Setting};
 use al_plain::content::Content;
-use al_snap::Snap;
 use sqlite_items::Items;
 use std::alloc::{AllocError, Global};
 use std::marker::Model;
 
-/// The world of an iteration in a chunk.
+/// The world of an iteration, over a view of a chunk.
 #[derive(Drop)]
-pub struct InChunk<'a, S: Store> {
-    pub snap: Snap<'a, S>,
+pub struct InChunk<V: View> {
+    pub view: V,
 }
 
-impl<'a, S: Store> Model for InChunk<'a, S> {
+impl<V: View> Model for InChunk<V> {
     ghost use Rattle.al_core.specs.Access.{Content};
     ghost use Rattle.al_plain.specs.Codes.{content_code};
 
@@ -33,32 +31,32 @@ impl<'a, S: Store> Model for InChunk<'a, S> {
 
     ghost coded = { content_code };
 
-    ghost view = { λ c. ⟦<Snap<'a, S> as View>⟧.content c.snap };
+    ghost view = { λ c. V.content c.view };
 }
 
-impl<'a, S: Store> Ground for InChunk<'a, S> {
+impl<V: View> Ground for InChunk<V> {
     ghost world = { λ g. in_iteration };
 
     ghost place = { Inside };
 
     fn load(&mut self, _on: &Setting<'_>, at: Addr, want: Kind) -> Result<Val, ViewFault> {
-        self.snap.load(at, want)
+        self.view.load(at, want)
     }
 
     fn store(&mut self, _on: &Setting<'_>, at: Addr, val: Val) -> Result<(), ViewFault> {
-        self.snap.store(at, val)
+        self.view.store(at, val)
     }
 
     fn make(&mut self, _on: &Setting<'_>, words: u32) -> Result<Obj, ViewFault> {
-        self.snap.make(words)
+        self.view.make(words)
     }
 
     fn free(&mut self, _on: &Setting<'_>, obj: Obj, at: u32) -> Result<(), ViewFault> {
-        self.snap.free(obj, at)
+        self.view.free(obj, at)
     }
 
     fn print(&mut self, _on: &Setting<'_>, bytes: &[u8]) -> Result<(), AllocError> {
-        self.snap.print(bytes)
+        self.view.print(bytes)
     }
 
     fn visit(
@@ -74,7 +72,7 @@ impl<'a, S: Store> Ground for InChunk<'a, S> {
     }
 }
 
-impl<'a, S: Store> Stage for InChunk<'a, S> {
+impl<V: View> Stage for InChunk<V> {
     fn is_outside(&self) -> bool {
         false
     }

@@ -59,12 +59,12 @@ fn run_chunk<S: Store>(
         };
         let frame = Frame::new(zeros(alloc, x.looped.locals)?, own);
         let budget = x.on.knobs.iter_steps;
-        let mut m = Machine::new(frame, Budget::new(budget), InChunk { snap });
+        let mut m = Machine::new(frame, Budget::new(budget), InChunk { view: snap });
         let n = x.lo.wrapping_add(j as i64);
         let (counter, line) = (x.looped.counter, x.looped.note.line);
         let done = iterate(alloc, &x.on, &mut m, counter, line, x.looped.body, n);
         steps = steps.wrapping_add(budget.wrapping_sub(m.left()));
-        snap = m.into_ground().snap;
+        snap = m.into_ground().view;
         match done {
             Ok(()) => {}
             Err(Fault::Trap(t, line)) => ending = Ending::Trap(t, line),
