@@ -7,3 +7,4 @@ pub mod Meeting
 pub mod Lining
 pub mod MemberLemmas
 pub mod RowLemmas
+pub mod Taken

@@ -6,5 +6,5 @@ pub returns-then-m-i-gt0-clause-found : goal.returns-then-m-i-gt0-clause-found
 returns-then-m-i-gt0-clause-found c = (
   omega (arith, c.lowest_one.ensures.within, c.loop-i-test.true),
   set_at c.args.m.now c.loop-i.i _ 0 (omega (arith, c.loop-i-test.true, c.told-m)) refl c.lowest_one.result
-  c.lowest_one.ensures.within c.lowest_one.ensures.one,
+      c.lowest_one.ensures.within c.lowest_one.ensures.one,
 )
