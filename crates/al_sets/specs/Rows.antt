@@ -31,11 +31,11 @@ value_in (b ∷ bs) (row ∷ rows) a =
     if block_has a b then Some (value_in_row row (offset_of a)) else value_in bs rows a
 
 -- blocks with their rows, and what is left of them without the last that have no address
-pub record IsTrimmed (bs : List Block) (rows : List (List Val)) (cs : List Block) (more : List (List Val)) : Type 0 where
+pub record IsTrimmed (bs : List Block) (rows : List (List Val)) (cs : List Block) (new : List (List Val)) : Type 0 where
   pub ascending : IsAscending cs
-  pub long : length more ≡ length cs
+  pub long : length new ≡ length cs
   pub places : ArePlaces cs
-  pub values : (a : Addr) → value_in cs more a ≡ value_in bs rows a
+  pub values : (a : Addr) → value_in cs new a ≡ value_in bs rows a
 
 -- the last block has an address at an offset
 pub record HasLast (bs : List Block) (n : ℕ) : Type 0 where
