@@ -15,6 +15,7 @@ const WORDS: u32 = 4096;
 
 // The loads and stores of a chunk, and how many chunks there are.
 const STEPS: u32 = 4096;
+
 const CHUNKS: u32 = 500;
 
 // The chunks that do nothing.
