@@ -14,8 +14,8 @@ use Rattle.al_core.specs.Orders.{addr_cmp, addr_eq}
 use Rattle.al_laws.proofs.Orders.{addr_total}
 use Rattle.al_planes.specs.Masks.{bit_in}
 use Rattle.al_sets.specs.declared.blocks.Block.{Block}
-use Rattle.al_sets.specs.Places.{place_of, offset_of}
-use Rattle.al_sets.specs.Blocks.{IsAscending, IsAt, IsGapFor, block_has, has_address}
+use Rattle.al_sets.specs.Places.{place_of, offset_of, is_place}
+use Rattle.al_sets.specs.Blocks.{IsAscending, ArePlaces, IsAt, IsGapFor, block_has, has_address}
 use Rattle.al_sets.proofs.Truth.{any_set, any_insert}
 use Rattle.al_sets.proofs.Placing.{by_place}
 
@@ -108,6 +108,9 @@ module _ (bs : List Block) (p : Addr) (i : ℕ) (x : Block) (place : x.place ≡
       let long : length (slice_set bs i x) ≡ length bs = length-set bs i x in
       (λ t. addr_cmp (same_place at j d t) (same_place at k d t)) ∙ up j k d lt (omega arith)
 
+  pub places_set : IsAt bs p i → ArePlaces bs → ArePlaces (slice_set bs i x)
+  places_set at all k d h = ap is_place (same_place at k d) ∙ all k d (omega (arith, length-set bs i x, h))
+
   module _ (gap : IsGapFor bs p i) where
     at_below : (k : ℕ) (d : Block) → k < i → (get_or (insert bs i x) k d).place ≡ (get_or bs k d).place
     at_below k d lt = ap (λ (b : Block). b.place) (get_or-insert_below bs i x d k lt gap.in_range)
@@ -157,5 +160,24 @@ module _ (bs : List Block) (p : Addr) (i : ℕ) (x : Block) (place : x.place ≡
                   (λ t. addr_cmp (at_below j d low t) (at_above k d high t)) ∙ up j k d (omega arith) (omega arith)
               | inr le ↦ from j k d le lt (omega arith) high up
             ]
+          ]
+        ]
+
+    pub places_inserted : is_place p ≡ true → ArePlaces bs → ArePlaces (insert bs i x)
+    places_inserted one all zero d h = elim (eqb_tells 0 i) [
+      | inl s ↦ ap is_place (at_it 0 d s.1) ∙ one
+      | inr u ↦
+          let n : 0 ≢ i = u.1 in
+          ap is_place (at_below 0 d (omega arith)) ∙ all 0 d (omega (arith, gap.in_range))
+    ]
+    places_inserted one all (suc k) d h =
+        let long : length (insert bs i x) ≡ length bs + 1 = length-insert bs i x gap.in_range in
+        elim (cases_lt (suc k) i) [
+          | inl low ↦ ap is_place (at_below (suc k) d low) ∙ all (suc k) d (omega (arith, gap.in_range))
+          | inr le ↦ elim (eqb_tells (suc k) i) [
+            | inl s ↦ ap is_place (at_it (suc k) d s.1) ∙ one
+            | inr u ↦
+                let n : suc k ≢ i = u.1 in
+                ap is_place (at_above k d (omega arith)) ∙ all k d (omega arith)
           ]
         ]

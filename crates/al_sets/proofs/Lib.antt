@@ -1,4 +1,5 @@
 pub mod Truth
+pub mod Cleared
 pub mod Placing
 pub mod Found
 pub mod Edits
@@ -6,3 +7,4 @@ pub mod Meeting
 pub mod Lining
 pub mod MemberLemmas
 pub mod RowLemmas
+pub mod Taken

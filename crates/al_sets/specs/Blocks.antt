@@ -7,13 +7,17 @@ use Rattle.al_core.specs.Orders.{addr_cmp, addr_eq}
 use Rattle.al_core.specs.Lines.{line_of}
 use Rattle.al_planes.specs.Masks.{bit_in}
 use Rattle.al_sets.specs.declared.blocks.Block.{Block}
-use Rattle.al_sets.specs.Places.{place_of, offset_of, address_at}
+use Rattle.al_sets.specs.Places.{place_of, offset_of, address_at, is_place}
 
 -- each place is below those after it
 abbrev pub IsAscending : List Block → Type 0
 IsAscending bs =
     (i j : ℕ) (d : Block) → i < j → j < length bs
     → addr_cmp (slice_index_or bs i d).place (slice_index_or bs j d).place ≡ Less
+
+-- the addresses of each have 32 bits
+abbrev pub ArePlaces : List Block → Type 0
+ArePlaces bs = (i : ℕ) (d : Block) → i < length bs → is_place (slice_index_or bs i d).place ≡ true
 
 -- the block at i is that of the place
 pub record IsAt (bs : List Block) (p : Addr) (i : ℕ) : Type 0 where

@@ -1,6 +1,6 @@
 -- Blocks of 512 addresses: words of an object, heads of objects whose names differ in their last number alone, or
 -- locals. A block has a place, which is written as an address.
-use Rattle.std.specs.Prelude.{ℕ, ◌+◌, ◌*◌, ◌/◌, ◌%◌}
+use Rattle.std.specs.Prelude.{ℕ, ◌+◌, ◌*◌, ◌/◌, ◌%◌, Bool, nat_lt}
 use Rattle.al_core.specs.declared.values.Obj.{Obj}
 use Rattle.al_core.specs.declared.values.Obj.TheVariants.{Global, Serial, Iter}
 use Rattle.al_core.specs.declared.values.Addr.{Addr}
@@ -35,3 +35,9 @@ abbrev pub address_at : Addr → ℕ → Addr
 address_at (Word o p) n = Word o (p * 512 + n)
 address_at (Head o) n = Head (renumbered o (number_of o * 512 + n))
 address_at (Local p) n = Local (p * 512 + n)
+
+-- whether the numbers of a block's addresses have 32 bits
+abbrev pub is_place : Addr → Bool
+is_place (Word o p) = nat_lt p 8388608
+is_place (Head o) = nat_lt (number_of o) 8388608
+is_place (Local p) = nat_lt p 8388608

@@ -1,5 +1,5 @@
 -- The values of the addresses of blocks, a row for each block.
-use Rattle.std.specs.Prelude.{◌≡◌, ℕ, ◌==◌, if◌then◌else◌, List, [], ◌∷◌, ◌++◌, map, slice_index_or, Option, Some, None, pos}
+use Rattle.std.specs.Prelude.{◌≡◌, ℕ, ◌-◌, ◌<◌, true, ◌==◌, if◌then◌else◌, List, [], ◌∷◌, ◌++◌, length, map, slice_index_or, Option, Some, None, pos}
 use Rattle.std.specs.Coded.{Coded, coded_list}
 use Rattle.std.specs.FinMap as map
 use Rattle.std.specs.FinMap.{FinMap}
@@ -12,7 +12,7 @@ use Rattle.al_core.specs.Orders.{addr_cmp}
 use Rattle.al_planes.specs.Masks.{bit_in}
 use Rattle.al_sets.specs.declared.blocks.Block.{Block}
 use Rattle.al_sets.specs.Places.{offset_of, address_at}
-use Rattle.al_sets.specs.Blocks.{block_has}
+use Rattle.al_sets.specs.Blocks.{IsAscending, ArePlaces, block_has}
 use Rattle.al_sets.specs.Members.{passing}
 
 -- the value at an offset; past the end it is 0
@@ -29,6 +29,19 @@ value_in [] rows a = None
 value_in (b ∷ bs) [] a = None
 value_in (b ∷ bs) (row ∷ rows) a =
     if block_has a b then Some (value_in_row row (offset_of a)) else value_in bs rows a
+
+-- blocks with their rows, and what is left of them without the last that have no address
+pub record IsTrimmed (bs : List Block) (rows : List (List Val)) (cs : List Block) (new : List (List Val)) : Type 0 where
+  pub ascending : IsAscending cs
+  pub long : length new ≡ length cs
+  pub places : ArePlaces cs
+  pub values : (a : Addr) → value_in cs new a ≡ value_in bs rows a
+
+-- the last block has an address at an offset
+pub record HasLast (bs : List Block) (n : ℕ) : Type 0 where
+  pub there : 0 < length bs
+  pub within : n < 512
+  pub one : (d : Block) → bit_in (slice_index_or bs (length bs - 1) d).masks n ≡ true
 
 abbrev pub row_entries : Block → List Val → List (Addr × Val)
 row_entries b row = map (λ n. (address_at b.place n, value_in_row row n)) (passing (bit_in b.masks) 512)

@@ -4,7 +4,7 @@ ghost use Rattle.al_core.specs.declared.values.Addr.{Addr};
 ghost use Rattle.al_core.specs.Orders.{addr_eq};
 ghost use Rattle.al_planes.specs.Masks.{bit_in};
 ghost use Rattle.al_planes.specs.Lines.{size};
-ghost use Rattle.al_sets.specs.Places.{place_of, offset_of};
+ghost use Rattle.al_sets.specs.Places.{place_of, offset_of, is_place};
 ghost use Rattle.al_sets.specs.Blocks.{IsAscending, IsAt, IsGapFor, CommonAddress, CommonOffsets, CommonLine, block_has, has_address};
 
 use crate::places::{offset, place};
@@ -42,6 +42,7 @@ pub(crate) fn has(blocks: &[Block], at: Addr) -> bool
 /// A block with one address.
 pub(crate) fn single(at: Addr) -> Block
     ensures place { result.place ≡ place_of at }
+    ensures fits { is_place (place_of at) ≡ true }
     ensures bits { (j : ℕ) → bit_in result.masks j ≡ (j == offset_of at) }
 {
     let mut masks = [0; 8];

@@ -1,6 +1,7 @@
 //! Sets of addresses and maps from addresses to values, in blocks of 512.
 #![tactic(auto)]
 
+mod bits;
 mod blocks;
 mod maps;
 mod places;

@@ -1,13 +1,15 @@
-ghost use Rattle.std.specs.Prelude.{◌≡◌, ℕ, ◌==◌, if◌then◌else◌, [], Some, OnOk, OnErr, length};
+ghost use Rattle.std.specs.Prelude.{◌≡◌, ℕ, true, ◌==◌, ◌<◌, if◌then◌else◌, [], Some, None, IfSome, IfNone, OnOk, OnErr, length, slice_index_or};
 ghost use Rattle.al_core.specs.declared.values.Addr.{Addr};
 ghost use Rattle.al_core.specs.Orders.{addr_eq};
 ghost use Rattle.al_sets.specs.Places.{place_of, offset_of};
-ghost use Rattle.al_sets.specs.Blocks.{IsAscending, IsAt, IsGapFor};
-ghost use Rattle.al_sets.specs.Rows.{IsSingle, value_in_row, value_in};
+ghost use Rattle.al_sets.specs.Blocks.{IsAscending, ArePlaces, IsAt, IsGapFor};
+ghost use Rattle.al_planes.specs.Masks.{bit_in};
+ghost use Rattle.al_sets.specs.Rows.{IsSingle, IsTrimmed, HasLast, value_in_row, value_in};
 ghost use Rattle.std.specs.FinMap as map;
 
+use crate::bits::{clear_bit, first_bit};
 use crate::blocks::{Block, search, single};
-use crate::places::{offset, place};
+use crate::places::{address, offset, place};
 use crate::rows::Row;
 use al_core::Addr;
 use al_planes::{has_bit, set_bit};
@@ -28,7 +30,7 @@ impl Model for AddrMap {
     ghost use Rattle.std.specs.FinMap.{FinMap};
     ghost use Rattle.al_core.specs.declared.values.Val.{Val};
     ghost use Rattle.al_core.specs.Orders.{addr_cmp};
-    ghost use Rattle.al_sets.specs.Blocks.{IsAscending};
+    ghost use Rattle.al_sets.specs.Blocks.{IsAscending, ArePlaces};
     ghost use Rattle.al_sets.specs.Rows.{values_of, values_code};
 
     ghost Value = { FinMap addr_cmp Val };
@@ -37,7 +39,8 @@ impl Model for AddrMap {
 
     ghost view = { λ m. values_of m.blocks.items m.rows.items };
 
-    ghost invariant = { λ m. IsAscending m.blocks.items × (length m.rows.items ≡ length m.blocks.items) };
+    ghost invariant = { λ m.
+        IsAscending m.blocks.items × (length m.rows.items ≡ length m.blocks.items) × ArePlaces m.blocks.items };
 }
 
 /// Puts a value into the block at i, which is that of the address. After want of memory the values are as before.
@@ -50,9 +53,11 @@ fn put(
 ) -> Result<(), AllocError>
     requires ascending { IsAscending blocks.old.items }
     requires long { length rows.old.items ≡ length blocks.old.items }
+    requires places { ArePlaces blocks.old.items }
     requires here { IsAt blocks.old.items (place_of at) i }
     ensures ascending { IsAscending blocks.new.items }
     ensures long { length rows.new.items ≡ length blocks.new.items }
+    ensures places { ArePlaces blocks.new.items }
     ensures values { OnOk result
         ((a : Addr)
         → value_in blocks.new.items rows.new.items a
@@ -76,10 +81,12 @@ fn add(
 ) -> Result<(), AllocError>
     requires ascending { IsAscending blocks.old.items }
     requires long { length rows.old.items ≡ length blocks.old.items }
+    requires places { ArePlaces blocks.old.items }
     requires gap { IsGapFor blocks.old.items (place_of at) i }
     requires one { IsSingle row (offset_of at) }
     ensures ascending { IsAscending blocks.new.items }
     ensures long { length rows.new.items ≡ length blocks.new.items }
+    ensures places { ArePlaces blocks.new.items }
     ensures values { OnOk result
         ((a : Addr)
         → value_in blocks.new.items rows.new.items a
@@ -94,6 +101,47 @@ fn add(
     let done = rows.insert(i, row);
     prove!(done.is_ok());
     Ok(())
+}
+
+/// Drops the last blocks that have no address, and answers the lowest offset in the last block that is left.
+fn trim(blocks: &mut Vec<Block>, rows: &mut Vec<Row>) -> Option<usize>
+    requires ascending { IsAscending blocks.old.items }
+    requires long { length rows.old.items ≡ length blocks.old.items }
+    requires places { ArePlaces blocks.old.items }
+    ensures kept { IsTrimmed blocks.old.items rows.old.items blocks.new.items rows.new.items }
+    ensures found { IfSome result (λ n. HasLast blocks.new.items n) }
+    ensures none { IfNone result (blocks.new.items ≡ []) }
+{
+    while blocks.len() > 0 {
+        let last = blocks.len() - 1;
+        if let Some(n) = first_bit(&blocks[last].masks) {
+            return Some(n);
+        }
+        blocks.pop();
+        rows.pop();
+    }
+    None
+}
+
+/// Takes out the value at an offset of the block at i.
+fn take(blocks: &mut Vec<Block>, rows: &[Row], i: usize, n: usize) -> (Addr, PackedValue)
+    requires ascending { IsAscending blocks.old.items }
+    requires long { length rows.now ≡ length blocks.old.items }
+    requires places { ArePlaces blocks.old.items }
+    requires there { i < length blocks.old.items }
+    requires within { n < 512 }
+    requires one { (d : Block) → bit_in (slice_index_or blocks.old.items i d).masks n ≡ true }
+    ensures ascending { IsAscending blocks.new.items }
+    ensures long { length rows.now ≡ length blocks.new.items }
+    ensures places { ArePlaces blocks.new.items }
+    ensures found { value_in blocks.old.items rows.now result.0 ≡ Some result.1 }
+    ensures rest { (a : Addr)
+        → value_in blocks.new.items rows.now a
+        ≡ (if addr_eq a result.0 then None else value_in blocks.old.items rows.now a) }
+{
+    let at = address(blocks[i].place, n);
+    clear_bit(&mut blocks[i].masks, n);
+    (at, rows[i].value(n))
 }
 
 impl AddrMap {
@@ -139,6 +187,21 @@ impl AddrMap {
         }
         Ok(())
     }
+
+    /// Takes out an address with its value, where there is one. It takes no memory.
+    pub fn pop(&mut self) -> Option<(Addr, PackedValue)>
+        ensures some { IfSome result
+            (λ e. (map.get self.old e.0 ≡ Some e.1) × (self.new ≡ map.remove self.old e.0)) }
+        ensures none { IfNone result ((self.old ≡ map.empty) × (self.new ≡ map.empty)) }
+    {
+        match trim(&mut self.blocks, &mut self.rows) {
+            Some(n) => {
+                let last = self.blocks.len() - 1;
+                Some(take(&mut self.blocks, self.rows.as_slice(), last, n))
+            }
+            None => None,
+        }
+    }
 }
 
 #[cfg(test)]
@@ -175,6 +238,11 @@ mod tests {
         for (at, n) in &plain {
             assert_eq!(rt; int(map.get(*at)), Some(*n));
         }
+        while let Some((at, v)) = map.pop() {
+            assert_eq!(rt; plain.remove(&at), v.int());
+            assert_eq!(rt; int(map.get(at)), None);
+        }
+        assert_eq!(rt; plain.len(), 0);
         Ok(())
     }
 }

@@ -1,5 +1,5 @@
-ghost use Rattle.std.specs.Prelude.{◌≡◌, ◌<◌, ◌/◌, ◌%◌};
-ghost use Rattle.al_sets.specs.Places.{number_of, renumbered, place_of, offset_of};
+ghost use Rattle.std.specs.Prelude.{◌≡◌, true, ◌<◌, ◌/◌, ◌%◌};
+ghost use Rattle.al_sets.specs.Places.{number_of, renumbered, place_of, offset_of, address_at, is_place};
 
 use al_core::{Addr, Obj};
 
@@ -25,12 +25,26 @@ fn renumber(obj: Obj, number: u32) -> Obj
 
 /// The place of the block that an address is in.
 pub(crate) fn place(at: Addr) -> Addr
-    ensures { result ≡ place_of at }
+    ensures exact { result ≡ place_of at }
+    ensures fits { is_place (place_of at) ≡ true }
 {
     match at {
         Addr::Word(obj, w) => Addr::Word(obj, w / 512),
         Addr::Head(obj) => Addr::Head(renumber(obj, last_number(obj) / 512)),
         Addr::Local(k) => Addr::Local(k / 512),
+    }
+}
+
+/// The address at an offset of the block of a place.
+pub(crate) fn address(place: Addr, n: usize) -> Addr
+    requires place { is_place place ≡ true }
+    requires within { n < 512 }
+    ensures { result ≡ address_at place n }
+{
+    match place {
+        Addr::Word(obj, p) => Addr::Word(obj, p * 512 + n as u32),
+        Addr::Head(obj) => Addr::Head(renumber(obj, last_number(obj) * 512 + n as u32)),
+        Addr::Local(p) => Addr::Local(p * 512 + n as u32),
     }
 }
 

@@ -149,7 +149,7 @@ fn word_is_read_and_then_written(rt: HostRuntime) -> Result<(), Fail> {
     Ok(())
 }
 
-/// A made object larger than a page is written at both ends of its pages, freed, and its words are gone.
+/// A made object larger than a page holds what is written at both ends of its pages, and else 0.
 fn large_object<S: Store, R: AllocGlobal + Abort>(rt: &R, store: &S) -> Result<(), ViewFault> {
     let mut snap = Snap::begin(rt.alloc(), store, Names::iteration(0, 0), &[])?;
     let obj = snap.make(4096)?;
@@ -158,33 +158,48 @@ fn large_object<S: Store, R: AllocGlobal + Abort>(rt: &R, store: &S) -> Result<(
         snap.store(Addr::Word(obj, w), Val::Int(i64::from(w)))?;
     }
     for w in ends {
-        assert_eq!(rt;
-            snap.load(Addr::Word(obj, w), Kind::Int),
-            Ok(Val::Int(i64::from(w)))
-        );
+        let v = snap.load(Addr::Word(obj, w), Kind::Int)?;
+        assert_eq!(rt; v, Val::Int(i64::from(w)));
     }
-    assert_eq!(rt; snap.load(Addr::Word(obj, 1), Kind::Int), Ok(Val::Int(0)));
-    assert_eq!(rt;
-        snap.store(Addr::Word(obj, 4096), Val::Int(1)),
-        Err(ViewFault::Trap(Trap::Bounds))
-    );
-    let again = snap.make(1)?;
-    snap.store(Addr::Word(again, 0), Val::Int(5))?;
-    snap.free(again, 0)?;
-    let gone = Err(ViewFault::Trap(Trap::Missing));
-    assert_eq!(rt; snap.load(Addr::Word(again, 0), Kind::Int), gone);
-    assert_eq!(rt; snap.free(again, 0), Err(ViewFault::Trap(Trap::Freed)));
-    let base = Obj::Serial(0);
-    snap.store(Addr::Word(base, 1), Val::Int(6))?;
-    snap.free(base, 0)?;
-    assert_eq!(rt; snap.load(Addr::Word(base, 1), Kind::Int), gone);
+    assert_eq!(rt; snap.load(Addr::Word(obj, 1), Kind::Int)?, Val::Int(0));
+    let outside = snap.store(Addr::Word(obj, 4096), Val::Int(1));
+    assert_eq!(rt; outside, Err(ViewFault::Trap(Trap::Bounds)));
     let change = snap.into_change(Ending::Done, 0);
-    assert!(rt; change.touched.has(&Addr::Head(obj)) && change.touched.has(&Addr::Head(again)));
-    assert!(rt; !change.touched.has(&Addr::Word(obj, 0)) && !change.reads.has(&Addr::Head(obj)));
-    assert!(rt; change.touched.has(&Addr::Word(base, 1)) && change.touched.has(&Addr::Head(base)));
+    assert!(rt; change.touched.has(&Addr::Head(obj)) && !change.touched.has(&Addr::Word(obj, 0)));
     assert_eq!(rt; change.made.get(obj).map(|words| words.len()), Some(4096));
-    assert!(rt; change.made.get(again).is_none());
-    assert_eq!(rt; change.freed.as_slice(), [base].as_slice());
+    Ok(())
+}
+
+/// An own object that is freed is gone, and nothing but its head is recorded.
+fn own_object_freed<S: Store, R: AllocGlobal + Abort>(rt: &R, store: &S) -> Result<(), ViewFault> {
+    let mut snap = Snap::begin(rt.alloc(), store, Names::iteration(0, 0), &[])?;
+    let obj = snap.make(1)?;
+    snap.store(Addr::Word(obj, 0), Val::Int(5))?;
+    snap.free(obj, 0)?;
+    let gone = snap.load(Addr::Word(obj, 0), Kind::Int);
+    assert_eq!(rt; gone, Err(ViewFault::Trap(Trap::Missing)));
+    assert_eq!(rt; snap.free(obj, 0), Err(ViewFault::Trap(Trap::Freed)));
+    let change = snap.into_change(Ending::Done, 0);
+    assert!(rt; change.touched.has(&Addr::Head(obj)) && !change.reads.has(&Addr::Head(obj)));
+    assert!(rt; change.made.get(obj).is_none());
+    assert_eq!(rt; change.freed.len(), 0);
+    Ok(())
+}
+
+/// An object of the store that is freed is gone, and its word stays written.
+fn object_below_freed<S: Store, R: AllocGlobal + Abort>(
+    rt: &R,
+    store: &S,
+) -> Result<(), ViewFault> {
+    let mut snap = Snap::begin(rt.alloc(), store, Names::iteration(0, 0), &[])?;
+    let (obj, at) = (Obj::Serial(0), Addr::Word(Obj::Serial(0), 1));
+    snap.store(at, Val::Int(6))?;
+    snap.free(obj, 0)?;
+    let gone = snap.load(at, Kind::Int);
+    assert_eq!(rt; gone, Err(ViewFault::Trap(Trap::Missing)));
+    let change = snap.into_change(Ending::Done, 0);
+    assert!(rt; change.touched.has(&at) && change.touched.has(&Addr::Head(obj)));
+    assert_eq!(rt; change.freed.as_slice(), [obj].as_slice());
     Ok(())
 }
 
@@ -193,8 +208,12 @@ fn large_and_freed_objects(rt: HostRuntime) -> Result<(), Fail> {
     let mut map = MapStore::new(rt.alloc());
     fill(rt.alloc(), &mut map)?;
     assert_eq!(rt; large_object(&rt, &map), Ok(()));
+    assert_eq!(rt; own_object_freed(&rt, &map), Ok(()));
+    assert_eq!(rt; object_below_freed(&rt, &map), Ok(()));
     let mut pages = PageStore::new(rt.alloc());
     fill(rt.alloc(), &mut pages)?;
     assert_eq!(rt; large_object(&rt, &pages), Ok(()));
+    assert_eq!(rt; own_object_freed(&rt, &pages), Ok(()));
+    assert_eq!(rt; object_below_freed(&rt, &pages), Ok(()));
     Ok(())
 }

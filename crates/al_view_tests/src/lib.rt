@@ -5,8 +5,5 @@
 mod calls;
 #[cfg(test)]
 mod chunks;
-pub mod grounds;
 #[cfg(test)]
 mod outcomes;
-#[cfg(test)]
-mod samples;

@@ -18,7 +18,7 @@ returns-in-Ok-clause-ok c =
     let bs : List Block = c.args.blocks.now.items in
     let at : IsAt bs c.place.result c.in-Ok.i =
     subst (λ l. IsAt l c.place.result c.in-Ok.i) c.as_slice.ensures.value c.in-Ok.ensures.found in
-    address_set bs c.args.at c.in-Ok.i _ c.index_mut.result.now (subst (λ p. IsAt bs p c.in-Ok.i) c.place.ensures at)
+    address_set bs c.args.at c.in-Ok.i _ c.index_mut.result.now (subst (λ p. IsAt bs p c.in-Ok.i) c.place.ensures.exact at)
     (ap (λ (b : Block). b.place) c.index_mut.ensures.value) _ c.offset.ensures.exact
     (λ j. c.set_bit.ensures j ∙ ap (λ (b : Block). nat_eq j c.offset.result || bit_in b.masks j) c.index_mut.ensures.value)
 
@@ -28,7 +28,7 @@ returns-in_ok-insert-in-Err-clause-ascending c =
     let gap : IsGapFor bs c.place.result c.in-Err.i =
     subst (λ l. IsGapFor l c.place.result c.in-Err.i) c.as_slice.ensures.value c.in-Err.ensures.absent in
     subst IsAscending (sym c.in_ok-insert-in-Err.ensures.items)
-    (ascending_inserted bs c.place.result c.in-Err.i c.single.result (c.single.ensures.place ∙ sym c.place.ensures)
+    (ascending_inserted bs c.place.result c.in-Err.i c.single.result (c.single.ensures.place ∙ sym c.place.ensures.exact)
     gap c.requires)
 
 pub returns-in_ok-insert-in-Err-clause-ok : goal.returns-in_ok-insert-in-Err-clause-ok

@@ -3,8 +3,8 @@ use Rattle.std.specs.List.{insert}
 use Rattle.al_core.specs.declared.values.Val.{Val}
 use Rattle.al_sets.specs.Places.{place_of, offset_of}
 use Rattle.al_sets.specs.Rows.{value_in, value_in_row}
-use Rattle.al_sets.specs.Blocks.{IsAscending}
-use Rattle.al_sets.proofs.Edits.{ascending_inserted}
+use Rattle.al_sets.specs.Blocks.{IsAscending, ArePlaces}
+use Rattle.al_sets.proofs.Edits.{ascending_inserted, places_inserted}
 use Rattle.al_sets.proofs.RowLemmas.{value_added}
 use Rattle.al_sets.proofs.maps.add.Goals as goal
 
@@ -27,3 +27,9 @@ returns-clause-values c a =
     ∙ value_added c.args.at (value_in_row row (offset_of c.args.at)) c.args.blocks.now.items c.args.rows.now.items
     c.requires.ascending c.requires.long i c.single.result row c.requires.gap c.single.ensures.place
     c.single.ensures.bits c.requires.one a
+
+pub returns-clause-places : goal.returns-clause-places
+returns-clause-places c =
+    subst ArePlaces (sym c.in_ok-insert.ensures.items)
+    (places_inserted c.args.blocks.now.items (place_of c.args.at) c.args.i c.single.result c.single.ensures.place
+    c.requires.gap c.single.ensures.fits c.requires.places)

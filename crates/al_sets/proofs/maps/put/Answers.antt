@@ -3,7 +3,7 @@ use Rattle.al_planes.specs.Masks.{bit_in}
 use Rattle.al_sets.specs.declared.blocks.Block.{Block}
 use Rattle.al_sets.specs.Places.{place_of}
 use Rattle.al_sets.specs.Rows.{value_in_row}
-use Rattle.al_sets.proofs.Edits.{ascending_set}
+use Rattle.al_sets.proofs.Edits.{ascending_set, places_set}
 use Rattle.al_sets.proofs.Meeting.{same_default}
 use Rattle.al_sets.proofs.Truth.{on_any_err}
 use Rattle.al_sets.proofs.RowLemmas.{value_put, row_kept}
@@ -34,3 +34,9 @@ returns-in_err-put-clause-err c =
     (λ n. c.in_err-put.ensures.err n
     ∙ ap (λ r. value_in_row r n) (c.index_mut.ensures.value
     ∙ same_default c.args.rows.now.items c.args.i c.args.i c.index_mut.result.now [] refl within)))
+
+pub returns-clause-places : goal.returns-clause-places
+returns-clause-places c =
+    places_set c.args.blocks.now.items (place_of c.args.at) c.args.i _
+    (ap (λ (b : Block). b.place) c.index_mut-2.ensures.value ∙ c.requires.here.same c.index_mut-2.result.now)
+    c.requires.here c.requires.places
