@@ -1,6 +1,7 @@
 pub mod Nodes
 pub mod Lists
 pub mod Binds
+pub mod Chains
 pub mod KindNodes
 pub mod Printed
 pub mod Sequences
