@@ -12,7 +12,7 @@ use al_answers::{Answer, Status, failed};
 use al_core::{Choice, Ending, Knobs, Report};
 use al_front::{FrontFault, Noted, resolve};
 use al_gen::make;
-use al_plain::runs::run;
+use al_plain::run;
 use al_report::{refusal_text, totals_text, trace_text, trap_text};
 use sqlite_items::Items;
 use std::alloc::{AllocError, Global};

@@ -7,7 +7,6 @@ pub mod Printed
 pub mod Sequences
 pub mod Turning
 pub mod Annotated
-pub mod LoopNodes
 pub mod Calling
 pub mod Iterating
 pub mod Zeros

@@ -49,6 +49,15 @@ module _ {S : Type 0} where
   after_in_turns p again f d s t did is =
       ap (λ (r : Answer Flow × State S). after r.0 r.1 (turn_end again)) did ∙ ap (λ (q : Act S Flow). q t) (in_turns again f ∙ ap (by_turn again) is)
 
+  pub then_turn : (again : Act S Flow) (f : Kept) (d : Turn) (r : Result Flow Fault) (s t : State S) → in_sequence f ≡ d
+      → Does {A = Flow} stopped (by_turn again d s) r t → Does {A = Flow} stopped (then_flow again (flow_of f) s) r t
+  then_turn again f d r s t is did =
+      subst (λ (q : Act S Flow). Does {A = Flow} stopped (q s) r t) (sym (in_order again f ∙ ap (by_turn again) is)) did
+
+  pub then_over : (again : Act S Flow) (f g : Kept) (s : State S) → in_sequence f ≡ turn.Over g → then_flow again (flow_of f) s ≡ (Ok (flow_of g), s)
+  unfolding pure
+  then_over again f g s is = ap (λ (q : Act S Flow). q s) (in_order again f ∙ ap (by_turn again) is)
+
 module _ {S : Type 0} (world : World S) (here : Where) (input : List ℤ) (call : ℕ → List Val → At S Val) where
   first_of_rest : (ss : List TStmt) (i : ℕ) (s : TStmt) → i < length ss → s ≡ get_or ss i s → drop i ss ≡ s ∷ drop (i + 1) ss
   first_of_rest ss i s within is = drop_more ss i s within ∙ ap (λ x. x ∷ drop (i + 1) ss) (sym is)

@@ -31,7 +31,7 @@ module _ {S : Type 0} where
   -- a fault, whatever comes again
   told_fault : (told : Act S Flow → Answer Flow × State S) (e : Fault) (r : Result Turn Fault) (t : State S) → IsErrAnd r (λ x. x ≡ e)
       → ((again : Act S Flow) → Does {A = Flow} stopped (told again) (Err e) t) → Turns told r t
-  told_fault told e (Err (fault.Trap c line)) t is so again = subst (λ (e : Fault). Does {A = Flow} stopped (told again) (Err e) t) (sym is) (so again)
+  told_fault told e (Err (fault.Trap c line)) t is so = λ again. subst (λ (e : Fault). Does {A = Flow} stopped (told again) (Err e) t) (sym is) (so again)
   told_fault told e (Err fault.Memory) t is so = tt
   told_fault told e (Ok d) t is so = absurd is
 

@@ -10,7 +10,6 @@ use crate::fault::Fault;
 use crate::flow::{Flow, Turn};
 use crate::loops::Range;
 use crate::machine::Machine;
-use crate::parts::part;
 use crate::walker::Walker;
 use al_core::{TExpr, TKind, TStmt, Trap, Val, truth};
 use sqlite_items::{Boxed, Items};
@@ -35,13 +34,13 @@ impl<'a, C: Calls> Walker<'a, C> {
     /// Does a statement where there is one.
     #[cycle(blocks)]
     #[tactic(auto, unfolding(al_core::specs::Action::bind, al_core::specs::Action::pure))]
-    pub fn any(&self, m: &mut Machine<C::On>, s: Option<&TStmt>) -> Result<Flow, Fault>
+    pub fn any(&self, m: &mut Machine<C::On>, s: &Option<Boxed<TStmt>>) -> Result<Flow, Fault>
         requires { C.can_call self.now.calls self.now.on.now }
         ensures { let x = scene C.On.world C.On.place C.does self.now in
-            Does stopped (execute_any x (option_copied s.entry) m.old) (flowed result) m.new }
+            Does stopped (execute_any x s.now m.old) (flowed result) m.new }
     {
         match s {
-            Some(s) => self.stmt(m, s),
+            Some(s) => self.stmt(m, s.get()),
             None => Ok(Flow::Next),
         }
     }
@@ -75,12 +74,12 @@ impl<'a, C: Calls> Walker<'a, C> {
         m: &mut Machine<C::On>,
         test: Option<&TExpr>,
         body: &TStmt,
-        third: Option<&TStmt>,
+        third: &Option<Boxed<TStmt>>,
         line: u32,
     ) -> Result<Turn, Fault>
         requires { C.can_call self.now.calls self.now.on.now }
         ensures { let x = scene C.On.world C.On.place C.does self.now in
-            let turn = one_turn x line (option_copied test.entry) body.now (option_copied third.entry) in
+            let turn = one_turn x line (option_copied test.entry) body.now third.now in
             Turns (λ again. turn again m.old) result m.new }
     {
         if !self.holds(m, test, line)? {
@@ -100,12 +99,12 @@ impl<'a, C: Calls> Walker<'a, C> {
         m: &mut Machine<C::On>,
         test: Option<&TExpr>,
         body: &TStmt,
-        third: Option<&TStmt>,
+        third: &Option<Boxed<TStmt>>,
         line: u32,
     ) -> Result<Flow, Fault>
         requires { C.can_call self.now.calls self.now.on.now }
         ensures { let x = scene C.On.world C.On.place C.does self.now in
-            let does = all_turns x line (option_copied test.entry) body.now (option_copied third.entry) in
+            let does = all_turns x line (option_copied test.entry) body.now third.now in
             Does stopped (does m.old) (flowed result) m.new }
     {
         let mut left = u128::from(m.left()) + 1;
@@ -145,19 +144,17 @@ impl<'a, C: Calls> Walker<'a, C> {
                 if truth(v) {
                     self.stmt(m, a.get())
                 } else {
-                    self.any(m, part(b))
+                    self.any(m, b)
                 }
             }
-            TKind::While(e, body) => self.turns(m, Some(e), body.get(), None, line),
-            TKind::For(first, test, third, body, None) => {
-                match self.any(m, part(first))?.in_sequence() {
-                    Turn::Again => self.turns(m, test.as_ref(), body.get(), part(third), line),
+            TKind::While(e, body) => self.turns(m, Some(e), body.get(), &None, line),
+            TKind::For(first, test, third, body, number) => match number {
+                None => match self.any(m, first)?.in_sequence() {
+                    Turn::Again => self.turns(m, test.as_ref(), body.get(), third, line),
                     Turn::Over(flow) => Ok(flow),
-                }
-            }
-            TKind::For(first, test, _, body, Some(number)) => {
-                self.annotated(m, body.get(), first, test, *number, line)
-            }
+                },
+                Some(number) => self.annotated(m, body.get(), first, test, *number, line),
+            },
             TKind::Block(ss) => self.statements(m, ss.as_slice()),
             TKind::Return(e) => self.give(m, e, line),
             TKind::Break => Ok(Flow::Broke),
@@ -185,7 +182,7 @@ impl<'a, C: Calls> Walker<'a, C> {
             None => Ok(Flow::Next),
             Some(range) => {
                 if m.is_outside() {
-                    m.visit(self.alloc, self.on, number, range.lo, range.hi)?;
+                    m.visit(self.alloc, self.on, number, range)?;
                     Ok(Flow::Next)
                 } else {
                     self.ordinary(m, body, range, line)

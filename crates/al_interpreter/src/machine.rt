@@ -1,4 +1,4 @@
-ghost use Rattle.std.specs.Prelude.{◌≡◌, ℕ, Ok};
+ghost use Rattle.std.specs.Prelude.{◌≡◌, ℕ, Ok, OnOk};
 ghost use Rattle.al_source.specs.Answers.{Does};
 ghost use Rattle.al_core.specs.Action as spec;
 ghost use Rattle.al_interpreter.specs.Faults.{stopped, lined};
@@ -6,10 +6,11 @@ ghost use Rattle.al_interpreter.specs.Stages.{is_outside};
 
 use crate::fault::Fault;
 use crate::frame::Frame;
+use crate::loops::Range;
 use crate::setting::Setting;
 use crate::stage::Stage;
 use al_core::{Addr, Budget, Kind, Obj, Trap, Val, ViewFault};
-use std::alloc::Global;
+use std::alloc::{AllocError, Global};
 use std::marker::Model;
 
 /// The state of the code that runs: the frame, the steps that are left, and what the code runs on.
@@ -164,12 +165,12 @@ impl<S: Stage> Machine<S> {
         }
     }
 
+    /// Prints bytes, which no line can trap at.
     #[tactic(auto, unfolding(al_core::specs::Action::asks))]
-    pub fn print(&mut self, on: &Setting<'_>, bytes: &[u8]) -> Result<(), Fault>
-        ensures { (line : ℕ) → Does stopped (spec.print (S.world on.now) bytes.now line self.old) result self.new }
+    pub fn print(&mut self, on: &Setting<'_>, bytes: &[u8]) -> Result<(), AllocError>
+        ensures { OnOk result ((line : ℕ) → spec.print (S.world on.now) bytes.now line self.old ≡ (Ok tt, self.new)) }
     {
-        self.stage.print(on, bytes)?;
-        Ok(())
+        self.stage.print(on, bytes)
     }
 
     /// Goes into a frame, and answers the one before.
@@ -196,13 +197,14 @@ impl<S: Stage> Machine<S> {
         alloc: Global,
         on: &Setting<'_>,
         number: u32,
-        lo: i64,
-        hi: i64,
+        range: Range,
     ) -> Result<(), Fault>
-        ensures { Does stopped (spec.visit (S.world on.now) number lo hi self.old) result self.new }
+        ensures { Does stopped (spec.visit (S.world on.now) number range.lo range.hi self.old) result self.new }
     {
         let locals = self.frame.locals(alloc)?;
-        let new = self.stage.visit(alloc, on, number, lo, hi, locals)?;
+        let new = self
+            .stage
+            .visit(alloc, on, number, range.lo, range.hi, locals)?;
         self.frame.replace(new);
         Ok(())
     }

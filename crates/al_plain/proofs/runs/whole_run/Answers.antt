@@ -10,7 +10,7 @@ pub returns-in-Ok-clause-machine : goal.returns-in-Ok-clause-machine
 unfolding whole_run
 returns-in-Ok-clause-machine c =
     let on = c.args.on.now in
-    let told : whole_run (setting_of on) ≡ (Ok c.in-Ok.field-0, c.run_main.new.m) = ap (main_does (outside (setting_of on)) Outside on) (sym c.in_ok-m.ensures)
+    let told : whole_run (setting_of on) ≡ (Ok c.in-Ok.field-0, c.run_main.new.m) = ap (main_does (λ on. outside (setting_of on)) Outside on) (sym c.in_ok-m.ensures)
     ∙ c.in-Ok.ensures in
     sym (ap (λ r. r.1) told)
 
@@ -19,7 +19,7 @@ unfolding whole_run
 returns-in-Err-Trap-clause-ending c =
     let on = c.args.on.now in
     let told : whole_run (setting_of on) ≡ (Err (c.in-Err-Trap.t, c.in-Err-Trap.line), c.run_main.new.m) =
-    ap (main_does (outside (setting_of on)) Outside on) (sym c.in_ok-m.ensures) ∙ (rw c.in-Err-Trap.field-0-is at c.in-Err-Trap.ensures) in
+    ap (main_does (λ on. outside (setting_of on)) Outside on) (sym c.in_ok-m.ensures) ∙ (rw c.in-Err-Trap.field-0-is at c.in-Err-Trap.ensures) in
     sym (ap (λ r. ending_of r.0) told)
 
 pub returns-in-Err-Trap-clause-machine : goal.returns-in-Err-Trap-clause-machine
@@ -27,5 +27,5 @@ unfolding whole_run
 returns-in-Err-Trap-clause-machine c =
     let on = c.args.on.now in
     let told : whole_run (setting_of on) ≡ (Err (c.in-Err-Trap.t, c.in-Err-Trap.line), c.run_main.new.m) =
-    ap (main_does (outside (setting_of on)) Outside on) (sym c.in_ok-m.ensures) ∙ (rw c.in-Err-Trap.field-0-is at c.in-Err-Trap.ensures) in
+    ap (main_does (λ on. outside (setting_of on)) Outside on) (sym c.in_ok-m.ensures) ∙ (rw c.in-Err-Trap.field-0-is at c.in-Err-Trap.ensures) in
     sym (ap (λ r. r.1) told)
