@@ -1,4 +1,4 @@
-use Rattle.std.proofs.Common.{◌≡◌, ◌≤ℤ◌, ℕ, ◌+◌, ◌*◌, Option, drop}
+use Rattle.std.proofs.Common.{◌≡◌, ◌≤ℤ◌, ℕ, ◌+◌, ◌*◌, Option, max, drop}
 use Rattle.std.specs.Option.{option_copied}
 use Rattle.al_core.specs.declared.typed_tree.TStmt.{TStmt}
 use Rattle.al_core.specs.declared.typed_tree.TKind.TheShapes.{weighed-TKind-If-2}
@@ -30,12 +30,35 @@ invariant-turns-loop-left g l =
 abbrev pub decreases-turns-loop-left : goal.decreases-turns-loop-left
 decreases-turns-loop-left g l = l.left
 
--- the size of a loop's body and of its third part
-abbrev both : TStmt → Option TStmt → ℕ
-both body third = the_size body + weighed-TKind-If-2.weight TStmt the_size third
+-- ---- A call goes to a part, or to a function of a lower rank.
+
+abbrev pub decreases-kind : goal.decreases-kind
+decreases-kind g l = 16 * goal.size-kind g l + 6
+
+abbrev pub decreases-stmt : goal.decreases-stmt
+decreases-stmt g l = 16 * goal.size-stmt g l + 7
+
+abbrev pub decreases-any : goal.decreases-any
+decreases-any g l = 16 * goal.size-any g l + 8
+
+abbrev pub decreases-statements : goal.decreases-statements
+decreases-statements g l = 16 * goal.size-statements g l + 8
+
+-- the deeper of a loop's body and its third part
+abbrev deeper : TStmt → Option TStmt → ℕ
+deeper body third = max (the_size body) (weighed-TKind-If-2.weight TStmt the_size third)
 
 abbrev pub decreases-turn : goal.decreases-turn
-decreases-turn g l = 4 * both l.body.now l.third.now + 2
+decreases-turn g l = 16 * deeper l.body.now l.third.now + 9
 
 abbrev pub decreases-turns : goal.decreases-turns
-decreases-turns g l = 4 * both l.body.now l.third.now + 3
+decreases-turns g l = 16 * deeper l.body.now l.third.now + 10
+
+abbrev pub decreases-trips : goal.decreases-trips
+decreases-trips g l = 16 * goal.size-trips g l + 9
+
+abbrev pub decreases-ordinary : goal.decreases-ordinary
+decreases-ordinary g l = 16 * goal.size-ordinary g l + 10
+
+abbrev pub decreases-annotated : goal.decreases-annotated
+decreases-annotated g l = 16 * goal.size-annotated g l + 11
