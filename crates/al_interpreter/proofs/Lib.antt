@@ -1,6 +1,5 @@
 pub mod Nodes
 pub mod Lists
-pub mod Binds
 pub mod Chains
 pub mod KindNodes
 pub mod Printed
@@ -8,5 +7,4 @@ pub mod Sequences
 pub mod Turning
 pub mod Annotated
 pub mod Calling
-pub mod Iterating
 pub mod Zeros
