@@ -1,4 +1,6 @@
+ghost use Rattle.std.specs.Prelude.{◌≡◌};
 ghost use Rattle.al_source.specs.Answers.{Does};
+ghost use Rattle.al_core.specs.Iteration as spec;
 ghost use Rattle.al_interpreter.specs.Faults.{stopped};
 ghost use Rattle.al_interpreter.specs.Calls.{call_within};
 ghost use Rattle.al_interpreter.specs.Wholes.{iterates, main_does};
@@ -46,6 +48,13 @@ pub fn call_to<S: Stage>(
     Ok(m.leave(old, returned(flow)))
 }
 
+/// In an iteration one call is active, so so many more may be.
+fn calls_within() -> u32
+    ensures { result ≡ spec.calls_within }
+{
+    ACTIVE_CALLS - 1
+}
+
 /// An iteration of an annotated loop: a step, then the counter's value, then the body. One call is active in it.
 #[tactic(auto, unfolding(al_core::specs::Action::bind, al_core::specs::Action::pure))]
 pub fn iterate<S: Stage>(
@@ -63,7 +72,7 @@ pub fn iterate<S: Stage>(
     m.set_local(on, counter, Val::Int(n), line)?;
     let calls = Within {
         alloc,
-        room: ACTIVE_CALLS - 1,
+        room: calls_within(),
         function: call_to,
         stage: PhantomData,
     };
@@ -78,5 +87,5 @@ pub fn run_main<S: Stage>(alloc: Global, on: &Setting<'_>, m: &mut Machine<S>) -
 {
     let program = on.program.typed();
     let line = line_of(at(program.funcs.as_slice(), program.main as usize));
-    call_to(alloc, on, ACTIVE_CALLS, m, program.main, Items::new(alloc), line)
+    call_to(alloc, on, calls_within() + 1, m, program.main, Items::new(alloc), line)
 }
