@@ -1,7 +1,7 @@
 pub mod Nodes
 pub mod Lists
 pub mod Chains
-pub mod KindNodes
+pub mod Doing
 pub mod Printed
 pub mod Sequences
 pub mod Turning

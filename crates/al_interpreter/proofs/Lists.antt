@@ -48,9 +48,9 @@ module _ {S : Type 0} (world : World S) (here : Where) (input : List ℤ) (call 
   same_after (Err e) t = refl
 
   -- all of them are those from none on
-  pub gathered : (es : List TExpr) (line : ℕ) (s : State S) → values world here input call es line s ≡ values_from [] es line s
+  pub begins : (es : List TExpr) (line : ℕ) (s : State S) → values world here input call es line s ≡ values_from [] es line s
   unfolding bind
-  gathered es line s = sym (joined es line [] s ∙ same_after (values world here input call es line s).0 (values world here input call es line s).1)
+  begins es line s = sym (joined es line [] s ∙ same_after (values world here input call es line s).0 (values world here input call es line s).1)
 
   next_of : (es : List TExpr) (i : ℕ) (e : TExpr) → i < length es → e ≡ get_or es i e → drop i es ≡ e ∷ drop (i + 1) es
   next_of es i e within is = drop_more es i e within ∙ ap (λ x. x ∷ drop (i + 1) es) (sym is)

@@ -17,7 +17,7 @@ use sqlite_items::{Boxed, Items};
 impl<'a, C: Calls> Walker<'a, C> {
     /// Does a statement, which spends a step first.
     #[cycle(blocks)]
-    #[tactic(auto, using(crate::proofs::KindNodes::does_stmts), unfolding(al_core::specs::Action::bind, al_core::specs::Action::pure))]
+    #[tactic(auto, using(crate::proofs::Doing::stmts), unfolding(crate::specs::Acts::bind, crate::specs::Acts::pure))]
     pub fn stmt(
         &self,
         m: &mut Machine<C::On>,
@@ -33,7 +33,7 @@ impl<'a, C: Calls> Walker<'a, C> {
 
     /// Does a statement where there is one.
     #[cycle(blocks)]
-    #[tactic(auto, unfolding(al_core::specs::Action::bind, al_core::specs::Action::pure))]
+    #[tactic(auto, unfolding(crate::specs::Acts::bind, crate::specs::Acts::pure))]
     pub fn any(&self, m: &mut Machine<C::On>, s: &Option<Boxed<TStmt>>) -> Result<Flow, Fault>
         requires { C.can_call self.now.calls self.now.on.now }
         ensures { let x = scene C.On.world C.On.place C.does self.now in
@@ -47,7 +47,7 @@ impl<'a, C: Calls> Walker<'a, C> {
 
     /// Does statements in order.
     #[cycle(blocks)]
-    #[tactic(auto, unfolding(al_core::specs::Action::bind, al_core::specs::Action::pure))]
+    #[tactic(auto, unfolding(crate::specs::Acts::bind, crate::specs::Acts::pure))]
     pub fn statements(
         &self,
         m: &mut Machine<C::On>,
@@ -68,7 +68,7 @@ impl<'a, C: Calls> Walker<'a, C> {
 
     /// One turn of a loop: its test, its body and its third part.
     #[cycle(blocks)]
-    #[tactic(auto, unfolding(al_core::specs::Action::bind, al_core::specs::Action::pure))]
+    #[tactic(auto, unfolding(crate::specs::Acts::bind, crate::specs::Acts::pure))]
     pub fn turn(
         &self,
         m: &mut Machine<C::On>,
@@ -93,7 +93,7 @@ impl<'a, C: Calls> Walker<'a, C> {
 
     /// The turns of a loop. Each spends a step, so one more than the steps that are left are enough.
     #[cycle(blocks)]
-    #[tactic(auto, unfolding(al_core::specs::Action::bind, al_core::specs::Action::pure))]
+    #[tactic(auto, unfolding(crate::specs::Acts::bind, crate::specs::Acts::pure))]
     pub fn turns(
         &self,
         m: &mut Machine<C::On>,
@@ -120,7 +120,7 @@ impl<'a, C: Calls> Walker<'a, C> {
 
     /// Does a kind of statement.
     #[cycle(blocks)]
-    #[tactic(auto, using(crate::proofs::KindNodes::other_nodes), unfolding(al_core::specs::Action::bind, al_core::specs::Action::pure))]
+    #[tactic(auto, using(crate::proofs::Doing::others), unfolding(crate::specs::Acts::bind, crate::specs::Acts::pure))]
     pub fn kind(
         &self,
         m: &mut Machine<C::On>,
@@ -164,7 +164,7 @@ impl<'a, C: Calls> Walker<'a, C> {
 
     /// Does an annotated loop.
     #[cycle(blocks)]
-    #[tactic(auto, unfolding(al_core::specs::Action::bind, al_core::specs::Action::pure))]
+    #[tactic(auto, unfolding(crate::specs::Acts::bind, crate::specs::Acts::pure))]
     pub fn annotated(
         &self,
         m: &mut Machine<C::On>,
@@ -193,7 +193,7 @@ impl<'a, C: Calls> Walker<'a, C> {
 
     /// Does an annotated loop inside an iteration.
     #[cycle(blocks)]
-    #[tactic(auto, unfolding(al_core::specs::Action::bind, al_core::specs::Action::pure))]
+    #[tactic(auto, unfolding(crate::specs::Acts::bind, crate::specs::Acts::pure))]
     pub fn ordinary(
         &self,
         m: &mut Machine<C::On>,
@@ -212,7 +212,7 @@ impl<'a, C: Calls> Walker<'a, C> {
 
     /// Does its trips.
     #[cycle(blocks)]
-    #[tactic(auto, unfolding(al_core::specs::Action::bind, al_core::specs::Action::pure))]
+    #[tactic(auto, unfolding(crate::specs::Acts::bind, crate::specs::Acts::pure))]
     pub fn trips(
         &self,
         m: &mut Machine<C::On>,

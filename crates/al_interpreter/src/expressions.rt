@@ -29,7 +29,7 @@ fn object_words(count: Val, size: u32) -> Result<u32, Trap>
 
 impl<'a, C: Calls> Walker<'a, C> {
     #[cycle(expressions)]
-    #[tactic(auto, using(crate::proofs::Nodes::value_nodes), unfolding(al_core::specs::Action::bind, al_core::specs::Action::pure))]
+    #[tactic(auto, using(crate::proofs::Nodes::exprs), unfolding(crate::specs::Acts::bind, crate::specs::Acts::pure))]
     pub fn value(
         &self,
         m: &mut Machine<C::On>,
@@ -110,7 +110,7 @@ impl<'a, C: Calls> Walker<'a, C> {
     }
 
     #[cycle(expressions)]
-    #[tactic(auto, using(crate::proofs::Nodes::place_nodes), unfolding(al_core::specs::Action::bind, al_core::specs::Action::pure))]
+    #[tactic(auto, using(crate::proofs::Nodes::places), unfolding(crate::specs::Acts::bind, crate::specs::Acts::pure))]
     pub fn place(
         &self,
         m: &mut Machine<C::On>,
@@ -140,7 +140,7 @@ impl<'a, C: Calls> Walker<'a, C> {
     }
 
     #[cycle(expressions)]
-    #[tactic(auto, using(crate::proofs::Lists::gathered), unfolding(al_core::specs::Action::bind, al_core::specs::Action::pure))]
+    #[tactic(auto, using(crate::proofs::Lists::begins), unfolding(crate::specs::Acts::bind, crate::specs::Acts::pure))]
     pub fn values(
         &self,
         m: &mut Machine<C::On>,

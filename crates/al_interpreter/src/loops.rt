@@ -54,7 +54,7 @@ impl<S: Stage> Machine<S> {
     }
 
     /// What comes after an annotated loop's trips: the counter ends at the greater of its start and its bound.
-    #[tactic(auto, unfolding(al_core::specs::Action::bind, al_core::specs::Action::pure))]
+    #[tactic(auto, unfolding(crate::specs::Acts::bind, crate::specs::Acts::pure))]
     pub fn past_loop(
         &mut self,
         on: &Setting<'_>,
@@ -79,7 +79,7 @@ impl<S: Stage> Machine<S> {
 
 impl<'a, C: Calls> Walker<'a, C> {
     /// Spends a step and tests whether a loop goes on.
-    #[tactic(auto, unfolding(al_core::specs::Action::bind, al_core::specs::Action::pure))]
+    #[tactic(auto, unfolding(crate::specs::Acts::bind, crate::specs::Acts::pure))]
     pub fn holds(
         &self,
         m: &mut Machine<C::On>,
@@ -97,7 +97,7 @@ impl<'a, C: Calls> Walker<'a, C> {
 
     /// Evaluates the start of an annotated loop and then reads its bound. A loop whose first part sets no local has
     /// none.
-    #[tactic(auto, unfolding(al_core::specs::Action::bind, al_core::specs::Action::pure))]
+    #[tactic(auto, unfolding(crate::specs::Acts::bind, crate::specs::Acts::pure))]
     pub fn range(
         &self,
         m: &mut Machine<C::On>,
@@ -107,7 +107,8 @@ impl<'a, C: Calls> Walker<'a, C> {
     ) -> Result<Option<Range>, Fault>
         requires { C.can_call self.now.calls self.now.on.now }
         ensures { let x = scene C.On.world C.On.place C.does self.now in
-            Leads (λ next. range_first x.world (start_value x first.now) (bound_of test.now) line next m.old) result m.new }
+            let ranged = range_first x.world (start_value x first.now) (bound_of test.now) line in
+            Leads (λ next. ranged next m.old) result m.new }
     {
         let Some(start) = start_of(part(first)) else {
             return Ok(None);

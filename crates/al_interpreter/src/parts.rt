@@ -94,7 +94,7 @@ pub fn bound_of(test: Option<&TExpr>) -> Bound
 
 impl<'a, C: Calls> Walker<'a, C> {
     /// A loop's test. One that is absent holds.
-    #[tactic(auto, unfolding(al_core::specs::Action::bind, al_core::specs::Action::pure))]
+    #[tactic(auto, unfolding(crate::specs::Acts::bind, crate::specs::Acts::pure))]
     pub fn test(
         &self,
         m: &mut Machine<C::On>,
@@ -111,7 +111,7 @@ impl<'a, C: Calls> Walker<'a, C> {
         }
     }
 
-    #[tactic(auto, using(crate::proofs::KindNodes::does_nodes), unfolding(al_core::specs::Action::bind, al_core::specs::Action::pure))]
+    #[tactic(auto, using(crate::proofs::Doing::kinds), unfolding(crate::specs::Acts::bind, crate::specs::Acts::pure))]
     pub fn print(
         &self,
         m: &mut Machine<C::On>,
@@ -132,7 +132,7 @@ impl<'a, C: Calls> Walker<'a, C> {
     }
 
     /// The bound of an annotated loop.
-    #[tactic(auto, unfolding(al_core::specs::Action::bind, al_core::specs::Action::pure))]
+    #[tactic(auto, unfolding(crate::specs::Acts::bind, crate::specs::Acts::pure))]
     pub fn bound(
         &self,
         m: &mut Machine<C::On>,

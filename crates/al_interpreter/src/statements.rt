@@ -13,7 +13,7 @@ use al_core::{BinOp, Kind, TExpr, TPlace, Val, operate};
 use sqlite_items::Items;
 
 impl<'a, C: Calls> Walker<'a, C> {
-    #[tactic(auto, using(crate::proofs::KindNodes::does_nodes), unfolding(al_core::specs::Action::bind, al_core::specs::Action::pure))]
+    #[tactic(auto, using(crate::proofs::Doing::kinds), unfolding(crate::specs::Acts::bind, crate::specs::Acts::pure))]
     pub fn assign(
         &self,
         m: &mut Machine<C::On>,
@@ -30,7 +30,7 @@ impl<'a, C: Calls> Walker<'a, C> {
         Ok(Flow::Next)
     }
 
-    #[tactic(auto, using(crate::proofs::KindNodes::does_nodes), unfolding(al_core::specs::Action::bind, al_core::specs::Action::pure))]
+    #[tactic(auto, using(crate::proofs::Doing::kinds), unfolding(crate::specs::Acts::bind, crate::specs::Acts::pure))]
     pub fn store(
         &self,
         m: &mut Machine<C::On>,
@@ -48,7 +48,7 @@ impl<'a, C: Calls> Walker<'a, C> {
         Ok(Flow::Next)
     }
 
-    #[tactic(auto, using(crate::proofs::KindNodes::does_nodes), unfolding(al_core::specs::Action::bind, al_core::specs::Action::pure))]
+    #[tactic(auto, using(crate::proofs::Doing::kinds), unfolding(crate::specs::Acts::bind, crate::specs::Acts::pure))]
     pub fn update_local(
         &self,
         m: &mut Machine<C::On>,
@@ -68,7 +68,7 @@ impl<'a, C: Calls> Walker<'a, C> {
         Ok(Flow::Next)
     }
 
-    #[tactic(auto, using(crate::proofs::KindNodes::does_nodes), unfolding(al_core::specs::Action::bind, al_core::specs::Action::pure))]
+    #[tactic(auto, using(crate::proofs::Doing::kinds), unfolding(crate::specs::Acts::bind, crate::specs::Acts::pure))]
     pub fn update_at(
         &self,
         m: &mut Machine<C::On>,
@@ -89,7 +89,7 @@ impl<'a, C: Calls> Walker<'a, C> {
         Ok(Flow::Next)
     }
 
-    #[tactic(auto, using(crate::proofs::KindNodes::does_nodes), unfolding(al_core::specs::Action::bind, al_core::specs::Action::pure))]
+    #[tactic(auto, using(crate::proofs::Doing::kinds), unfolding(crate::specs::Acts::bind, crate::specs::Acts::pure))]
     pub fn call_only(
         &self,
         m: &mut Machine<C::On>,
@@ -104,7 +104,7 @@ impl<'a, C: Calls> Walker<'a, C> {
         Ok(Flow::Next)
     }
 
-    #[tactic(auto, using(crate::proofs::KindNodes::does_nodes), unfolding(al_core::specs::Action::bind, al_core::specs::Action::pure))]
+    #[tactic(auto, using(crate::proofs::Doing::kinds), unfolding(crate::specs::Acts::bind, crate::specs::Acts::pure))]
     pub fn give(
         &self,
         m: &mut Machine<C::On>,

@@ -19,7 +19,7 @@ use std::alloc::Global;
 use std::marker::PhantomData;
 
 /// Calls a function, where so many more calls may be active.
-#[tactic(auto, unfolding(al_core::specs::Action::bind, al_core::specs::Action::pure))]
+#[tactic(auto, unfolding(crate::specs::Acts::bind, crate::specs::Acts::pure))]
 pub fn call_to<S: Stage>(
     alloc: Global,
     on: &Setting<'_>,
@@ -56,7 +56,7 @@ fn calls_within() -> u32
 }
 
 /// An iteration of an annotated loop: a step, then the counter's value, then the body. One call is active in it.
-#[tactic(auto, unfolding(al_core::specs::Action::bind, al_core::specs::Action::pure))]
+#[tactic(auto, unfolding(crate::specs::Acts::bind, crate::specs::Acts::pure))]
 pub fn iterate<S: Stage>(
     alloc: Global,
     on: &Setting<'_>,

@@ -8,7 +8,7 @@ use Rattle.al_interpreter.specs.declared.walker.Walker.{Walker}
 use Rattle.al_interpreter.specs.Scenes.{Scene, scene, execute, start_value}
 use Rattle.al_interpreter.proofs.Annotated as annotated
 use Rattle.al_interpreter.proofs.Chains.{goes, goes_to, as_flow, flow_stops}
-use Rattle.al_interpreter.proofs.KindNodes as nodes
+use Rattle.al_interpreter.proofs.Doing as nodes
 use Rattle.al_interpreter.proofs.Sequences.{flows, faults, then_turn, then_over}
 use Rattle.al_interpreter.proofs.Turning as turning
 use Rattle.al_interpreter.proofs.walker.Walker.+blocks.Given.{Over}

@@ -126,8 +126,8 @@ module _ {S : Type 0} (world : World S) (here : Where) (input : List ℤ) (call 
   does-Annotated (Some first) test third body number line =
       of_kind (TKind-F.For (Some first) test third body (Some number)) _ line (k.rolls-For (Some first) test third body (Some number))
 
-pub ruleset does_nodes = (does-SetLocal, does-Store, does-UpdateLocal, does-UpdateAt, does-Call, does-Print, does-Return)
+pub ruleset kinds = (does-SetLocal, does-Store, does-UpdateLocal, does-UpdateAt, does-Call, does-Print, does-Return)
 
-pub ruleset other_nodes = (does-Empty, does-If, does-Block, does-Break, does-Continue, does-Annotated)
+pub ruleset others = (does-Empty, does-If, does-Block, does-Break, does-Continue, does-Annotated)
 
-pub ruleset does_stmts = (does-stmt)
+pub ruleset stmts = (does-stmt)
