@@ -18,11 +18,7 @@ impl<'a, C: Calls> Walker<'a, C> {
     /// Does a statement, which spends a step first.
     #[cycle(blocks)]
     #[tactic(auto, using(crate::proofs::Doing::stmts), unfolding(crate::specs::Acts::bind, crate::specs::Acts::pure))]
-    pub fn stmt(
-        &self,
-        m: &mut Machine<C::On>,
-        s: &TStmt,
-    ) -> Result<Flow, Fault>
+    pub fn stmt(&self, m: &mut Machine<C::On>, s: &TStmt) -> Result<Flow, Fault>
         requires { C.can_call self.now.calls self.now.on.now }
         ensures { let x = scene C.On.world C.On.place C.does self.now in
             Does stopped (execute x s.now m.old) (flowed result) m.new }
@@ -48,11 +44,7 @@ impl<'a, C: Calls> Walker<'a, C> {
     /// Does statements in order.
     #[cycle(blocks)]
     #[tactic(auto, unfolding(crate::specs::Acts::bind, crate::specs::Acts::pure))]
-    pub fn statements(
-        &self,
-        m: &mut Machine<C::On>,
-        ss: &[TStmt],
-    ) -> Result<Flow, Fault>
+    pub fn statements(&self, m: &mut Machine<C::On>, ss: &[TStmt]) -> Result<Flow, Fault>
         requires { C.can_call self.now.calls self.now.on.now }
         ensures { let x = scene C.On.world C.On.place C.does self.now in
             Does stopped (execute_all x ss.now m.old) (flowed result) m.new }
@@ -121,12 +113,7 @@ impl<'a, C: Calls> Walker<'a, C> {
     /// Does a kind of statement.
     #[cycle(blocks)]
     #[tactic(auto, using(crate::proofs::Doing::others), unfolding(crate::specs::Acts::bind, crate::specs::Acts::pure))]
-    pub fn kind(
-        &self,
-        m: &mut Machine<C::On>,
-        k: &TKind,
-        line: u32,
-    ) -> Result<Flow, Fault>
+    pub fn kind(&self, m: &mut Machine<C::On>, k: &TKind, line: u32) -> Result<Flow, Fault>
         requires { C.can_call self.now.calls self.now.on.now }
         ensures { let x = scene C.On.world C.On.place C.does self.now in
             Does stopped (execute_kind x k.now line m.old) (flowed result) m.new }

@@ -55,7 +55,7 @@ where
     type On = S;
 
     ghost can_call = { λ c on.
-      ByFunction (call_within S.world S.place c.room) c.room on (F.pre c.function) (F.post c.function) };
+        ByFunction (call_within S.world S.place c.room) c.room on (F.pre c.function) (F.post c.function) };
 
     ghost does = { λ c. call_within S.world S.place c.room };
 

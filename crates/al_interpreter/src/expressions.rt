@@ -30,12 +30,7 @@ fn object_words(count: Val, size: u32) -> Result<u32, Trap>
 impl<'a, C: Calls> Walker<'a, C> {
     #[cycle(expressions)]
     #[tactic(auto, using(crate::proofs::Nodes::exprs), unfolding(crate::specs::Acts::bind, crate::specs::Acts::pure))]
-    pub fn value(
-        &self,
-        m: &mut Machine<C::On>,
-        e: &TExpr,
-        line: u32,
-    ) -> Result<Val, Fault>
+    pub fn value(&self, m: &mut Machine<C::On>, e: &TExpr, line: u32) -> Result<Val, Fault>
         requires { C.can_call self.now.calls self.now.on.now }
         ensures { let x = scene C.On.world C.On.place C.does self.now in
             Does stopped (value x e.now line m.old) result m.new }
@@ -111,12 +106,7 @@ impl<'a, C: Calls> Walker<'a, C> {
 
     #[cycle(expressions)]
     #[tactic(auto, using(crate::proofs::Nodes::places), unfolding(crate::specs::Acts::bind, crate::specs::Acts::pure))]
-    pub fn place(
-        &self,
-        m: &mut Machine<C::On>,
-        p: &TPlace,
-        line: u32,
-    ) -> Result<(Obj, u32), Fault>
+    pub fn place(&self, m: &mut Machine<C::On>, p: &TPlace, line: u32) -> Result<(Obj, u32), Fault>
         requires { C.can_call self.now.calls self.now.on.now }
         ensures { let x = scene C.On.world C.On.place C.does self.now in
             Does stopped (place x p.now line m.old) result m.new }

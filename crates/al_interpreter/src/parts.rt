@@ -95,12 +95,7 @@ pub fn bound_of(test: Option<&TExpr>) -> Bound
 impl<'a, C: Calls> Walker<'a, C> {
     /// A loop's test. One that is absent holds.
     #[tactic(auto, unfolding(crate::specs::Acts::bind, crate::specs::Acts::pure))]
-    pub fn test(
-        &self,
-        m: &mut Machine<C::On>,
-        e: Option<&TExpr>,
-        line: u32,
-    ) -> Result<Val, Fault>
+    pub fn test(&self, m: &mut Machine<C::On>, e: Option<&TExpr>, line: u32) -> Result<Val, Fault>
         requires { C.can_call self.now.calls self.now.on.now }
         ensures { let x = scene C.On.world C.On.place C.does self.now in
             Does stopped (test_value x (option_copied e.entry) line m.old) result m.new }

@@ -90,12 +90,7 @@ impl<'a, C: Calls> Walker<'a, C> {
     }
 
     #[tactic(auto, using(crate::proofs::Doing::kinds), unfolding(crate::specs::Acts::bind, crate::specs::Acts::pure))]
-    pub fn call_only(
-        &self,
-        m: &mut Machine<C::On>,
-        e: &TExpr,
-        line: u32,
-    ) -> Result<Flow, Fault>
+    pub fn call_only(&self, m: &mut Machine<C::On>, e: &TExpr, line: u32) -> Result<Flow, Fault>
         requires { C.can_call self.now.calls self.now.on.now }
         ensures { let x = scene C.On.world C.On.place C.does self.now in
             Does stopped (execute_kind x (kind.Call e.now) line m.old) (flowed result) m.new }
@@ -105,12 +100,7 @@ impl<'a, C: Calls> Walker<'a, C> {
     }
 
     #[tactic(auto, using(crate::proofs::Doing::kinds), unfolding(crate::specs::Acts::bind, crate::specs::Acts::pure))]
-    pub fn give(
-        &self,
-        m: &mut Machine<C::On>,
-        e: &Option<TExpr>,
-        line: u32,
-    ) -> Result<Flow, Fault>
+    pub fn give(&self, m: &mut Machine<C::On>, e: &Option<TExpr>, line: u32) -> Result<Flow, Fault>
         requires { C.can_call self.now.calls self.now.on.now }
         ensures { let x = scene C.On.world C.On.place C.does self.now in
             Does stopped (execute_kind x (kind.Return e.now) line m.old) (flowed result) m.new }

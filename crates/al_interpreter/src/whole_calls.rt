@@ -87,5 +87,13 @@ pub fn run_main<S: Stage>(alloc: Global, on: &Setting<'_>, m: &mut Machine<S>) -
 {
     let program = on.program.typed();
     let line = line_of(at(program.funcs.as_slice(), program.main as usize));
-    call_to(alloc, on, calls_within() + 1, m, program.main, Items::new(alloc), line)
+    call_to(
+        alloc,
+        on,
+        calls_within() + 1,
+        m,
+        program.main,
+        Items::new(alloc),
+        line,
+    )
 }

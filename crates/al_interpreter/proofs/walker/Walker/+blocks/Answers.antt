@@ -205,8 +205,7 @@ trips-returns-in-Over g t c =
 
 pub trips-loop-n-preserved : goal.trips-loop-n-preserved
 trips-loop-n-preserved g t c =
-    let x = at g c.args.self.now in
-    (
+    let x = at g c.args.self.now in (
       omega (arith, ints),
       turning.trip_again x.world c.args.line c.args.range.counter c.args.range.lo c.args.range.hi
           (execute x c.args.body.now) _ _ _ _ _ _ _ _ c.loop-n.invariant.1 c.loop-n.invariant.0

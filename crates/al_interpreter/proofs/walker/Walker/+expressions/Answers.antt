@@ -38,8 +38,15 @@ value-returns-in_err-y-in-Binary g t c =
 pub value-returns-in_ok-y-in-Binary : goal.value-returns-in_ok-y-in-Binary
 unfolding bind pure
 value-returns-in_ok-y-in-Binary g t c =
-    rw (c.in-Binary.is, nodes.value-Binary, ← c.get-in-Binary.ensures, c.in_ok-x-in-Binary.ensures, ← c.get-in-Binary-2.ensures,
-    c.in_ok-y-in-Binary.ensures, ← c.operate.ensures) c.lift-in-Binary.ensures
+    rw (
+      c.in-Binary.is,
+      nodes.value-Binary,
+      ← c.get-in-Binary.ensures,
+      c.in_ok-x-in-Binary.ensures,
+      ← c.get-in-Binary-2.ensures,
+      c.in_ok-y-in-Binary.ensures,
+      ← c.operate.ensures,
+    ) c.lift-in-Binary.ensures
 
 pub value-returns-in_err-x-in-Same : goal.value-returns-in_err-x-in-Same
 value-returns-in_err-x-in-Same g t c =
@@ -55,8 +62,15 @@ value-returns-in_err-y-in-Same g t c =
 pub value-returns-in_ok-y-in-Same : goal.value-returns-in_ok-y-in-Same
 unfolding bind pure
 value-returns-in_ok-y-in-Same g t c =
-    rw (c.in-Same.is, nodes.value-Same, ← c.get-in-Same.ensures, c.in_ok-x-in-Same.ensures, ← c.get-in-Same-2.ensures, c.in_ok-y-in-Same.ensures,
-    ← c.compare.ensures) refl
+    rw (
+      c.in-Same.is,
+      nodes.value-Same,
+      ← c.get-in-Same.ensures,
+      c.in_ok-x-in-Same.ensures,
+      ← c.get-in-Same-2.ensures,
+      c.in_ok-y-in-Same.ensures,
+      ← c.compare.ensures,
+    ) refl
 
 pub value-returns-in_err-x-in-Choose : goal.value-returns-in_err-x-in-Choose
 value-returns-in_err-x-in-Choose g t c =
@@ -72,34 +86,67 @@ value-returns-in_err-y-in-Choose g t c =
 pub value-returns-in_ok-y-in-Choose : goal.value-returns-in_ok-y-in-Choose
 unfolding bind pure
 value-returns-in_ok-y-in-Choose g t c =
-    rw (c.in-Choose.is, nodes.value-Choose, ← c.get-in-Choose.ensures, c.in_ok-x-in-Choose.ensures, ← c.get-in-Choose-2.ensures,
-    c.in_ok-y-in-Choose.ensures, ← c.choose.ensures) c.lift-in-Choose.ensures
+    rw (
+      c.in-Choose.is,
+      nodes.value-Choose,
+      ← c.get-in-Choose.ensures,
+      c.in_ok-x-in-Choose.ensures,
+      ← c.get-in-Choose-2.ensures,
+      c.in_ok-y-in-Choose.ensures,
+      ← c.choose.ensures,
+    ) c.lift-in-Choose.ensures
 
 pub value-returns-in_err-y-in-And : goal.value-returns-in_err-y-in-And
 value-returns-in_err-y-in-And g t c =
     rw (c.in-And.is, nodes.value-And, ← c.get-in-And.ensures)
     (goes _ _ _ _ _ _ _ c.in_ok-x-in-And.ensures
-    (rw (← c.truth.ensures, c.if-truth.true,
-    ← c.get-then-truth.ensures) (stops _ _ _ _ _ _ c.from_residual-in_err-y-in-And.ensures.1 c.in_err-y-in-And.ensures)))
+    (rw (
+      ← c.truth.ensures,
+      c.if-truth.true,
+      ← c.get-then-truth.ensures,
+    ) (stops _ _ _ _ _ _ c.from_residual-in_err-y-in-And.ensures.1 c.in_err-y-in-And.ensures)))
 
 pub value-returns-in_ok-y-in-And : goal.value-returns-in_ok-y-in-And
 unfolding bind pure
 value-returns-in_ok-y-in-And g t c =
-    rw (c.in-And.is, nodes.value-And, ← c.get-in-And.ensures, c.in_ok-x-in-And.ensures, ← c.truth.ensures, c.if-truth.true,
-    ← c.get-then-truth.ensures, c.in_ok-y-in-And.ensures, c.of_test.ensures, c.truth-then-truth.ensures) refl
+    rw (
+      c.in-And.is,
+      nodes.value-And,
+      ← c.get-in-And.ensures,
+      c.in_ok-x-in-And.ensures,
+      ← c.truth.ensures,
+      c.if-truth.true,
+      ← c.get-then-truth.ensures,
+      c.in_ok-y-in-And.ensures,
+      c.of_test.ensures,
+      c.truth-then-truth.ensures,
+    ) refl
 
 pub value-returns-in_err-y-in-Or : goal.value-returns-in_err-y-in-Or
 value-returns-in_err-y-in-Or g t c =
     rw (c.in-Or.is, nodes.value-Or, ← c.get-in-Or.ensures)
     (goes _ _ _ _ _ _ _ c.in_ok-x-in-Or.ensures
-    (rw (← c.truth-in-Or.ensures, c.if-truth-2.false,
-    ← c.get-else-truth-2.ensures) (stops _ _ _ _ _ _ c.from_residual-in_err-y-in-Or.ensures.1 c.in_err-y-in-Or.ensures)))
+    (rw (
+      ← c.truth-in-Or.ensures,
+      c.if-truth-2.false,
+      ← c.get-else-truth-2.ensures,
+    ) (stops _ _ _ _ _ _ c.from_residual-in_err-y-in-Or.ensures.1 c.in_err-y-in-Or.ensures)))
 
 pub value-returns-in_ok-y-in-Or : goal.value-returns-in_ok-y-in-Or
 unfolding bind pure
 value-returns-in_ok-y-in-Or g t c =
-    rw (c.in-Or.is, nodes.value-Or, ← c.get-in-Or.ensures, c.in_ok-x-in-Or.ensures, ← c.truth-in-Or.ensures, c.if-truth-2.false,
-    ← c.get-else-truth-2.ensures, c.in_ok-y-in-Or.ensures, c.of_test-else-truth-2.ensures, c.truth-else-truth-2.ensures) refl
+    rw (
+      c.in-Or.is,
+      nodes.value-Or,
+      ← c.get-in-Or.ensures,
+      c.in_ok-x-in-Or.ensures,
+      ← c.truth-in-Or.ensures,
+      c.if-truth-2.false,
+      ← c.get-else-truth-2.ensures,
+      c.in_ok-y-in-Or.ensures,
+      c.of_test-else-truth-2.ensures,
+      c.truth-else-truth-2.ensures,
+    ) refl
 
 pub value-returns-in_err-vs-in-Call : goal.value-returns-in_err-vs-in-Call
 value-returns-in_err-vs-in-Call g t c =
