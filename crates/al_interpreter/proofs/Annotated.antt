@@ -8,7 +8,7 @@ use Rattle.al_core.specs.declared.values.Trap.{Trap}
 use Rattle.al_core.specs.declared.values.Trap.TheVariants as trap
 use Rattle.al_core.specs.World.{World}
 use Rattle.al_core.specs.Values.{trip_count, trips}
-use Rattle.al_core.specs.Action.{State, Answer, Act, after, at_line, bind, pure, lift, visit, ◌>>=◌, ◌>>◌}
+use Rattle.al_core.specs.Action.{State, Answer, Act, at_line, pure, lift, visit, ◌>>=◌, ◌>>◌}
 use Rattle.al_core.specs.Meaning.{Flow, Next, Where, Outside, Inside, annotated, annotated_loop, ordinary_trips, then_flow, trips_to}
 use Rattle.al_interpreter.specs.declared.fault.Fault.{Fault}
 use Rattle.al_interpreter.specs.declared.loops.Range.{Range}

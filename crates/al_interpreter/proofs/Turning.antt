@@ -1,5 +1,5 @@
 -- The turns of a loop and the trips of an annotated one, as the code does them.
-use Rattle.std.proofs.Common.{◌≡◌, ℕ, zero, suc, ◌+◌, ◌-◌, ◌<◌, Bool, true, false, Result, Ok, Err, add-one, refl, sym, ap, subst, ◌∙◌, arith}
+use Rattle.std.proofs.Common.{◌≡◌, ℕ, suc, ◌+◌, ◌-◌, ◌<◌, Bool, true, false, Result, Ok, Err, add-one, refl, sym, ap, subst, ◌∙◌, arith}
 use Rattle.std.specs.Prelude.{if◌then◌else◌, IsErrAnd, ℤ, pos, ◌+ℤ◌, ◌≤ℤ◌, ◌<ℤ◌, ◌-ℤ◌, negsuc}
 use Rattle.std.proofs.lemmas.Int.{ints}
 use Rattle.al_core.specs.declared.values.Val.{Val}

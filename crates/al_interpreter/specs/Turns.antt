@@ -1,16 +1,14 @@
 -- Turns of a loop, and what is done before one.
-use Rattle.std.specs.Prelude.{◌≡◌, ⊤, ℕ, zero, suc, Bool, if◌then◌else◌, Option, Some, None, Result, Ok, Err, ℤ}
+use Rattle.std.specs.Prelude.{◌≡◌, ⊤, ℕ, Bool, if◌then◌else◌, Option, Some, None, Result, Ok, Err, ℤ}
 use Rattle.std.specs.Int.{int_max}
 use Rattle.al_core.specs.declared.choices.Bound.{Bound}
 use Rattle.al_core.specs.declared.values.Val.{Val}
 use Rattle.al_core.specs.declared.values.Val.TheVariants.{Int}
-use Rattle.al_core.specs.declared.values.Trap.TheVariants as trap
 use Rattle.al_core.specs.World.{World}
 use Rattle.al_core.specs.Values.{truth, number, trip_count}
 use Rattle.al_core.specs.declared.typed_tree.TExpr.{TExpr}
 use Rattle.al_core.specs.declared.typed_tree.TStmt.{TStmt}
-use Rattle.al_core.specs.declared.typed_tree.TKind.TheOpen.{TKind-F}
-use Rattle.al_core.specs.Action.{State, Answer, Act, pure, lift, spend, get_budget, set_local, ◌>>=◌, ◌>>◌}
+use Rattle.al_core.specs.Action.{State, Answer, Act, pure, lift, spend, set_local, ◌>>=◌, ◌>>◌}
 use Rattle.al_core.specs.Meaning.{Flow, Next, bound_value, then_flow, turn_end, turns, ordinary_trips, trips_to}
 use Rattle.al_interpreter.specs.declared.fault.Fault.{Fault}
 use Rattle.al_interpreter.specs.declared.fault.Fault.TheVariants as fault

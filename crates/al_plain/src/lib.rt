@@ -25,7 +25,7 @@ mod words;
 pub use accesses::Accesses;
 pub use addresses::Addresses;
 pub use content::{Content, Maker, zeros};
-pub use iterations::{Execution, Finished, iteration, iterations, plain_loop};
+pub use iterations::{Execution, Finished, iteration, plain_loop};
 pub use loops::{Loop, loop_at};
 pub use memory::Memory;
 pub use names::Names;

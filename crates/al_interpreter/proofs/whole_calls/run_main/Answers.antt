@@ -5,7 +5,6 @@ use Rattle.al_core.specs.declared.values.Val.{Val}
 use Rattle.al_core.specs.Run.{line_of}
 use Rattle.al_interpreter.specs.Calls.{call_within}
 use Rattle.al_interpreter.specs.Faults.{stopped}
-use Rattle.al_interpreter.proofs.whole_calls.run_main.Given.{Over}
 use Rattle.al_interpreter.proofs.whole_calls.run_main.Goals as goal
 
 pub returns : goal.returns

@@ -1,6 +1,6 @@
-use Rattle.std.proofs.Common.{Ok, Err, refl, sym, ◌∙◌, true, false, arith}
+use Rattle.std.proofs.Common.{Ok, refl, sym, ◌∙◌, true, false, arith}
 use Rattle.std.proofs.lemmas.Int.{ints, to_z-of_z}
-use Rattle.al_core.specs.Action.{bind, pure}
+use Rattle.al_core.specs.Action.{pure}
 use Rattle.al_core.specs.Loops.{bound_of}
 use Rattle.al_core.specs.Meaning.{Next}
 use Rattle.al_interpreter.specs.declared.flow.Turn.TheVariants as turn
