@@ -12,7 +12,7 @@ ghost use Rattle.al_cli.specs.Steps.{IsSearch};
 use al_answers::{Answer, Status};
 use al_core::{Choice, Ending, Knobs, Report};
 use al_front::Noted;
-use al_plain::runs::run;
+use al_plain::run;
 use al_report::{totals_text, trace_text, trap_text};
 use al_search::searched;
 use al_source::Bytes;

@@ -1,12 +1,10 @@
 pub mod Nodes
 pub mod Lists
-pub mod Binds
-pub mod KindNodes
+pub mod Chains
+pub mod Doing
 pub mod Printed
 pub mod Sequences
 pub mod Turning
 pub mod Annotated
-pub mod LoopNodes
 pub mod Calling
-pub mod Iterating
 pub mod Zeros

@@ -1,11 +1,11 @@
 -- The values of a list, as they are gathered.
-use Rattle.std.proofs.Common.{◌≡◌, ℕ, ◌+◌, ◌<◌, List, [], ◌∷◌, ◌++◌, length, drop, get_or, Ok, Err, refl, sym, ap, subst, ◌∙◌, append_assoc}
+use Rattle.std.proofs.Common.{◌≡◌, ℕ, ◌+◌, ◌<◌, List, [], ◌∷◌, ◌++◌, length, drop, get_or, Result, Ok, Err, refl, sym, ap, subst, ◌∙◌, append_assoc}
 use Rattle.std.proofs.lemmas.List.{append-nil, drop_more}
 use Rattle.al_interpreter.specs.declared.fault.Fault.{Fault}
 use Rattle.al_source.specs.Answers.{Does}
 use Rattle.al_interpreter.specs.Faults.{stopped}
-use Rattle.al_interpreter.proofs.Binds.{raised}
-use Rattle.std.specs.Prelude.{ℤ}
+use Rattle.al_interpreter.proofs.Chains.{stops}
+use Rattle.std.specs.Prelude.{ℤ, IsErrAnd}
 use Rattle.al_core.specs.declared.values.Val.{Val}
 use Rattle.al_core.specs.declared.typed_tree.TExpr.{TExpr}
 use Rattle.al_core.specs.World.{World}
@@ -48,9 +48,9 @@ module _ {S : Type 0} (world : World S) (here : Where) (input : List ℤ) (call 
   same_after (Err e) t = refl
 
   -- all of them are those from none on
-  pub gathered : (es : List TExpr) (line : ℕ) (s : State S) → values world here input call es line s ≡ values_from [] es line s
+  pub begins : (es : List TExpr) (line : ℕ) (s : State S) → values world here input call es line s ≡ values_from [] es line s
   unfolding bind
-  gathered es line s = sym (joined es line [] s ∙ same_after (values world here input call es line s).0 (values world here input call es line s).1)
+  begins es line s = sym (joined es line [] s ∙ same_after (values world here input call es line s).0 (values world here input call es line s).1)
 
   next_of : (es : List TExpr) (i : ℕ) (e : TExpr) → i < length es → e ≡ get_or es i e → drop i es ≡ e ∷ drop (i + 1) es
   next_of es i e within is = drop_more es i e within ∙ ap (λ x. x ∷ drop (i + 1) es) (sym is)
@@ -65,11 +65,10 @@ module _ {S : Type 0} (world : World S) (here : Where) (input : List ℤ) (call 
       ∙ ap (λ d. values_from d (drop (i + 1) es) line t) (sym grown)
 
   -- no value more
-  pub no_more : (told : Answer (List Val) × State S) (done : List Val) (es : List TExpr) (i : ℕ) (e : TExpr) (f : Fault) (line : ℕ) (s t : State S)
-      → told ≡ values_from done (drop i es) line s → i < length es → e ≡ get_or es i e → Does {A = Val} stopped (value world here input call e line s) (Err f) t
-      → Does {A = List Val} stopped told (Err f) t
-  unfolding bind
-  no_more told done es i e f line s t so_far within is got =
-      subst (λ (r : Answer (List Val) × State S). Does {A = List Val} stopped r (Err f) t)
+  pub no_more : (told : Answer (List Val) × State S) (done : List Val) (es : List TExpr) (i : ℕ) (e : TExpr) (f : Fault) (r : Result (List Val) Fault)
+      (line : ℕ) (s t : State S) → told ≡ values_from done (drop i es) line s → i < length es → e ≡ get_or es i e → IsErrAnd r (λ x. x ≡ f)
+      → Does {A = Val} stopped (value world here input call e line s) (Err f) t → Does {A = List Val} stopped told r t
+  no_more told done es i e f r line s t so_far within is ends got =
+      subst (λ (x : Answer (List Val) × State S). Does {A = List Val} stopped x r t)
       (sym (so_far ∙ ap (λ l. values_from done l line s) (next_of es i e within is)))
-      (raised (value world here input call e line s) (λ v. values_from (done ++ v ∷ []) (drop (i + 1) es) line) f t got)
+      (stops (value world here input call e line) (λ v. values_from (done ++ v ∷ []) (drop (i + 1) es) line) s t f r ends got)

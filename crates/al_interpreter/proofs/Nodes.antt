@@ -121,7 +121,7 @@ module _ {S : Type 0} (world : World S) (here : Where) (input : List ℤ) (call 
       ≡ (place world here input call q line >>= (λ q. value world here input call x line >>= (λ v. lift line (element q v size))))
   place-Elem q x size line = of_place (TPlace-F.Elem q x size) _ line (p.rolls-Elem q x size)
 
-pub ruleset value_nodes = (
+pub ruleset exprs = (
   value-Number,
   value-Local,
   value-Load,
@@ -139,4 +139,4 @@ pub ruleset value_nodes = (
   value-Free,
 )
 
-pub ruleset place_nodes = (place-Global, place-At, place-Plus, place-Elem)
+pub ruleset places = (place-Global, place-At, place-Plus, place-Elem)

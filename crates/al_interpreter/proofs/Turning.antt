@@ -1,6 +1,6 @@
 -- The turns of a loop and the trips of an annotated one, as the code does them.
-use Rattle.std.proofs.Common.{◌≡◌, ℕ, zero, suc, ◌+◌, ◌-◌, ◌<◌, Bool, true, false, Ok, Err, add-one, refl, sym, ap, subst, ◌∙◌, arith}
-use Rattle.std.specs.Prelude.{if◌then◌else◌, ℤ, pos, ◌+ℤ◌, ◌≤ℤ◌, ◌<ℤ◌, ◌-ℤ◌, negsuc}
+use Rattle.std.proofs.Common.{◌≡◌, ℕ, suc, ◌+◌, ◌-◌, ◌<◌, Bool, true, false, Result, Ok, Err, add-one, refl, sym, ap, subst, ◌∙◌, arith}
+use Rattle.std.specs.Prelude.{if◌then◌else◌, IsErrAnd, ℤ, pos, ◌+ℤ◌, ◌≤ℤ◌, ◌<ℤ◌, ◌-ℤ◌, negsuc}
 use Rattle.std.proofs.lemmas.Int.{ints}
 use Rattle.al_core.specs.declared.values.Val.{Val}
 use Rattle.al_core.specs.declared.values.Trap.TheVariants as trap
@@ -17,33 +17,34 @@ use Rattle.al_interpreter.specs.declared.flow.Turn.TheVariants as turn
 use Rattle.al_source.specs.Answers.{Does}
 use Rattle.al_interpreter.specs.Faults.{stopped}
 use Rattle.al_interpreter.specs.Flows.{flow_of}
-use Rattle.al_interpreter.specs.Turns.{Leads, Turns, one_turn, test_first, trip_first, again_and_again, in_sequence, in_loop}
-use Rattle.al_interpreter.proofs.Binds.{raised}
+use Rattle.al_interpreter.specs.Turns.{Leads, Turns, turn_of, test_first, trip_first, in_sequence, in_loop}
+use Rattle.al_interpreter.proofs.Chains.{ends}
 use Rattle.al_interpreter.proofs.Sequences.{by_turn, after_in_order, after_in_turns}
 
 module _ {S : Type 0} where
-  pub told_turns : (told : Act S Flow → Answer Flow × State S) (d : Turn) (t : State S) → ((again : Act S Flow) → told again ≡ by_turn again d t)
+  told_turns : (told : Act S Flow → Answer Flow × State S) (d : Turn) (t : State S) → ((again : Act S Flow) → told again ≡ by_turn again d t)
       → Turns told (Ok d) t
   unfolding pure
   told_turns told turn.Again t so = so
   told_turns told (turn.Over f) t so = so
 
   -- a fault, whatever comes again
-  pub told_fault : (told : Act S Flow → Answer Flow × State S) (e : Fault) (t : State S)
-      → ((again : Act S Flow) → Does {A = Flow} stopped (told again) (Err e) t) → Turns told (Err e) t
-  told_fault told (fault.Trap c line) t so = so
-  told_fault told fault.Memory t so = so (pure Next)
+  told_fault : (told : Act S Flow → Answer Flow × State S) (e : Fault) (r : Result Turn Fault) (t : State S) → IsErrAnd r (λ x. x ≡ e)
+      → ((again : Act S Flow) → Does {A = Flow} stopped (told again) (Err e) t) → Turns told r t
+  told_fault told e (Err (fault.Trap c line)) t is so = λ again. subst (λ (e : Fault). Does {A = Flow} stopped (told again) (Err e) t) (sym is) (so again)
+  told_fault told e (Err fault.Memory) t is so = tt
+  told_fault told e (Ok d) t is so = absurd is
 
   pub led_fault : {A : Type 0} (told : (A → Act S Flow) → Answer Flow × State S) (next : A → Act S Flow) (e : Fault) (t : State S)
       → Leads {A = A} told (Err e) t → Does {A = Flow} stopped (told next) (Err e) t
   led_fault told next (fault.Trap c line) t so = so next
   led_fault told next fault.Memory t so = so
 
--- ---- a turn
-
 module _ {S : Type 0} (line : ℕ) (test : Act S Val) (body third : Act S Flow) where
-  abbrev pub turned : State S → Act S Flow → Answer Flow × State S
-  turned s again = one_turn line test body third again s
+  -- ---- a turn
+
+  abbrev turned : State S → Act S Flow → Answer Flow × State S
+  turned s again = turn_of line test body third again s
 
   abbrev tested : State S → (Bool → Act S Flow) → Answer Flow × State S
   tested s next = test_first line test next s
@@ -54,8 +55,9 @@ module _ {S : Type 0} (line : ℕ) (test : Act S Val) (body third : Act S Flow) 
   abbrev chosen : Act S Flow → Bool → Act S Flow
   chosen again b = if b then rest again else pure Next
 
-  pub turn_not_tested : (s t : State S) (e : Fault) → Leads {A = Bool} (tested s) (Err e) t → Turns (turned s) (Err e) t
-  turn_not_tested s t e h = told_fault (turned s) e t (λ again. led_fault (tested s) (chosen again) e t h)
+  pub turn_not_tested : (s t : State S) (e : Fault) (r : Result Turn Fault) → IsErrAnd r (λ x. x ≡ e) → Leads {A = Bool} (tested s) (Err e) t
+      → Turns (turned s) r t
+  turn_not_tested s t e r is h = told_fault (turned s) e r t is (λ again. led_fault (tested s) (chosen again) e t h)
 
   pub turn_stops : (s t : State S) (b : Bool) → Leads {A = Bool} (tested s) (Ok b) t → b ≡ false → Turns (turned s) (Ok (turn.Over kept.Next)) t
   unfolding pure
@@ -64,12 +66,11 @@ module _ {S : Type 0} (line : ℕ) (test : Act S Val) (body third : Act S Flow) 
   turn_goes : (s t : State S) (b : Bool) (again : Act S Flow) → Leads {A = Bool} (tested s) (Ok b) t → b ≡ true → turned s again ≡ rest again t
   turn_goes s t b again h is = h (chosen again) ∙ ap (λ b. chosen again b t) is
 
-  pub turn_body_fault : (s t u : State S) (b : Bool) (e : Fault) → Leads {A = Bool} (tested s) (Ok b) t → b ≡ true → Does {A = Flow} stopped (body t) (Err e) u
-      → Turns (turned s) (Err e) u
-  unfolding bind
-  turn_body_fault s t u b e h is did =
-      told_fault (turned s) e u (λ again. subst (λ (r : Answer Flow × State S). Does {A = Flow} stopped r (Err e) u) (sym (turn_goes s t b again h is))
-      (raised (body t) (turn_end (third >>= then_flow again)) e u did))
+  pub turn_body_fault : (s t u : State S) (b : Bool) (e : Fault) (r : Result Turn Fault) → Leads {A = Bool} (tested s) (Ok b) t → b ≡ true
+      → IsErrAnd r (λ x. x ≡ e) → Does {A = Flow} stopped (body t) (Err e) u → Turns (turned s) r u
+  turn_body_fault s t u b e r h is same did =
+      told_fault (turned s) e r u same (λ again. subst (λ (r : Answer Flow × State S). Does {A = Flow} stopped r (Err e) u) (sym (turn_goes s t b again h is))
+      (ends body (turn_end (third >>= then_flow again)) t u e did))
 
   turn_body : (s t u : State S) (b : Bool) (f : Kept) (d : Turn) (again : Act S Flow) → Leads {A = Bool} (tested s) (Ok b) t → b ≡ true
       → body t ≡ (Ok (flow_of f), u) → in_loop f ≡ d → turned s again ≡ by_turn (third >>= then_flow again) d u
@@ -80,74 +81,49 @@ module _ {S : Type 0} (line : ℕ) (test : Act S Val) (body third : Act S Flow) 
   unfolding pure
   turn_over s t u b f g h is did ends again = turn_body s t u b f (turn.Over g) again h is did ends
 
-  pub turn_third_fault : (s t u v : State S) (b : Bool) (f : Kept) (e : Fault) → Leads {A = Bool} (tested s) (Ok b) t → b ≡ true → body t ≡ (Ok (flow_of f), u)
-      → in_loop f ≡ turn.Again → Does {A = Flow} stopped (third u) (Err e) v → Turns (turned s) (Err e) v
-  unfolding bind
-  turn_third_fault s t u v b f e h is did ends third_did =
-      told_fault (turned s) e v (λ again. subst (λ (r : Answer Flow × State S). Does {A = Flow} stopped r (Err e) v)
-      (sym (turn_body s t u b f turn.Again again h is did ends)) (raised (third u) (then_flow again) e v third_did))
+  pub turn_third_fault : (s t u v : State S) (b : Bool) (f : Kept) (e : Fault) (r : Result Turn Fault) → Leads {A = Bool} (tested s) (Ok b) t → b ≡ true
+      → body t ≡ (Ok (flow_of f), u) → in_loop f ≡ turn.Again → IsErrAnd r (λ x. x ≡ e) → Does {A = Flow} stopped (third u) (Err e) v → Turns (turned s) r v
+  turn_third_fault s t u v b f e r h is did so same third_did =
+      told_fault (turned s) e r v same (λ again. subst (λ (r : Answer Flow × State S). Does {A = Flow} stopped r (Err e) v)
+      (sym (turn_body s t u b f turn.Again again h is did so)) (ends third (then_flow again) u v e third_did))
 
   pub turn_third : (s t u v : State S) (b : Bool) (f g : Kept) (d : Turn) → Leads {A = Bool} (tested s) (Ok b) t → b ≡ true → body t ≡ (Ok (flow_of f), u)
       → in_loop f ≡ turn.Again → third u ≡ (Ok (flow_of g), v) → in_sequence g ≡ d → Turns (turned s) (Ok d) v
   turn_third s t u v b f g d h is did ends third_did third_ends =
       told_turns (turned s) d v (λ again. turn_body s t u b f turn.Again again h is did ends ∙ after_in_order third again g d u v third_did third_ends)
 
-module _ {S : Type 0} where
-  without_third : (again : Act S Flow) (d : Turn) → by_turn (pure Next >>= then_flow again) d ≡ by_turn again d
-  unfolding bind pure
-  without_third again turn.Again = refl
-  without_third again (turn.Over f) = refl
+  -- ---- turns
 
-  -- a loop with no third part
-  pub turn_alone : (line : ℕ) (test : Act S Val) (body : Act S Flow) (s t u : State S) (b : Bool) (f : Kept) (d : Turn)
-      → Leads {A = Bool} (tested line test body (pure Next) s) (Ok b) t → b ≡ true → body t ≡ (Ok (flow_of f), u) → in_loop f ≡ d
-      → Turns (turned line test body (pure Next) s) (Ok d) u
-  turn_alone line test body s t u b f d h is did ends =
-      told_turns (turned line test body (pure Next) s) d u (λ again. turn_body line test body (pure Next) s t u b f d again h is did ends
-      ∙ ap (λ (p : Act S Flow). p u) (without_third again d))
+  abbrev at_most : ℕ → Act S Flow
+  at_most n = turns_to n line test body third
 
--- ---- turns
-
-module _ {S : Type 0} (line : ℕ) (one : Act S Flow → Act S Flow) where
-  abbrev repeated : State S → Act S Flow → Answer Flow × State S
-  repeated s again = one again s
-
-  pub turns_begin : (s : State S) (n : ℕ) → n ≡ s.budget + 1 → (get_budget >>= (λ n. again_and_again (suc n) line one)) s ≡ again_and_again n line one s
+  pub turns_begin : (s : State S) (n : ℕ) → n ≡ s.budget + 1 → turns line test body third s ≡ at_most n s
   unfolding bind get_budget
-  turns_begin s n is = ap (λ n. again_and_again n line one s) (sym (add-one s.budget)) ∙ ap (λ n. again_and_again n line one s) (sym is)
+  turns_begin s n is = ap (λ n. at_most n s) (sym (add-one s.budget)) ∙ ap (λ n. at_most n s) (sym is)
 
-  turns_open : (told : Answer Flow × State S) (n : ℕ) (s : State S) → told ≡ again_and_again n line one s → 0 < n
-      → told ≡ repeated s (again_and_again (n - 1) line one)
-  turns_open told n s so some = let more : n ≡ suc (n - 1) = omega arith in so ∙ ap (λ n. again_and_again n line one s) more
+  turns_open : (told : Answer Flow × State S) (n : ℕ) (s : State S) → told ≡ at_most n s → 0 < n → told ≡ turned s (at_most (n - 1))
+  turns_open told n s so some = let more : n ≡ suc (n - 1) = omega arith in so ∙ ap (λ n. at_most n s) more
 
-  pub turns_fault : (told : Answer Flow × State S) (n : ℕ) (s t : State S) (e : Fault) → told ≡ again_and_again n line one s → 0 < n
-      → Turns (repeated s) (Err e) t → Does {A = Flow} stopped told (Err e) t
-  turns_fault told n s t (fault.Trap c at) so some h = turns_open told n s so some ∙ h (again_and_again (n - 1) line one)
+  pub turns_fault : (told : Answer Flow × State S) (n : ℕ) (s t : State S) (e : Fault) → told ≡ at_most n s → 0 < n
+      → Turns (turned s) (Err e) t → Does {A = Flow} stopped told (Err e) t
+  turns_fault told n s t (fault.Trap c at) so some h = turns_open told n s so some ∙ h (at_most (n - 1))
   turns_fault told n s t fault.Memory so some h = h
 
-  pub turns_over : (told : Answer Flow × State S) (n : ℕ) (s t : State S) (d : Turn) (f : Kept) → told ≡ again_and_again n line one s → 0 < n
-      → Turns (repeated s) (Ok d) t → d ≡ turn.Over f → told ≡ (Ok (flow_of f), t)
+  pub turns_over : (told : Answer Flow × State S) (n : ℕ) (s t : State S) (d : Turn) (f : Kept) → told ≡ at_most n s → 0 < n
+      → Turns (turned s) (Ok d) t → d ≡ turn.Over f → told ≡ (Ok (flow_of f), t)
   unfolding pure
   turns_over told n s t turn.Again f so some h is = cc
   turns_over told n s t (turn.Over g) f so some h is =
-      turns_open told n s so some ∙ h (again_and_again (n - 1) line one) ∙ ap (λ (d : Turn). by_turn {S = S} (pure Next) d t) is
+      turns_open told n s so some ∙ h (at_most (n - 1)) ∙ ap (λ (d : Turn). by_turn {S = S} (pure Next) d t) is
 
-  pub turns_again : (told : Answer Flow × State S) (n : ℕ) (s t : State S) (d : Turn) → told ≡ again_and_again n line one s → 0 < n
-      → Turns (repeated s) (Ok d) t → d ≡ turn.Again → told ≡ again_and_again (n - 1) line one t
-  turns_again told n s t turn.Again so some h is = turns_open told n s so some ∙ h (again_and_again (n - 1) line one)
+  pub turns_again : (told : Answer Flow × State S) (n : ℕ) (s t : State S) (d : Turn) → told ≡ at_most n s → 0 < n
+      → Turns (turned s) (Ok d) t → d ≡ turn.Again → told ≡ at_most (n - 1) t
+  turns_again told n s t turn.Again so some h is = turns_open told n s so some ∙ h (at_most (n - 1))
   turns_again told n s t (turn.Over g) so some h is = cc
 
-  pub turns_out : (told : Answer Flow × State S) (n : ℕ) (s : State S) → told ≡ again_and_again n line one s → n ≡ 0 → told ≡ (Err (trap.Steps, line), s)
+  pub turns_out : (told : Answer Flow × State S) (n : ℕ) (s : State S) → told ≡ at_most n s → n ≡ 0 → told ≡ (Err (trap.Steps, line), s)
   unfolding lift
-  turns_out told n s so none = so ∙ ap (λ n. again_and_again n line one s) none
-
-module _ {S : Type 0} (line : ℕ) (test : Act S Val) (body third : Act S Flow) where
-  turns_are : (n : ℕ) → turns_to n line test body third ≡ again_and_again n line (one_turn line test body third)
-  turns_are zero = refl
-  turns_are (suc n) = ap (one_turn line test body third) (turns_are n)
-
-  pub all_turns : turns line test body third ≡ (get_budget >>= (λ n. again_and_again (suc n) line (one_turn line test body third)))
-  all_turns = λ j. get_budget >>= (λ n. turns_are (suc n) j)
+  turns_out told n s so none = so ∙ ap (λ n. at_most n s) none
 
 -- ---- trips
 
@@ -210,10 +186,9 @@ module _ {S : Type 0} (world : World S) (line counter : ℕ) (lo hi : ℤ) (body
 
   pub trip_fault : (told : Answer Flow × State S) (n : ℤ) (s t u : State S) (x : Unit {0}) (e : Fault) → told ≡ trips_from n s → lo ≤ℤ n → n <ℤ hi
       → Leads {A = Unit {0}} (begun s n) (Ok x) t → Does {A = Flow} stopped (body t) (Err e) u → Does {A = Flow} stopped told (Err e) u
-  unfolding bind
   trip_fault told n s t u x e so from more h did =
       subst (λ (r : Answer Flow × State S). Does {A = Flow} stopped r (Err e) u) (sym (trip_begun told n s t x so from more h))
-      (raised (body t) (turn_end (trips_from (n +ℤ pos 1))) e u did)
+      (ends body (turn_end (trips_from (n +ℤ pos 1))) t u e did)
 
   pub trip_over : (told : Answer Flow × State S) (n : ℤ) (s t u : State S) (x : Unit {0}) (f : Kept) (d : Turn) → told ≡ trips_from n s → lo ≤ℤ n → n <ℤ hi
       → Leads {A = Unit {0}} (begun s n) (Ok x) t → body t ≡ (Ok (flow_of f), u) → in_loop f ≡ d → told ≡ by_turn (trips_from (n +ℤ pos 1)) d u

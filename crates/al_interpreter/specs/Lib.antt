@@ -1,9 +1,10 @@
+pub mod Acts
 pub mod Faults
 pub mod Settings
 pub mod Frames
 pub mod Flows
 pub mod Starts
-pub mod Doing
+pub mod Scenes
 pub mod Calls
 pub mod Turns
 pub mod Stages

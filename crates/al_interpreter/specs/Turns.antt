@@ -1,18 +1,15 @@
 -- Turns of a loop, and what is done before one.
-use Rattle.std.specs.Prelude.{◌≡◌, ⊤, ℕ, zero, suc, Bool, if◌then◌else◌, Option, Some, None, Result, Ok, Err, ℤ}
+use Rattle.std.specs.Prelude.{◌≡◌, ⊤, ℕ, Bool, if◌then◌else◌, Option, Some, None, Result, Ok, Err, ℤ}
 use Rattle.std.specs.Int.{int_max}
 use Rattle.al_core.specs.declared.choices.Bound.{Bound}
 use Rattle.al_core.specs.declared.values.Val.{Val}
 use Rattle.al_core.specs.declared.values.Val.TheVariants.{Int}
-use Rattle.al_core.specs.declared.values.Trap.TheVariants as trap
 use Rattle.al_core.specs.World.{World}
-use Rattle.al_core.specs.Values.{truth, number}
+use Rattle.al_core.specs.Values.{truth, number, trip_count}
 use Rattle.al_core.specs.declared.typed_tree.TExpr.{TExpr}
 use Rattle.al_core.specs.declared.typed_tree.TStmt.{TStmt}
-use Rattle.al_core.specs.declared.typed_tree.TKind.{TKind}
-use Rattle.al_core.specs.declared.typed_tree.TKind.TheOpen.{TKind-F}
-use Rattle.al_core.specs.Action.{State, Answer, Act, pure, lift, spend, get_budget, set_local, ◌>>=◌, ◌>>◌}
-use Rattle.al_core.specs.Meaning.{Flow, Next, Where, bound_value, then_flow, turn_end}
+use Rattle.al_core.specs.Action.{State, Answer, Act, pure, lift, spend, set_local, ◌>>=◌, ◌>>◌}
+use Rattle.al_core.specs.Meaning.{Flow, Next, bound_value, then_flow, turn_end, turns, ordinary_trips, trips_to}
 use Rattle.al_interpreter.specs.declared.fault.Fault.{Fault}
 use Rattle.al_interpreter.specs.declared.fault.Fault.TheVariants as fault
 use Rattle.al_interpreter.specs.declared.flow.Flow.{Flow as Kept}
@@ -20,9 +17,8 @@ use Rattle.al_interpreter.specs.declared.flow.Flow.TheVariants as kept
 use Rattle.al_interpreter.specs.declared.flow.Turn.{Turn}
 use Rattle.al_interpreter.specs.declared.flow.Turn.TheVariants as turn
 use Rattle.al_interpreter.specs.declared.loops.Range.{Range}
-use Rattle.al_interpreter.specs.declared.setting.Setting.{Setting}
 use Rattle.al_interpreter.specs.Flows.{flow_of}
-use Rattle.al_interpreter.specs.Doing.{test_value, execute, execute_any}
+use Rattle.al_interpreter.specs.Scenes.{Scene, test_value, execute, execute_any}
 
 -- ---- what comes after a statement
 
@@ -55,45 +51,32 @@ module _ {S : Type 0} where
       >>= (λ hi. next (Some (record { counter = counter; lo = lo; hi = hi })))))
   range_first world None bound line next = next None
 
+  -- a turn of a loop: its test, its body and its third part, and then what comes again
+  abbrev pub turn_of : ℕ → Act S Val → Act S Flow → Act S Flow → Act S Flow → Act S Flow
+  turn_of line test body third again =
+      test_first line test (λ b. if b then body >>= turn_end (third >>= then_flow again) else pure Next)
+
   -- what comes after an annotated loop's trips
   abbrev pub loop_end : World S → ℕ → ℕ → ℤ → ℤ → Act S Flow
   loop_end world line counter lo hi = set_local world counter (Int (int_max lo hi)) line >> pure Next
 
--- ---- the turns of a loop
+-- ---- the turns and the trips of a loop
 
--- a loop's test, body and third part
-pub record LoopParts : Type 0 where
-  pub test : Option TExpr
-  pub body : TStmt
-  pub third : Option TStmt
-
--- those of a kind of statement, where it is a loop
-abbrev pub loop_in : TKind-F TKind TStmt → Option LoopParts
-loop_in (TKind-F.While e a) = Some (record { test = Some e; body = a; third = None })
-loop_in (TKind-F.For first test third body number) = Some (record { test = test; body = body; third = third })
-loop_in _ = None
-
-module _ {S : Type 0} where
-  abbrev pub one_turn : ℕ → Act S Val → Act S Flow → Act S Flow → Act S Flow → Act S Flow
+module _ {S : Type 0} (x : Scene S) where
+  -- a turn, and then what comes again
+  abbrev pub one_turn : ℕ → Option TExpr → TStmt → Option TStmt → Act S Flow → Act S Flow
   one_turn line test body third again =
-      spend line
-      >> (test >>= (λ v. if truth v then body >>= turn_end (third >>= then_flow again) else pure Next))
+      turn_of line (test_value x test line) (execute x body) (execute_any x third) again
 
-  -- at most so many turns
-  abbrev pub again_and_again : ℕ → ℕ → (Act S Flow → Act S Flow) → Act S Flow
-  again_and_again zero line one = lift line (Err trap.Steps)
-  again_and_again (suc n) line one = one (again_and_again n line one)
+  abbrev pub all_turns : ℕ → Option TExpr → TStmt → Option TStmt → Act S Flow
+  all_turns line test body third = turns line (test_value x test line) (execute x body) (execute_any x third)
 
-module _ {S : Type 0} (world : World S) (here : Where) (on : Setting) (room : ℕ) where
-  abbrev pub loop_turn : Option LoopParts → ℕ → Act S Flow → Act S Flow
-  loop_turn (Some p) line again =
-      one_turn line (test_value world here on room p.test line) (execute world here on room p.body)
-      (execute_any world here on room p.third) again
-  loop_turn None line again = pure Next
+  -- an annotated loop inside an iteration, and its trips
+  abbrev pub ordinary_loop : ℕ → Range → TStmt → Act S Flow
+  ordinary_loop line r body = ordinary_trips x.world line r.counter r.lo r.hi (execute x body)
 
-  -- as many turns as there are steps left, and one more
-  abbrev pub loop_turns : Option LoopParts → ℕ → Act S Flow
-  loop_turns parts line = get_budget >>= (λ n. again_and_again (suc n) line (loop_turn parts line))
+  abbrev pub loop_trips : ℕ → Range → TStmt → Act S Flow
+  loop_trips line r body = trips_to x.world (trip_count r.lo r.hi) line r.counter r.lo 0 (execute x body)
 
 -- It leads to what comes next, from an answer, or traps, whatever comes next.
 abbrev pub Leads : {A S : Type 0} → ((A → Act S Flow) → Answer Flow × State S) → Result A Fault → State S → Type 0

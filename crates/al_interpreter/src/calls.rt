@@ -1,63 +1,72 @@
-ghost use Rattle.std.specs.Prelude.{◌≡◌, ◌++◌, ◌-◌, IfOk, length, pos, replicate};
-ghost use Rattle.std.specs.Option.{option_copied};
-ghost use Rattle.al_core.specs.declared.values.Val.TheVariants as value;
-ghost use Rattle.al_core.specs.Meaning as meaning;
-ghost use Rattle.al_core.specs.Run as run;
-ghost use Rattle.al_interpreter.specs.Flows.{flow_of};
+ghost use Rattle.std.specs.Prelude.{ℕ, List};
+ghost use Rattle.al_source.specs.Answers.{Does};
+ghost use Rattle.al_core.specs.declared.values.Val.{Val};
+ghost use Rattle.al_core.specs.Action.{At};
+ghost use Rattle.al_interpreter.specs.declared.setting.Setting as given;
+ghost use Rattle.al_interpreter.specs.Faults.{stopped};
+ghost use Rattle.al_interpreter.specs.Calls.{ByFunction, call_within};
 
-use crate::flow::Flow;
-use crate::frame::{Frame, Own};
-use al_core::{TFunc, TStmt, Val};
+use crate::fault::Fault;
+use crate::machine::Machine;
+use crate::setting::Setting;
+use crate::stage::Stage;
+use al_core::Val;
 use sqlite_items::Items;
-use std::alloc::AllocError;
+use std::alloc::Global;
+use std::marker::PhantomData;
 
-/// The locals, and 0 in all others up to a count.
-#[tactic(auto, using(crate::proofs::Zeros::one_zero_more, crate::proofs::Zeros::no_zero))]
-fn filled(mut locals: Items<Val>, count: usize) -> Result<Items<Val>, AllocError>
-    ensures { IfOk result (λ all. all ≡ locals ++ replicate (count - length locals) (value.Int (pos 0))) }
-{
-    let missing = count.saturating_sub(locals.len());
-    for _i in 0..missing {
-        locals.push(Val::Int(0))?;
-    }
-    Ok(locals)
+/// What calls do. A walk takes it, so that the walk is proved by itself.
+pub trait Calls {
+    /// What the code runs on.
+    type On: Stage;
+
+    /// Whether functions may be called, on what a run is given.
+    ghost can_call: { Self → given.Setting → Type 0 };
+
+    /// What a call does, on what a run is given: of a function by its number, with arguments, at a line.
+    ghost does: { Self → given.Setting → ℕ → List Val → At Self.On Val };
+
+    /// Calls a function.
+    fn call(
+        &self,
+        on: &Setting<'_>,
+        m: &mut Machine<Self::On>,
+        f: u32,
+        args: Items<Val>,
+        line: u32,
+    ) -> Result<Val, Fault>
+        requires { can_call self.now on.now }
+        ensures { Does stopped (does self.now on.now f args line m.old) result m.new };
 }
 
-/// The locals of a function that is called.
-pub fn frame_of(f: Option<&TFunc>, args: Items<Val>) -> Result<Frame, AllocError>
-    ensures { IfOk result (λ frame. frame ≡ meaning.frame_of (option_copied f.entry) args) }
-{
-    match f {
-        Some(f) => Ok(Frame::new(filled(args, f.locals.len())?, Own::All)),
-        None => Ok(Frame::new(args, Own::All)),
-    }
+/// Calls by a function of the code, where so many more calls may be active.
+#[derive(Drop)]
+pub struct Within<S, F> {
+    pub alloc: Global,
+    pub room: u32,
+    pub function: F,
+    pub stage: PhantomData<S>,
 }
 
-pub fn body_of(f: Option<&TFunc>) -> &[TStmt]
-    ensures { result.now ≡ meaning.body_of (option_copied f.entry) }
+impl<S: Stage, F> Calls for Within<S, F>
+where
+    F: Fn(Global, &Setting<'_>, u32, &mut Machine<S>, u32, Items<Val>, u32) -> Result<Val, Fault>,
 {
-    match f {
-        Some(f) => f.body.as_slice(),
-        None => &[],
-    }
-}
+    type On = S;
 
-/// The line of a function's definition.
-pub fn line_of(f: Option<&TFunc>) -> u32
-    ensures { result ≡ run.line_of (option_copied f.entry) }
-{
-    match f {
-        Some(f) => f.line,
-        None => 0,
-    }
-}
+    ghost can_call = { λ c on.
+        ByFunction (call_within S.world S.place c.room) c.room on (F.pre c.function) (F.post c.function) };
 
-/// What a function gives whose body ends so.
-pub fn returned(flow: Flow) -> Val
-    ensures { result ≡ meaning.returned (flow_of flow) }
-{
-    match flow {
-        Flow::Returned(v) => v,
-        Flow::Next | Flow::Broke | Flow::Continued => Val::Int(0),
+    ghost does = { λ c. call_within S.world S.place c.room };
+
+    fn call(
+        &self,
+        on: &Setting<'_>,
+        m: &mut Machine<S>,
+        f: u32,
+        args: Items<Val>,
+        line: u32,
+    ) -> Result<Val, Fault> {
+        (self.function)(self.alloc, on, self.room, m, f, args, line)
     }
 }

@@ -1,23 +1,33 @@
-//! The plain interpreter: it computes what a program means by walking its tree, on one thread.
+//! Walks a typed tree over any memory that code may see, where al_plain has the memory, the chunks, the rounds and the
+//! whole runs.
 #![tactic(auto)]
 
-pub mod blocks;
-pub mod calls;
-pub mod expressions;
-pub mod fault;
-pub mod flow;
-pub mod frame;
-pub mod ground;
-pub mod loops;
-pub mod machine;
-pub mod parts;
-pub mod printing;
-pub mod program;
-pub mod setting;
-pub mod stage;
-pub mod statements;
-pub mod walker;
-pub mod whole_calls;
+mod blocks;
+mod calls;
+mod expressions;
+mod fault;
+mod flow;
+mod frame;
+mod functions;
+mod loops;
+mod machine;
+mod parts;
+mod printing;
+mod program;
+mod setting;
+mod stage;
+mod statements;
+mod walker;
+mod whole_calls;
 
+pub use calls::Calls;
 pub use fault::Fault;
+pub use flow::Flow;
+pub use frame::{Frame, Own};
+pub use machine::Machine;
+pub use parts::{Start, bound_of, start_of};
+pub use program::Program;
 pub use setting::Setting;
+pub use stage::Stage;
+pub use walker::Walker;
+pub use whole_calls::{iterate, run_main};

@@ -1,26 +1,24 @@
 ghost use Rattle.std.specs.Prelude.{◌≡◌};
 ghost use Rattle.std.specs.Option.{option_copied};
 ghost use Rattle.al_source.specs.Answers.{Does};
-ghost use Rattle.al_core.specs.Action.{visit};
 ghost use Rattle.al_core.specs.Values as arithmetic;
 ghost use Rattle.al_core.specs.Loops.{bound_of};
 ghost use Rattle.al_core.specs.Meaning as meaning;
 ghost use Rattle.al_interpreter.specs.Faults.{stopped};
 ghost use Rattle.al_interpreter.specs.Flows.{flow_of, flowed};
-ghost use Rattle.al_interpreter.specs.Calls.{Calls};
-ghost use Rattle.al_interpreter.specs.Doing as doing;
+ghost use Rattle.al_interpreter.specs.Scenes.{scene, test_value, start_value};
 ghost use Rattle.al_interpreter.specs.Turns.{Leads, test_first, trip_first, range_first, loop_end};
 
+use crate::calls::Calls;
 use crate::fault::Fault;
 use crate::flow::Flow;
-use crate::ground::Ground;
 use crate::machine::Machine;
 use crate::parts::{part, start_of};
 use crate::setting::Setting;
+use crate::stage::Stage;
 use crate::walker::Walker;
 use al_core::{TExpr, TStmt, Trap, Val, number, trips, truth};
 use sqlite_items::{Boxed, Items};
-use std::alloc::Global;
 
 /// The counter of an annotated loop, its start and its bound.
 #[derive(Clone, Copy, Debug, PartialEq, Eq)]
@@ -39,20 +37,7 @@ impl Range {
     }
 }
 
-impl<G: Ground> Machine<G> {
-    /// Hands an annotated loop on.
-    pub fn hand_on(
-        &mut self,
-        alloc: Global,
-        on: &Setting<'_>,
-        number: u32,
-        range: Range,
-    ) -> Result<(), Fault>
-        ensures { Does stopped (visit (G.world on.now) number range.lo range.hi self.old) result self.new }
-    {
-        self.visit(alloc, on, number, range.lo, range.hi)
-    }
-
+impl<S: Stage> Machine<S> {
     /// Begins a trip of an annotated loop: it spends a step and sets the counter.
     #[tactic(auto, unfolding(al_core::specs::Action::bind))]
     pub fn begin_trip(
@@ -62,14 +47,14 @@ impl<G: Ground> Machine<G> {
         n: i64,
         line: u32,
     ) -> Result<(), Fault>
-        ensures { Leads (λ next. trip_first (G.world on.now) line counter n next self.old) result self.new }
+        ensures { Leads (λ next. trip_first (S.world on.now) line counter n next self.old) result self.new }
     {
         self.spend(line)?;
         self.set_local(on, counter, Val::Int(n), line)
     }
 
     /// What comes after an annotated loop's trips: the counter ends at the greater of its start and its bound.
-    #[tactic(auto, unfolding(al_core::specs::Action::bind, al_core::specs::Action::pure))]
+    #[tactic(auto, unfolding(crate::specs::Acts::bind, crate::specs::Acts::pure))]
     pub fn past_loop(
         &mut self,
         on: &Setting<'_>,
@@ -78,7 +63,7 @@ impl<G: Ground> Machine<G> {
         line: u32,
     ) -> Result<Flow, Fault>
         ensures { Does stopped
-            (meaning.then_flow (loop_end (G.world on.now) line range.counter range.lo range.hi) (flow_of flow) self.old)
+            (meaning.then_flow (loop_end (S.world on.now) line range.counter range.lo range.hi) (flow_of flow) self.old)
             (flowed result) self.new }
     {
         match flow {
@@ -92,66 +77,45 @@ impl<G: Ground> Machine<G> {
     }
 }
 
-impl<F> Walker<F> {
+impl<'a, C: Calls> Walker<'a, C> {
     /// Spends a step and tests whether a loop goes on.
-    #[tactic(auto, unfolding(al_core::specs::Action::bind, al_core::specs::Action::pure))]
-    pub fn holds<G: Ground>(
+    #[tactic(auto, unfolding(crate::specs::Acts::bind, crate::specs::Acts::pure))]
+    pub fn holds(
         &self,
-        on: &Setting<'_>,
-        m: &mut Machine<G>,
+        m: &mut Machine<C::On>,
         test: Option<&TExpr>,
         line: u32,
     ) -> Result<bool, Fault>
-    where
-        F: Fn(
-            Global,
-            &Setting<'_>,
-            u32,
-            &mut Machine<G>,
-            u32,
-            Items<Val>,
-            u32,
-        ) -> Result<Val, Fault>,
-        requires { Calls (G.world on.now) G.place on.now self.now.room (F.pre self.now.call) (F.post self.now.call) }
-        ensures { let value = doing.test_value (G.world on.now) G.place on.now self.now.room in
-            Leads (λ next. test_first line (value (option_copied test.entry) line) next m.old) result m.new }
+        requires { C.can_call self.now.calls self.now.on.now }
+        ensures { let x = scene C.On.world C.On.place C.does self.now in
+            Leads (λ next. test_first line (test_value x (option_copied test.entry) line) next m.old) result m.new }
     {
         m.spend(line)?;
-        let v = self.test(on, m, test, line)?;
+        let v = self.test(m, test, line)?;
         Ok(truth(v))
     }
 
     /// Evaluates the start of an annotated loop and then reads its bound. A loop whose first part sets no local has
     /// none.
-    #[tactic(auto, unfolding(al_core::specs::Action::bind, al_core::specs::Action::pure))]
-    pub fn range<G: Ground>(
+    #[tactic(auto, unfolding(crate::specs::Acts::bind, crate::specs::Acts::pure))]
+    pub fn range(
         &self,
-        on: &Setting<'_>,
-        m: &mut Machine<G>,
+        m: &mut Machine<C::On>,
         first: &Option<Boxed<TStmt>>,
         test: &Option<TExpr>,
         line: u32,
     ) -> Result<Option<Range>, Fault>
-    where
-        F: Fn(
-            Global,
-            &Setting<'_>,
-            u32,
-            &mut Machine<G>,
-            u32,
-            Items<Val>,
-            u32,
-        ) -> Result<Val, Fault>,
-        requires { Calls (G.world on.now) G.place on.now self.now.room (F.pre self.now.call) (F.post self.now.call) }
-        ensures { let start = doing.start_value (G.world on.now) G.place on.now self.now.room first.now in
-            Leads (λ next. range_first (G.world on.now) start (bound_of test.now) line next m.old) result m.new }
+        requires { C.can_call self.now.calls self.now.on.now }
+        ensures { let x = scene C.On.world C.On.place C.does self.now in
+            let ranged = range_first x.world (start_value x first.now) (bound_of test.now) line in
+            Leads (λ next. ranged next m.old) result m.new }
     {
         let Some(start) = start_of(part(first)) else {
             return Ok(None);
         };
-        let v = self.value(on, m, start.value, start.line)?;
+        let v = self.value(m, start.value, start.line)?;
         let lo = m.lift(line, number(v))?;
-        let hi = self.bound(on, m, test.as_ref(), line)?;
+        let hi = self.bound(m, test.as_ref(), line)?;
         let counter = start.counter;
         Ok(Some(Range { counter, lo, hi }))
     }

@@ -1,4 +1,4 @@
-ghost use Rattle.std.specs.Prelude.{◌≡◌, Ok};
+ghost use Rattle.std.specs.Prelude.{◌≡◌, ℕ, Ok, OnOk};
 ghost use Rattle.al_source.specs.Answers.{Does};
 ghost use Rattle.al_core.specs.Action as spec;
 ghost use Rattle.al_interpreter.specs.Faults.{stopped, lined};
@@ -6,27 +6,27 @@ ghost use Rattle.al_interpreter.specs.Stages.{is_outside};
 
 use crate::fault::Fault;
 use crate::frame::Frame;
-use crate::ground::Ground;
+use crate::loops::Range;
 use crate::setting::Setting;
 use crate::stage::Stage;
 use al_core::{Addr, Budget, Kind, Obj, Trap, Val, ViewFault};
-use std::alloc::Global;
+use std::alloc::{AllocError, Global};
 use std::marker::Model;
 
-/// The state of the code that runs: the frame, the steps that are left, and the ground.
+/// The state of the code that runs: the frame, the steps that are left, and what the code runs on.
 #[derive(Drop)]
-pub struct Machine<G> {
+pub struct Machine<S> {
     frame: Frame,
     budget: Budget,
-    ground: G,
+    stage: S,
 }
 
-impl<G> Model for Machine<G> {
+impl<S> Model for Machine<S> {
     ghost use Rattle.al_core.specs.Action.{State};
 
-    ghost Value = { State G };
+    ghost Value = { State S };
 
-    ghost view = { λ m. record { frame = m.frame; budget = m.budget; world = m.ground } };
+    ghost view = { λ m. record { frame = m.frame; budget = m.budget; world = m.stage } };
 }
 
 fn at_line<T>(line: u32, r: Result<T, ViewFault>) -> Result<T, Fault>
@@ -39,14 +39,14 @@ fn at_line<T>(line: u32, r: Result<T, ViewFault>) -> Result<T, Fault>
     }
 }
 
-impl<G> Machine<G> {
-    pub fn new(frame: Frame, budget: Budget, ground: G) -> Machine<G>
-        ensures { result ≡ record { frame = frame; budget = budget; world = ground } }
+impl<S> Machine<S> {
+    pub fn new(frame: Frame, budget: Budget, stage: S) -> Machine<S>
+        ensures { result ≡ record { frame = frame; budget = budget; world = stage } }
     {
         Machine {
             frame,
             budget,
-            ground,
+            stage,
         }
     }
 
@@ -58,14 +58,14 @@ impl<G> Machine<G> {
     }
 
     /// What the code ran on, at its end.
-    pub fn into_ground(self) -> G
+    pub fn into_stage(self) -> S
         ensures { result ≡ self.world }
     {
-        self.ground
+        self.stage
     }
 }
 
-impl<G: Ground> Machine<G> {
+impl<S: Stage> Machine<S> {
     /// Takes a step.
     #[tactic(auto, unfolding(al_core::specs::Action::spend))]
     pub fn spend(&mut self, line: u32) -> Result<(), Fault>
@@ -91,24 +91,24 @@ impl<G: Ground> Machine<G> {
 
     #[tactic(auto, unfolding(al_core::specs::Action::bind, al_core::specs::Action::pure, al_core::specs::Action::asks, al_core::specs::Action::get_frame))]
     pub fn get_local(&mut self, on: &Setting<'_>, k: u32, line: u32) -> Result<Val, Fault>
-        ensures { Does stopped (spec.get_local (G.world on.now) k line self.old) result self.new }
+        ensures { Does stopped (spec.get_local (S.world on.now) k line self.old) result self.new }
     {
         if self.frame.is_private(k) {
             return Ok(self.frame.get(k));
         }
-        let r = self.ground.load(on, Addr::Local(k), Kind::Int);
+        let r = self.stage.load(on, Addr::Local(k), Kind::Int);
         at_line(line, r)
     }
 
     #[tactic(auto, unfolding(al_core::specs::Action::bind, al_core::specs::Action::asks, al_core::specs::Action::get_frame, al_core::specs::Action::set_frame))]
     pub fn set_local(&mut self, on: &Setting<'_>, k: u32, v: Val, line: u32) -> Result<(), Fault>
-        ensures { Does stopped (spec.set_local (G.world on.now) k v line self.old) result self.new }
+        ensures { Does stopped (spec.set_local (S.world on.now) k v line self.old) result self.new }
     {
         if self.frame.is_private(k) {
             self.frame.set(k, v);
             return Ok(());
         }
-        let r = self.ground.store(on, Addr::Local(k), v);
+        let r = self.stage.store(on, Addr::Local(k), v);
         at_line(line, r)
     }
 
@@ -120,9 +120,9 @@ impl<G: Ground> Machine<G> {
         want: Kind,
         line: u32,
     ) -> Result<Val, Fault>
-        ensures { Does stopped (spec.load (G.world on.now) at want line self.old) result self.new }
+        ensures { Does stopped (spec.load (S.world on.now) at want line self.old) result self.new }
     {
-        let r = self.ground.load(on, Addr::Word(at.0, at.1), want);
+        let r = self.stage.load(on, Addr::Word(at.0, at.1), want);
         at_line(line, r)
     }
 
@@ -134,18 +134,18 @@ impl<G: Ground> Machine<G> {
         v: Val,
         line: u32,
     ) -> Result<(), Fault>
-        ensures { Does stopped (spec.store (G.world on.now) at v line self.old) result self.new }
+        ensures { Does stopped (spec.store (S.world on.now) at v line self.old) result self.new }
     {
-        let r = self.ground.store(on, Addr::Word(at.0, at.1), v);
+        let r = self.stage.store(on, Addr::Word(at.0, at.1), v);
         at_line(line, r)
     }
 
     /// A pointer to a new object.
     #[tactic(auto, unfolding(al_core::specs::Action::bind, al_core::specs::Action::pure, al_core::specs::Action::asks))]
     pub fn make(&mut self, on: &Setting<'_>, words: u32, line: u32) -> Result<Val, Fault>
-        ensures { Does stopped (spec.make (G.world on.now) words line self.old) result self.new }
+        ensures { Does stopped (spec.make (S.world on.now) words line self.old) result self.new }
     {
-        let r = self.ground.make(on, words);
+        let r = self.stage.make(on, words);
         let object = at_line(line, r)?;
         Ok(Val::Ptr(object, 0))
     }
@@ -153,25 +153,24 @@ impl<G: Ground> Machine<G> {
     /// Takes out the object at the end of a pointer. At null it does nothing.
     #[tactic(auto, unfolding(al_core::specs::Action::bind, al_core::specs::Action::pure, al_core::specs::Action::asks))]
     pub fn free(&mut self, on: &Setting<'_>, v: Val, line: u32) -> Result<Val, Fault>
-        ensures { Does stopped (spec.free (G.world on.now) v line self.old) result self.new }
+        ensures { Does stopped (spec.free (S.world on.now) v line self.old) result self.new }
     {
         match v {
             Val::Int(_) => Ok(Val::Int(0)),
             Val::Ptr(object, at) => {
-                let r = self.ground.free(on, object, at);
+                let r = self.stage.free(on, object, at);
                 at_line(line, r)?;
                 Ok(Val::Int(0))
             }
         }
     }
 
+    /// Prints bytes, which no line can trap at.
     #[tactic(auto, unfolding(al_core::specs::Action::asks))]
-    pub fn print(&mut self, on: &Setting<'_>, bytes: &[u8], line: u32) -> Result<(), Fault>
-        ensures { Does stopped (spec.print (G.world on.now) bytes.now line self.old) result self.new }
+    pub fn print(&mut self, on: &Setting<'_>, bytes: &[u8]) -> Result<(), AllocError>
+        ensures { OnOk result ((line : ℕ) → spec.print (S.world on.now) bytes.now line self.old ≡ (Ok tt, self.new)) }
     {
-        let _line = line;
-        self.ground.print(on, bytes)?;
-        Ok(())
+        self.stage.print(on, bytes)
     }
 
     /// Goes into a frame, and answers the one before.
@@ -198,23 +197,22 @@ impl<G: Ground> Machine<G> {
         alloc: Global,
         on: &Setting<'_>,
         number: u32,
-        lo: i64,
-        hi: i64,
+        range: Range,
     ) -> Result<(), Fault>
-        ensures { Does stopped (spec.visit (G.world on.now) number lo hi self.old) result self.new }
+        ensures { Does stopped (spec.visit (S.world on.now) number range.lo range.hi self.old) result self.new }
     {
         let locals = self.frame.locals(alloc)?;
-        let new = self.ground.visit(alloc, on, number, lo, hi, locals)?;
+        let new = self
+            .stage
+            .visit(alloc, on, number, range.lo, range.hi, locals)?;
         self.frame.replace(new);
         Ok(())
     }
-}
 
-impl<G: Stage> Machine<G> {
     /// Whether the code stands outside the iterations of annotated loops.
     pub fn is_outside(&self) -> bool
-        ensures { result ≡ is_outside G.place }
+        ensures { result ≡ is_outside S.place }
     {
-        self.ground.is_outside()
+        self.stage.is_outside()
     }
 }

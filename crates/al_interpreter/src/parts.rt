@@ -9,19 +9,16 @@ ghost use Rattle.al_core.specs.declared.typed_tree.TKind.TheVariants as kind;
 ghost use Rattle.al_interpreter.specs.Faults.{stopped};
 ghost use Rattle.al_interpreter.specs.Flows.{flowed};
 ghost use Rattle.al_interpreter.specs.Starts.{any_start};
-ghost use Rattle.al_interpreter.specs.Calls.{Calls};
-ghost use Rattle.al_interpreter.specs.Doing as doing;
+ghost use Rattle.al_interpreter.specs.Scenes.{scene, execute_kind, test_value};
 
+use crate::calls::Calls;
 use crate::fault::Fault;
 use crate::flow::Flow;
-use crate::ground::Ground;
 use crate::machine::Machine;
 use crate::printing::{numbers, text};
-use crate::setting::Setting;
 use crate::walker::Walker;
 use al_core::{Bound, Piece, TExpr, TKind, TStmt, Val, number as of_value};
 use sqlite_items::{Boxed, Items};
-use std::alloc::Global;
 
 /// The start of an annotated loop: the local that its first part sets, to which expression, and the line of that
 /// part.
@@ -95,97 +92,55 @@ pub fn bound_of(test: Option<&TExpr>) -> Bound
     }
 }
 
-impl<F> Walker<F> {
+impl<'a, C: Calls> Walker<'a, C> {
     /// A loop's test. One that is absent holds.
-    #[tactic(auto, unfolding(al_core::specs::Action::bind, al_core::specs::Action::pure))]
-    pub fn test<G: Ground>(
-        &self,
-        on: &Setting<'_>,
-        m: &mut Machine<G>,
-        e: Option<&TExpr>,
-        line: u32,
-    ) -> Result<Val, Fault>
-    where
-        F: Fn(
-            Global,
-            &Setting<'_>,
-            u32,
-            &mut Machine<G>,
-            u32,
-            Items<Val>,
-            u32,
-        ) -> Result<Val, Fault>,
-        requires { Calls (G.world on.now) G.place on.now self.now.room (F.pre self.now.call) (F.post self.now.call) }
-        ensures { Does stopped
-            (doing.test_value (G.world on.now) G.place on.now self.now.room (option_copied e.entry) line m.old)
-            result m.new }
+    #[tactic(auto, unfolding(crate::specs::Acts::bind, crate::specs::Acts::pure))]
+    pub fn test(&self, m: &mut Machine<C::On>, e: Option<&TExpr>, line: u32) -> Result<Val, Fault>
+        requires { C.can_call self.now.calls self.now.on.now }
+        ensures { let x = scene C.On.world C.On.place C.does self.now in
+            Does stopped (test_value x (option_copied e.entry) line m.old) result m.new }
     {
         match e {
-            Some(e) => self.value(on, m, e, line),
+            Some(e) => self.value(m, e, line),
             None => Ok(Val::Int(1)),
         }
     }
 
-    #[tactic(auto, using(crate::proofs::KindNodes::does_nodes), unfolding(al_core::specs::Action::bind, al_core::specs::Action::pure))]
-    pub fn print<G: Ground>(
+    #[tactic(auto, using(crate::proofs::Doing::kinds), unfolding(crate::specs::Acts::bind, crate::specs::Acts::pure))]
+    pub fn print(
         &self,
-        on: &Setting<'_>,
-        m: &mut Machine<G>,
+        m: &mut Machine<C::On>,
         format: &[Piece],
         es: &[TExpr],
         line: u32,
     ) -> Result<Flow, Fault>
-    where
-        F: Fn(
-            Global,
-            &Setting<'_>,
-            u32,
-            &mut Machine<G>,
-            u32,
-            Items<Val>,
-            u32,
-        ) -> Result<Val, Fault>,
-        requires { Calls (G.world on.now) G.place on.now self.now.room (F.pre self.now.call) (F.post self.now.call) }
-        ensures { Does stopped
-            (doing.execute_kind (G.world on.now) G.place on.now self.now.room (kind.Print format.now es.now) line m.old)
-            (flowed result) m.new }
+        requires { C.can_call self.now.calls self.now.on.now }
+        ensures { let x = scene C.On.world C.On.place C.does self.now in
+            Does stopped (execute_kind x (kind.Print format.now es.now) line m.old) (flowed result) m.new }
     {
-        let vs = self.values(on, m, es, line)?;
+        let vs = self.values(m, es, line)?;
         let read = numbers(self.alloc, vs.as_slice())?;
         let ns = m.lift(line, read)?;
         let bytes = text(self.alloc, format, ns.as_slice())?;
-        m.print(on, bytes.as_slice(), line)?;
+        m.print(self.on, bytes.as_slice())?;
         Ok(Flow::Next)
     }
 
     /// The bound of an annotated loop.
-    #[tactic(auto, unfolding(al_core::specs::Action::bind, al_core::specs::Action::pure))]
-    pub fn bound<G: Ground>(
+    #[tactic(auto, unfolding(crate::specs::Acts::bind, crate::specs::Acts::pure))]
+    pub fn bound(
         &self,
-        on: &Setting<'_>,
-        m: &mut Machine<G>,
+        m: &mut Machine<C::On>,
         test: Option<&TExpr>,
         line: u32,
     ) -> Result<i64, Fault>
-    where
-        F: Fn(
-            Global,
-            &Setting<'_>,
-            u32,
-            &mut Machine<G>,
-            u32,
-            Items<Val>,
-            u32,
-        ) -> Result<Val, Fault>,
-        requires { Calls (G.world on.now) G.place on.now self.now.room (F.pre self.now.call) (F.post self.now.call) }
-        ensures { Does stopped
-            (meaning.bound_value (G.world on.now) (loops.bound_of (option_copied test.entry)) line m.old)
-            result m.new }
+        ensures { let bound = loops.bound_of (option_copied test.entry) in
+            Does stopped (meaning.bound_value (C.On.world self.now.on.now) bound line m.old) result m.new }
     {
         match bound_of(test) {
             Bound::Number(n) => Ok(n),
             Bound::Local(k) => {
-                let v = m.get_local(on, k, line)?;
+                let v = m.get_local(self.on, k, line)?;
                 m.lift(line, of_value(v))
             }
         }

@@ -8,10 +8,7 @@ use crate::content::{Content, Maker, zeros};
 use crate::loops::Loop;
 use crate::memory::Memory;
 use al_core::{Budget, Ending};
-use al_interpreter::frame::{Frame, Own};
-use al_interpreter::machine::Machine;
-use al_interpreter::whole_calls::iterate;
-use al_interpreter::{Fault, Setting};
+use al_interpreter::{Fault, Frame, Machine, Own, Setting, iterate};
 use sqlite_items::Items;
 use std::alloc::{AllocError, Global};
 use std::marker::Model;
@@ -61,7 +58,7 @@ fn finish(ending: Ending, budget: u64, m: Machine<Content>) -> Finished
     Finished {
         ending,
         steps: u128::from(budget.saturating_sub(m.left())),
-        content: m.into_ground(),
+        content: m.into_stage(),
     }
 }
 

@@ -3,8 +3,7 @@ ghost use Rattle.al_core.specs.Loops as spec;
 ghost use Rattle.al_plain.specs.Found.{loop_of};
 
 use al_core::{Bound, TNote, TStmt};
-use al_interpreter::parts::{bound_of, start_of};
-use al_interpreter::program::Program;
+use al_interpreter::{Program, bound_of, start_of};
 use sqlite_items::at;
 
 /// An annotated loop of a program, with its entry and the number of locals of its function.

@@ -221,8 +221,7 @@ pub fn lockstep(
     let count = chunks(x);
     let mut pending = all_chunks(alloc, count)?;
     let mut so_far = Rounds::none(alloc, memory);
-    for i in 0..count {
-        let _round = i;
+    for _round in 0..count {
         if pending.is_empty() {
             return Ok(so_far);
         }

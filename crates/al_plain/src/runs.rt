@@ -14,11 +14,7 @@ use crate::objects::Objects;
 use crate::whole::Whole;
 use crate::words::set_at;
 use al_core::{Budget, Choice, Ending, Knobs, Obj, Report, TGlobal, Typed, Val};
-use al_interpreter::frame::{Frame, Own};
-use al_interpreter::machine::Machine;
-use al_interpreter::program::Program;
-use al_interpreter::whole_calls::run_main;
-use al_interpreter::{Fault, Setting};
+use al_interpreter::{Fault, Frame, Machine, Own, Program, Setting, run_main};
 use sqlite_items::Items;
 use std::alloc::{AllocError, Global};
 
@@ -84,7 +80,7 @@ fn told(alloc: Global, ending: Ending, budget: u64, m: Machine<Whole>, watch: bo
         content,
         executions: _,
         counts,
-    } = m.into_ground();
+    } = m.into_stage();
     let (_, output, _) = content.into_parts();
     Report {
         output,

@@ -15,9 +15,7 @@ use crate::executions::{LoopResult, after_loop, execute};
 use crate::iterations::Execution;
 use crate::loops::{Loop, loop_at};
 use al_core::{Addr, Kind, Obj, Val, View, ViewFault, trips};
-use al_interpreter::ground::Ground;
-use al_interpreter::stage::Stage;
-use al_interpreter::{Fault, Setting};
+use al_interpreter::{Fault, Setting, Stage};
 use sqlite_items::Items;
 use std::alloc::{AllocError, Global};
 use std::marker::Model;
@@ -97,7 +95,7 @@ impl Whole {
 }
 
 /// The world outside iterations.
-impl Ground for Whole {
+impl Stage for Whole {
     ghost world = { λ on. spec.outside (setting_of on) };
 
     ghost place = { Outside };
@@ -136,9 +134,7 @@ impl Ground for Whole {
             None => Ok(locals),
         }
     }
-}
 
-impl Stage for Whole {
     fn is_outside(&self) -> bool {
         true
     }

@@ -10,7 +10,7 @@ ghost use Rattle.al_search.specs.Search as spec;
 use al_core::{Choice, Knobs, LoopInfo};
 use al_front::{Noted, resolve};
 use al_infer::{Outcome, Trial};
-use al_plain::runs::run;
+use al_plain::run;
 use sqlite_items::Items;
 use std::alloc::{AllocError, Global};
 use std::snapshot::Snapshot;

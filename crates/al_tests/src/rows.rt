@@ -7,7 +7,7 @@ ghost use Rattle.al_core.specs.Limits.{AreInRange};
 use crate::programs::{p1, p2, p3, p4, p5, p6, p7, p8, p9, p10, p11, p12, p13, p14, p15};
 use crate::trees::{Build, Built, Program};
 use al_core::{Choice, Ending, Knobs, Report, TNote, Trap};
-use al_plain::runs::run;
+use al_plain::run;
 use al_report::trace_text;
 use al_source::limits::{
     DEFAULT_CHUNK, DEFAULT_ITERATION_STEPS, DEFAULT_LANES, DEFAULT_LINE, DEFAULT_SERIAL_STEPS,

@@ -1,7 +1,6 @@
 //! A change beside the outcome of the plain interpreter.
 use al_core::{Addr, Obj, Val};
-use al_plain::accesses::Accesses;
-use al_plain::memory::Memory;
+use al_plain::{Accesses, Memory};
 use al_snap::Change;
 use std::alloc::AllocError;
 use std::process::Abort;

@@ -1,14 +1,17 @@
-use Rattle.std.proofs.Common.{w64, subst}
-use Rattle.std.specs.Prelude.{ℤ}
+use Rattle.std.proofs.Common.{w64, refl}
 use Rattle.std.proofs.lemmas.Int.{to_z-of_z}
-use Rattle.al_source.specs.Answers.{Does}
-use Rattle.al_interpreter.specs.Faults.{stopped}
-use Rattle.al_core.specs.Iteration.{calls_within}
-use Rattle.al_interpreter.specs.Wholes.{iterates_with}
+use Rattle.al_core.specs.Action.{pure}
+use Rattle.al_interpreter.proofs.Chains.{goes, goes_to, stops}
 use Rattle.al_interpreter.proofs.whole_calls.iterate.Goals as goal
 
+pub returns-in_err-stmt : goal.returns-in_err-stmt
+returns-in_err-stmt g c =
+    rw (← c.calls_within.ensures, ← to_z-of_z w64 c.args.n c.ranges.n)
+    (goes _ _ _ _ _ _ _ c.in_ok-spend.ensures (goes _ _ _ _ _ _ _ c.in_ok-set_local.ensures
+    (stops _ _ _ _ _ _ c.from_residual-in_err-stmt.ensures.1 c.in_err-stmt.ensures)))
+
 pub returns : goal.returns
+unfolding pure
 returns g c =
-    subst (λ (n : ℤ). Does {A = Unit {0}} stopped (iterates_with (g.G.Ground.world c.args.on.now) g.G.Ground.place c.args.on.now calls_within c.args.counter
-    c.args.line c.args.body.now n c.args.m.now) c.iterate_with.result c.iterate_with.new.m)
-    (to_z-of_z w64 c.args.n c.ranges.n) c.iterate_with.ensures
+    rw (← c.calls_within.ensures, ← to_z-of_z w64 c.args.n c.ranges.n)
+    (goes_to _ _ _ _ _ _ c.in_ok-spend.ensures (goes_to _ _ _ _ _ _ c.in_ok-set_local.ensures (goes_to _ _ _ _ _ _ c.in_ok-stmt.ensures refl)))

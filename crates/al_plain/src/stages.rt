@@ -9,15 +9,13 @@ ghost use Rattle.std.specs.Prelude.{◌≡◌};
 
 use crate::content::Content;
 use al_core::{Addr, Kind, Obj, Val, View, ViewFault};
-use al_interpreter::ground::Ground;
-use al_interpreter::stage::Stage;
-use al_interpreter::{Fault, Setting};
+use al_interpreter::{Fault, Setting, Stage};
 use sqlite_items::Items;
 use std::alloc::{AllocError, Global};
 
 /// The world of an iteration. No annotated loop is handed on in it.
-impl Ground for Content {
-    ghost world = { λ g. in_iteration };
+impl Stage for Content {
+    ghost world = { λ on. in_iteration };
 
     ghost place = { Inside };
 
@@ -52,9 +50,7 @@ impl Ground for Content {
     ) -> Result<Items<Val>, Fault> {
         Ok(locals)
     }
-}
 
-impl Stage for Content {
     fn is_outside(&self) -> bool {
         false
     }

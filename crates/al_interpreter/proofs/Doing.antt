@@ -17,7 +17,7 @@ use Rattle.al_core.specs.Values.{truth, numbers, operate, text}
 use Rattle.al_core.specs.Action.{Act, At, pure, lift, spend, get_local, set_local, load, store, print, ◌>>=◌, ◌>>◌}
 use Rattle.al_core.specs.Loops.{start_of, bound_of}
 use Rattle.al_core.specs.Meaning.{Flow, Next, Broke, Continued, Returned, Where, then_flow, sequence, all_do, turns, value, place, values, test_value, result_value, start_value, kind_does, stmt_does, execute, execute_kind, execute_all, annotated_loop}
-use Rattle.al_interpreter.specs.Doing.{if_any}
+use Rattle.al_interpreter.specs.Scenes.{if_any}
 
 module _ {S : Type 0} (world : World S) (here : Where) (input : List ℤ) (call : ℕ → List Val → At S Val) where
   abbrev done : TStmt → TStmt × Act S Flow
@@ -126,8 +126,8 @@ module _ {S : Type 0} (world : World S) (here : Where) (input : List ℤ) (call 
   does-Annotated (Some first) test third body number line =
       of_kind (TKind-F.For (Some first) test third body (Some number)) _ line (k.rolls-For (Some first) test third body (Some number))
 
-pub ruleset does_nodes = (does-SetLocal, does-Store, does-UpdateLocal, does-UpdateAt, does-Call, does-Print, does-Return)
+pub ruleset kinds = (does-SetLocal, does-Store, does-UpdateLocal, does-UpdateAt, does-Call, does-Print, does-Return)
 
-pub ruleset other_nodes = (does-Empty, does-If, does-Block, does-Break, does-Continue, does-Annotated)
+pub ruleset others = (does-Empty, does-If, does-Block, does-Break, does-Continue, does-Annotated)
 
-pub ruleset does_stmts = (does-stmt)
+pub ruleset stmts = (does-stmt)

@@ -1,0 +1,2 @@
+-- The words of actions that proofs open.
+unfoldable pub use Rattle.al_core.specs.Action.{bind, pure}
