@@ -132,7 +132,9 @@ input_untried name f g once next = at_read name most_of_input (λ text. if_numbe
 
 -- before the first of them
 pub inputs_begin : (names : List (List ℕ)) (f : FilesSeen) (all : List (List ℤ)) → all ≡ [] → Onward names f names f all
-inputs_begin names f all is = subst (Onward names f names f) (sym is) (record { before = λ more. more; same = λ more. refl; came = λ next last a c. c; starved = λ next last s. s })
+inputs_begin names f all is =
+    subst (Onward names f names f) (sym is)
+    (record { before = λ more. more; same = λ more. refl; came = λ next last a c. c; starved = λ next last s. s })
 
 -- the first of those that are left
 pub next_named : (words : List (List ℕ)) (places : List ℕ) (i place d : ℕ) (name : List ℕ) → i < length places → place ≡ get_or places i d

@@ -111,7 +111,8 @@ pub fn inputs_step<F: Files>(
 ) -> Result<InputsStep, AllocError>
     ensures ok { IfOk result (InputsCome (map (words_spec.word_at (map string_bytes words.now)) places.now)
         (files_seen F.contents F.calls F.faults files.old) (files_seen F.contents F.calls F.faults files.new)) }
-    ensures err { OnErr result (Starves (spec.inputs_plan (map (words_spec.word_at (map string_bytes words.now)) places.now))
+    ensures err { OnErr result (Starves
+        (spec.inputs_plan (map (words_spec.word_at (map string_bytes words.now)) places.now))
         (files_seen F.contents F.calls F.faults files.old) (files_seen F.contents F.calls F.faults files.new)) }
 {
     let mut all = Items::new(alloc);

@@ -513,7 +513,8 @@ module _ {S T : Type 0} (v : World S) (w : World T) (F : Fineness) (taken : ℕ 
   does_layer (TKind-F.Call e) looped f o u l line = c.of_bind (of_called e line f o u.exprs.0) (λ x _. c.of_pure Next tt)
   does_layer (TKind-F.Print format es) looped f o u l line =
       c.of_bind (of_values es line (both_right (length es == numbers_in format) _ f) o u.exprs) (λ vs _.
-      c.of_bind {P = Any} (c.of_lift line (numbers vs) (any_numbers (numbers vs))) (λ ns _. c.of_bind (c.of_print line (text format ns)) (λ u _. c.of_pure Next tt)))
+      c.of_bind {P = Any} (c.of_lift line (numbers vs) (any_numbers (numbers vs)))
+      (λ ns _. c.of_bind (c.of_print line (text format ns)) (λ u _. c.of_pure Next tt)))
   does_layer (TKind-F.If e a (Some b)) looped f o u l line =
       let f1 = both_left (fits_either (Fit e) && Formed a.0 looped) (Formed b.0 looped) f in
       let o1 = both_right (obeys r e) _ o in

@@ -87,7 +87,8 @@ fn told(
     choices: &[Option<Choice>],
 ) -> Result<Outcome, AllocError>
     requires { AreInRange knobs }
-    ensures exact { IfOk result (λ o. o ≡ spec.outcome_of (report program.now.0 input.now (sizes_of knobs) choices.now)) }
+    ensures exact { let r = report program.now.0 input.now (sizes_of knobs) choices.now in
+        IfOk result (λ o. o ≡ spec.outcome_of r) }
     ensures small { IfOk result (λ o. o.span < 2 ^ 100) }
 {
     let report = run(alloc, &program.0, input, knobs, choices, false)?;
