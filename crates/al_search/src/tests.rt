@@ -1,3 +1,5 @@
+ghost use Rattle.std.specs.Prelude.{◌≡◌, IfOk, length};
+
 use crate::searched;
 use al_core::Knobs;
 use al_front::resolve;
@@ -15,7 +17,9 @@ const KNOBS: Knobs = Knobs {
     serial_steps: 10000000,
 };
 
-fn tests(alloc: Global) -> Result<Items<Items<i64>>, Fail> {
+fn tests(alloc: Global) -> Result<Items<Items<i64>>, Fail>
+    ensures { IfOk result (λ tests. length tests ≡ 2) }
+{
     let mut tests = Items::new(alloc);
     tests.push(Items::from_slice(alloc, &[0, 0, 0, 0])?)?;
     tests.push(Items::from_slice(alloc, &[1, 2, 3, 4])?)?;

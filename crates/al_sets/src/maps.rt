@@ -238,11 +238,15 @@ mod tests {
         for (at, n) in &plain {
             assert_eq!(rt; int(map.get(*at)), Some(*n));
         }
-        while let Some((at, v)) = map.pop() {
+        for _ in 0..300 {
+            let Some((at, v)) = map.pop() else {
+                break;
+            };
             assert_eq!(rt; plain.remove(&at), v.int());
             assert_eq!(rt; int(map.get(at)), None);
         }
         assert_eq!(rt; plain.len(), 0);
+        assert!(rt; map.pop().is_none());
         Ok(())
     }
 }
