@@ -20,7 +20,7 @@ use Rattle.al_words.specs.Words.{command}
 use Rattle.al_words.specs.Jobs.{source_name}
 use Rattle.al_search.specs.Search.{searched}
 use Rattle.al_cli.specs.Lines.{word_line}
-use Rattle.al_cli.specs.Shown.{lockstep_report, first_input, done, bytes_of, has_loop, bad_line, plan_of, plan, shown}
+use Rattle.al_cli.specs.Shown.{lockstep_report, first_input, done, bytes_of, missing_loop, bad_line, plan_of, plan, shown}
 use Rattle.al_cli.specs.Headline.{Holds, IsValid}
 use Rattle.al_cli.proofs.Valid.{holds_shows, bad_shows, valid_status}
 
@@ -39,7 +39,7 @@ module _ (words : List (List ℕ)) (f g : FilesSeen) (o p e q : SinkSeen) where
       → k < length program.1
       → IfSome f.contents (λ files. Holds words files job program inputs → Writes (done (searched program k inputs job.knobs)) (at f g o p e q s))
   table s outcome job k program inputs is still still_out still_err not_six there =
-      let has : has_loop (Infer job k) program ≡ true = search (rules, there) in
+      let has : missing_loop (Infer job k) program ≡ None = search (rules, there) in
       if_so f.contents _ _
       (λ files w h. subst (λ a. Writes a (at f g o p e q s)) (holds_shows words files (Infer job k) job program inputs is refl has h) w)
       (is_as_played (plan words) f g o p e q s outcome still still_out still_err not_six)

@@ -19,7 +19,7 @@ use Rattle.al_words.specs.declared.command.WordFault.{WordFault}
 use Rattle.al_words.specs.declared.command.Job.{Job}
 use Rattle.al_words.specs.Words.{command, word_at}
 use Rattle.al_words.specs.Jobs.{source_name, input_names}
-use Rattle.al_cli.specs.Shown.{answer_of, most_of_source, most_of_input, refused_line, if_accepted, source_plan, has_loop, no_loop_line, if_numbers, input_plan, inputs_plan, after_source, plan_of, plan}
+use Rattle.al_cli.specs.Shown.{answer_of, most_of_source, most_of_input, refused_line, if_accepted, source_plan, missing_loop, if_numbers, input_plan, inputs_plan, after_source, plan_of, plan}
 use Rattle.al_cli.specs.declared.reading.SourceStep.{SourceStep}
 use Rattle.al_cli.specs.declared.reading.SourceStep.TheVariants as source
 use Rattle.al_cli.specs.declared.reading.InputStep.{InputStep}
@@ -182,13 +182,13 @@ inputs_all names f g all so_far =
 
 module _ (c : Command) (words : List (List ℕ)) (job : Job) (program : Noted) (name : List ℕ) (named : name ≡ source_name words job) where
   -- the program lacks the loop of a search
-  pub lacks_loop : (line : List ℕ) (a : Answer) (f : FilesSeen) → has_loop c program ≡ false → line ≡ no_loop_line c name → a ≡ failed 1 line
-      → Came (after_source c words job program) f f a
-  lacks_loop line a f lacks is same =
-      came_planned (after_source c words job program) (Answers (failed 1 (no_loop_line c (source_name words job)))) f a
-      (ap Answers (same ∙ ap (failed 1) (is ∙ ap (no_loop_line c) named))) (rw lacks refl)
+  pub lacks_loop : (line : List ℕ) (a : Answer) (f : FilesSeen) (n : ℕ) → missing_loop c program ≡ Some n → line ≡ no_loop_text name n
+      → a ≡ failed 1 line → Came (after_source c words job program) f f a
+  lacks_loop line a f n lacks is same =
+      came_planned (after_source c words job program) (Answers (failed 1 (no_loop_text (source_name words job) n))) f a
+      (ap Answers (same ∙ ap (failed 1) (is ∙ ap (λ x. no_loop_text x n) named))) (rw lacks refl)
 
-  module _ (all given : List (List ℤ)) (f h : FilesSeen) (r : InputsStep) (has : has_loop c program ≡ true) (is : r ≡ inputs.Numbers all)
+  module _ (all given : List (List ℤ)) (f h : FilesSeen) (r : InputsStep) (has : missing_loop c program ≡ None) (is : r ≡ inputs.Numbers all)
       (comes : InputsCome (input_names words job) f h r) where
     last_plan : List (List ℤ) → Plan
     last_plan ns = Answers (answer_of c (source_name words job) program ns)

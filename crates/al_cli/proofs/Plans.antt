@@ -21,7 +21,7 @@ use Rattle.al_words.specs.declared.command.Job.{Job}
 use Rattle.al_words.specs.declared.command.WordFault.{WordFault}
 use Rattle.al_words.specs.Words.{command}
 use Rattle.al_words.specs.Jobs.{job_of, source_name, input_names}
-use Rattle.al_cli.specs.Shown.{answer_of, ended, bad_line_or_none, refused_line, if_accepted, source_plan, has_loop, no_loop_line, if_numbers, input_plan, inputs_plan, after_source, made_inputs, made_plan, plan_by, plan_of, plan, job_names, names_by, names_of}
+use Rattle.al_cli.specs.Shown.{answer_of, ended, bad_line_or_none, refused_line, if_accepted, source_plan, missing_loop, unless_missing, if_numbers, input_plan, inputs_plan, after_source, made_inputs, made_plan, plan_by, plan_of, plan, job_names, names_by, names_of}
 use Rattle.al_cli.specs.Why.{IsNamed, AreNumbers, Why, words_refused, source_refused, token_bad, no_loop, input_refused, all_done, made_done}
 
 -- ---- parts of plans
@@ -58,6 +58,13 @@ inputs_all P (name ∷ names) next refused on =
 
 -- ---- every answer has its cause
 
+missing_number : (job : Job) (k : ℕ) (program : Noted) (n : ℕ) → missing_loop (Infer job k) program ≡ Some n → n ≡ k
+missing_number job k program n = by_test (nat_lt k (length program.1))
+  where
+    by_test : (b : Bool) → (if b then None else Some k) ≡ Some n → n ≡ k
+    by_test true e = absurd cc
+    by_test false e = cc
+
 module _ (words : List (List ℕ)) where
   checked_why : (job : Job) (source : List ℕ) (cause : Refusal) → command words ≡ Ok (Check job) → accepted source ≡ Err cause
       → Why words (failed 1 (refused_line (Check job) (source_name words job) source cause))
@@ -88,29 +95,32 @@ module _ (words : List (List ℕ)) where
   refused_why (Demo start size knobs) own source cause e is h = absurd cc
 
   lacks_why : (c : Command) (job : Job) (source : List ℕ) (program : Noted) → command words ≡ Ok c → job_of c ≡ Some job
-      → accepted source ≡ Ok program → has_loop c program ≡ false → Why words (failed 1 (no_loop_line c (source_name words job)))
-  lacks_why (Infer job k) own source program e is h lacks =
+      → accepted source ≡ Ok program → (n : ℕ) → missing_loop c program ≡ Some n → Why words (failed 1 (no_loop_text (source_name words job) n))
+  lacks_why (Infer job k) own source program e is h n lacks =
       let same : job ≡ own = cc in
-      subst (λ j. Why words (failed 1 (no_loop_line (Infer job k) (source_name words j)))) same (no_loop job k source program e h lacks)
-  lacks_why (Run job) own source program e is h lacks = absurd cc
-  lacks_why (Plain job) own source program e is h lacks = absurd cc
-  lacks_why (Trace job) own source program e is h lacks = absurd cc
-  lacks_why (Check job) own source program e is h lacks = absurd cc
-  lacks_why (Demo start size knobs) own source program e is h lacks = absurd cc
+      let of_loop : n ≡ k = missing_number job k program n lacks in
+      subst (λ j. Why words (failed 1 (no_loop_text (source_name words j) n))) same
+      (subst (λ (i : ℕ). Why words (failed 1 (no_loop_text (source_name words job) i))) (sym of_loop)
+      (no_loop job k source program e h (lacks ∙ ap Some of_loop)))
+  lacks_why (Run job) own source program e is h n lacks = absurd cc
+  lacks_why (Plain job) own source program e is h n lacks = absurd cc
+  lacks_why (Trace job) own source program e is h n lacks = absurd cc
+  lacks_why (Check job) own source program e is h n lacks = absurd cc
+  lacks_why (Demo start size knobs) own source program e is h n lacks = absurd cc
 
   after_why : (c : Command) (job : Job) (source : List ℕ) (program : Noted) → command words ≡ Ok c → job_of c ≡ Some job
       → accepted source ≡ Ok program → AllAnswers (Why words) (after_source c words job program)
-  after_why c job source program e is h = by_loop (has_loop c program) refl
+  after_why c job source program e is h = by_loop (missing_loop c program) refl
     where
-      by_loop : (b : Bool) → has_loop c program ≡ b
+      by_loop : (r : Option ℕ) → missing_loop c program ≡ r
           → AllAnswers (Why words)
-          (if b then inputs_plan (input_names words job) (λ inputs. Answers (answer_of c (source_name words job) program inputs))
-          else Answers (failed 1 (no_loop_line c (source_name words job))))
-      by_loop true has =
+          (unless_missing (source_name words job)
+          (inputs_plan (input_names words job) (λ inputs. Answers (answer_of c (source_name words job) program inputs))) r)
+      by_loop None has =
           inputs_all (Why words) (input_names words job) (λ inputs. Answers (answer_of c (source_name words job) program inputs))
           (λ name text fault among wrong. input_refused c job name text fault e is among wrong)
           (λ inputs are. all_done c job source program inputs e is h has are)
-      by_loop false lacks = lacks_why c job source program e is h lacks
+      by_loop (Some n) lacks = lacks_why c job source program e is h n lacks
 
   made_why : (c : Command) → command words ≡ Ok c → job_of c ≡ None → AllAnswers (Why words) (made_plan c)
   made_why (Demo start size knobs) e is = by_result (accepted made_source) refl
@@ -204,14 +214,14 @@ inputs_order (name ∷ names) next on =
 
 after_order : (c : Command) (words : List (List ℕ)) (job : Job) (program : Noted)
     → ReadsInOrder (input_names words job) (after_source c words job program)
-after_order c words job program = by_loop (has_loop c program)
+after_order c words job program = by_loop (missing_loop c program)
   where
-    by_loop : (b : Bool)
+    by_loop : (r : Option ℕ)
         → ReadsInOrder (input_names words job)
-        (if b then inputs_plan (input_names words job) (λ inputs. Answers (answer_of c (source_name words job) program inputs))
-        else Answers (failed 1 (no_loop_line c (source_name words job))))
-    by_loop true = inputs_order (input_names words job) (λ inputs. Answers (answer_of c (source_name words job) program inputs)) (λ inputs. tt)
-    by_loop false = none_left (failed 1 (no_loop_line c (source_name words job))) (input_names words job)
+        (unless_missing (source_name words job)
+        (inputs_plan (input_names words job) (λ inputs. Answers (answer_of c (source_name words job) program inputs))) r)
+    by_loop None = inputs_order (input_names words job) (λ inputs. Answers (answer_of c (source_name words job) program inputs)) (λ inputs. tt)
+    by_loop (Some n) = none_left (failed 1 (no_loop_text (source_name words job) n)) (input_names words job)
 
 made_order : (c : Command) → ReadsInOrder [] (made_plan c)
 made_order c = by_result (accepted made_source)

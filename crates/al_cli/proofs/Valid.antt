@@ -19,7 +19,7 @@ use Rattle.al_words.specs.declared.command.Command.TheVariants.{Check}
 use Rattle.al_words.specs.declared.command.Job.{Job}
 use Rattle.al_words.specs.Words.{command}
 use Rattle.al_words.specs.Jobs.{job_of, source_name, input_names}
-use Rattle.al_cli.specs.Shown.{answer_of, bad_line, bad_line_or_none, refused_line, if_accepted, source_plan, inputs_plan, most_of_source, most_of_input, has_loop, after_source, made_inputs, plan_by, plan_of, plan, shown}
+use Rattle.al_cli.specs.Shown.{answer_of, bad_line, bad_line_or_none, refused_line, if_accepted, source_plan, inputs_plan, most_of_source, most_of_input, missing_loop, after_source, made_inputs, plan_by, plan_of, plan, shown}
 use Rattle.al_cli.specs.Headline.{HaveInputs, Holds, IsValid, to_do, to_show}
 use Rattle.al_cli.proofs.Plans.{done_status}
 
@@ -79,7 +79,7 @@ shown_of words files c r e is =
     shown_by words files ∙ ap (λ x. played files (plan_of words x)) e ∙ ap (λ x. played files (plan_by c words x)) is
 
 pub holds_shows : (words : List (List ℕ)) (files : Contents) (c : Command) (job : Job) (program : Noted) (inputs : List (List ℤ)) → command words ≡ Ok c
-    → job_of c ≡ Some job → has_loop c program ≡ true → Holds words files job program inputs
+    → job_of c ≡ Some job → missing_loop c program ≡ None → Holds words files job program inputs
     → shown words files ≡ answer_of c (source_name words job) program inputs
 holds_shows words files c job program inputs e is has h =
     shown_of words files c (Some job) e is

@@ -1,5 +1,5 @@
 -- What valid words do, said by itself.
-use Rattle.std.specs.Prelude.{⊤, ◌≡◌, ℕ, true, List, [], ◌∷◌, Some, None, Ok, ℤ}
+use Rattle.std.specs.Prelude.{⊤, ◌≡◌, ℕ, List, [], ◌∷◌, Some, None, Ok, ℤ}
 use Rattle.al_rules.specs.Refusals.{Noted, accepted}
 use Rattle.al_gen.specs.Generated.{source as made_source}
 use Rattle.al_io.specs.Contents.{Contents, contents_of}
@@ -8,7 +8,7 @@ use Rattle.al_words.specs.declared.command.Command.{Command}
 use Rattle.al_words.specs.declared.command.Job.{Job}
 use Rattle.al_words.specs.Words.{command}
 use Rattle.al_words.specs.Jobs.{job_of, source_name, input_names}
-use Rattle.al_cli.specs.Shown.{has_loop}
+use Rattle.al_cli.specs.Shown.{missing_loop}
 
 -- the inputs of these names are there, and are these numbers, one after another
 abbrev pub HaveInputs : Contents → List (List ℕ) → List (List ℤ) → Type 0
@@ -28,7 +28,7 @@ pub record Holds (words : List (List ℕ)) (files : Contents) (job : Job) (progr
 -- Words, source and inputs are valid: what they ask for is done.
 pub data IsValid (words : List (List ℕ)) (files : Contents) : Type 0 where
   to_do : (c : Command) (job : Job) (program : Noted) (inputs : List (List ℤ)) → command words ≡ Ok c
-      → job_of c ≡ Some job → Holds words files job program inputs → has_loop c program ≡ true → IsValid words files
+      → job_of c ≡ Some job → Holds words files job program inputs → missing_loop c program ≡ None → IsValid words files
   -- that the generated program is accepted is a premise
   to_show : (c : Command) (program : Noted) → command words ≡ Ok c → job_of c ≡ None
       → accepted made_source ≡ Ok program → IsValid words files

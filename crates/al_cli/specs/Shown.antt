@@ -1,5 +1,5 @@
 -- What words show, over files of known contents: a status, and what is written to standard output and standard error.
-use Rattle.std.specs.Prelude.{ℕ, ◌+◌, nat_lt, length, Bool, true, if◌then◌else◌, List, [], ◌∷◌, ◌++◌, map, codes, Option, Some, None, Result, Ok, Err, ℤ}
+use Rattle.std.specs.Prelude.{ℕ, ◌+◌, nat_lt, length, if◌then◌else◌, List, [], ◌∷◌, ◌++◌, map, codes, Option, Some, None, Result, Ok, Err, ℤ}
 use Rattle.al_source.specs.declared.limits.TheConstants.{SOURCE_BYTES, INPUT_BYTES}
 use Rattle.al_core.specs.declared.choices.Choice.{Choice}
 use Rattle.al_core.specs.declared.choices.Knobs.{Knobs}
@@ -31,7 +31,7 @@ use Rattle.al_words.specs.declared.command.Job.{Job}
 use Rattle.al_words.specs.declared.command.WordFault.{WordFault}
 use Rattle.al_words.specs.Words.{command}
 use Rattle.al_words.specs.Jobs.{job_of, source_name, input_names}
-use Rattle.al_search.specs.Search.{searched}
+use Rattle.al_search.specs.Search.{no_choices, searched}
 use Rattle.al_cli.specs.Lines.{word_line}
 
 -- ---- runs
@@ -40,16 +40,12 @@ use Rattle.al_cli.specs.Lines.{word_line}
 abbrev pub own_choices : ℕ → Noted → List (Option Choice)
 own_choices line program = map (λ (info : LoopInfo). Some (with_line line info.own)) program.1
 
--- every loop plain
-abbrev pub no_choices : Noted → List (Option Choice)
-no_choices program = map (λ (info : LoopInfo). None) program.1
-
 -- the report of a program's run in lockstep, on one thread
 abbrev pub lockstep_report : Noted → List ℤ → Knobs → Report
 lockstep_report program input knobs = report program.0 input (sizes_of knobs) (own_choices knobs.line program)
 
 abbrev pub plain_report : Noted → List ℤ → Knobs → Report
-plain_report program input knobs = report program.0 input (sizes_of knobs) (no_choices program)
+plain_report program input knobs = report program.0 input (sizes_of knobs) (no_choices program.1)
 
 -- ---- answers
 
@@ -120,15 +116,10 @@ abbrev pub source_plan : Command → List ℕ → (Noted → Plan) → Plan
 source_plan c name next =
     Reads name most_of_source (λ source. if_accepted (refused_line c name source) next (accepted source))
 
--- a search is of a loop that the program has
-abbrev pub has_loop : Command → Noted → Bool
-has_loop (Infer job k) program = nat_lt k (length program.1)
-has_loop _ program = true
-
--- what is said where it has none of the number
-abbrev pub no_loop_line : Command → List ℕ → List ℕ
-no_loop_line (Infer job k) name = no_loop_text name k
-no_loop_line _ name = []
+-- the number of the loop of a search, where the program has none of that number
+abbrev pub missing_loop : Command → Noted → Option ℕ
+missing_loop (Infer job k) program = if nat_lt k (length program.1) then None else Some k
+missing_loop _ program = None
 
 abbrev pub if_numbers : List ℕ → (List ℤ → Plan) → Result (List ℤ) InputCause → Plan
 if_numbers name next (Ok input) = next input
@@ -143,13 +134,18 @@ abbrev pub inputs_plan : List (List ℕ) → (List (List ℤ) → Plan) → Plan
 inputs_plan [] next = next []
 inputs_plan (name ∷ names) next = input_plan name (λ ns. inputs_plan names (λ others. next (ns ∷ others)))
 
+-- a search of a loop that is not there is refused
+abbrev pub unless_missing : List ℕ → Plan → Option ℕ → Plan
+unless_missing name next (Some k) = Answers (failed 1 (no_loop_text name k))
+unless_missing name next None = next
+
 -- the inputs, and then what is done
 abbrev pub after_source : Command → List (List ℕ) → Job → Noted → Plan
 after_source c words job program =
-    if has_loop c program
-    then inputs_plan (input_names words job)
-    (λ inputs. Answers (answer_of c (source_name words job) program inputs))
-    else Answers (failed 1 (no_loop_line c (source_name words job)))
+    let name = source_name words job in
+    unless_missing name
+    (inputs_plan (input_names words job) (λ inputs. Answers (answer_of c name program inputs)))
+    (missing_loop c program)
 
 abbrev pub job_plan : Command → List (List ℕ) → Job → Plan
 job_plan c words job = source_plan c (source_name words job) (after_source c words job)

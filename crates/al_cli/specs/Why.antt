@@ -1,5 +1,5 @@
 -- Why an answer is given, whether or not the files tell their contents.
-use Rattle.std.specs.Prelude.{⊤, ◌≡◌, ◌≢◌, ◌⊎◌, ℕ, true, false, List, [], ◌∷◌, codes, Option, Some, None, Ok, Err, ℤ}
+use Rattle.std.specs.Prelude.{⊤, ◌≡◌, ◌≢◌, ◌⊎◌, ℕ, List, [], ◌∷◌, codes, Option, Some, None, Ok, Err, ℤ}
 use Rattle.al_rules.specs.Refusals.{Noted, accepted}
 use Rattle.al_gen.specs.Generated.{source as made_source}
 use Rattle.al_report.specs.Faults.{refusal_text, input_cause_text}
@@ -19,7 +19,7 @@ use Rattle.al_words.specs.declared.command.WordFault.{WordFault}
 use Rattle.al_words.specs.Words.{command}
 use Rattle.al_words.specs.Jobs.{job_of, source_name, input_names}
 use Rattle.al_cli.specs.Lines.{word_line}
-use Rattle.al_cli.specs.Shown.{answer_of, bad_line, has_loop, made_inputs}
+use Rattle.al_cli.specs.Shown.{answer_of, bad_line, missing_loop, made_inputs}
 
 -- a command's source has this name; the generated program is that of `demo`
 abbrev pub IsSource : List (List ℕ) → Option Job → List ℕ → List ℕ → Type 0
@@ -54,7 +54,7 @@ pub data Why (words : List (List ℕ)) : Answer → Type 0 where
       → Why words (failed 1 (bad_line (source_name words job) source bad))
   -- status 1: the program has no loop of the number
   no_loop : (job : Job) (k : ℕ) (source : List ℕ) (program : Noted) → command words ≡ Ok (Infer job k)
-      → accepted source ≡ Ok program → has_loop (Infer job k) program ≡ false
+      → accepted source ≡ Ok program → missing_loop (Infer job k) program ≡ Some k
       → Why words (failed 1 (no_loop_text (source_name words job) k))
   -- status 7: an input is refused
   input_refused : (c : Command) (job : Job) (name text : List ℕ) (fault : InputCause) → command words ≡ Ok c
@@ -62,7 +62,7 @@ pub data Why (words : List (List ℕ)) : Answer → Type 0 where
       → Why words (failed 7 (input_cause_text name fault))
   -- status 0 or 3: it was done
   all_done : (c : Command) (job : Job) (source : List ℕ) (program : Noted) (inputs : List (List ℤ))
-      → command words ≡ Ok c → job_of c ≡ Some job → accepted source ≡ Ok program → has_loop c program ≡ true
+      → command words ≡ Ok c → job_of c ≡ Some job → accepted source ≡ Ok program → missing_loop c program ≡ None
       → AreNumbers (input_names words job) inputs
       → Why words (answer_of c (source_name words job) program inputs)
   -- status 0 or 3: the generated program was run

@@ -1,20 +1,18 @@
 //! Runs, and what is written of them.
-ghost use Rattle.std.specs.Prelude.{◌≡◌, ◌≤◌, IfOk, Ok, length, false, map};
+ghost use Rattle.std.specs.Prelude.{◌≡◌, IfOk, Ok, length, false};
 ghost use Rattle.al_core.specs.Limits.{AreInRange};
-ghost use Rattle.al_core.specs.Lines.{with_line};
 ghost use Rattle.al_core.specs.Report.{watched};
 ghost use Rattle.al_rules.specs.Refusals.{accepted};
-ghost use Rattle.al_source.specs.declared.limits.TheConstants.{MOST_TESTS};
+ghost use Rattle.al_words.specs.Jobs.{FitsInputs};
 ghost use Rattle.al_words.specs.Ranges.{HasRanges};
 ghost use Rattle.al_cli.specs.Shown as spec;
-ghost use Rattle.al_cli.specs.Steps.{IsSearch};
 
 use al_answers::{Answer, Status};
 use al_core::{Choice, Ending, Knobs, Report};
 use al_front::Noted;
 use al_plain::run;
 use al_report::{totals_text, trace_text, trap_text};
-use al_search::searched;
+use al_search::{no_choices, searched, with_line};
 use al_source::Bytes;
 use al_words::Command;
 use sqlite_items::Items;
@@ -33,7 +31,7 @@ pub fn answer_of<R: Threads + Sync>(
 ) -> Result<Answer, AllocError>
     requires ranges { HasRanges command }
     requires source { accepted source.now ≡ Ok program.now }
-    requires inputs { IsSearch command → (1 ≤ length inputs.now) × (length inputs.now ≤ MOST_TESTS) }
+    requires inputs { FitsInputs command (length inputs.now) }
     ensures { IfOk result (λ a. a ≡ spec.answer_of command name.now program.now inputs.now) }
 {
     match command {
@@ -91,11 +89,7 @@ fn ended(alloc: Global, name: &str, ending: Ending, out: Items<u8>) -> Result<An
     ensures { IfOk result (λ a. a ≡ spec.ended name.now ending out) }
 {
     match ending {
-        Ending::Done => Ok(Answer {
-            status: Status::Done.code(),
-            out,
-            err: Items::new(alloc),
-        }),
+        Ending::Done => Ok(done(alloc, out)),
         Ending::Trap(trap, line) => Ok(Answer {
             status: Status::Trapped.code(),
             out,
@@ -124,7 +118,7 @@ fn plain(alloc: Global, program: &Noted, input: &[i64], knobs: &Knobs) -> Result
     requires { AreInRange knobs.now }
     ensures { IfOk result (λ r. r ≡ watched false (spec.plain_report program.now input.now knobs.now)) }
 {
-    let choices = no_choices(alloc, program)?;
+    let choices = no_choices(alloc, program.1.as_slice())?;
     run(alloc, &program.0, input, *knobs, choices.as_slice(), false)
 }
 
@@ -139,28 +133,6 @@ fn own_choices(
     let mut choices = Items::new(alloc);
     for info in program.1.as_slice() {
         choices.push(Some(with_line(alloc, line, &info.own)?))?;
-    }
-    Ok(choices)
-}
-
-fn with_line(alloc: Global, line: u32, choice: &Choice) -> Result<Choice, AllocError>
-    ensures { IfOk result (λ c. c ≡ with_line line choice.now) }
-{
-    Ok(Choice {
-        policy: choice.policy,
-        order: choice.order,
-        reds: Items::from_slice(alloc, choice.reds.as_slice())?,
-        line,
-    })
-}
-
-/// No annotation, for each loop.
-fn no_choices(alloc: Global, program: &Noted) -> Result<Items<Option<Choice>>, AllocError>
-    ensures { IfOk result (λ cs. cs ≡ spec.no_choices program.now) }
-{
-    let mut choices = Items::new(alloc);
-    for _ in program.1.as_slice() {
-        choices.push(None)?;
     }
     Ok(choices)
 }

@@ -20,7 +20,6 @@ use al_front::{Noted, resolve};
 use al_gen::{Made2, make};
 use al_io::Files;
 use al_report::no_loop_text;
-use al_source::Bytes;
 use al_words::{Command, Job, WordFault, read_words};
 use sqlite_items::Items;
 use std::alloc::{AllocError, Global};
@@ -113,8 +112,8 @@ fn accepted_answer<R: Threads + Sync, F: Files>(
         (files_seen F.contents F.calls F.faults files.old) (files_seen F.contents F.calls F.faults files.new)) }
 {
     let name = source_name(words, job);
-    if !has_loop(command, program) {
-        let line = no_loop_line(alloc, command, name)?;
+    if let Some(number) = missing_loop(command, program) {
+        let line = no_loop_text(alloc, name, number)?;
         return Ok(failed(alloc, Status::ProgramRefused, line));
     }
     match inputs_step(alloc, words, &job.names[1..job.count as usize], files)? {
@@ -125,23 +124,13 @@ fn accepted_answer<R: Threads + Sync, F: Files>(
     }
 }
 
-/// Whether a search is of a loop that the program has. Any other command needs none.
-fn has_loop(command: Command, program: &Noted) -> bool
-    ensures { result ≡ spec.has_loop command program.now }
+/// The number of the loop of a search, where the program has none of that number.
+fn missing_loop(command: Command, program: &Noted) -> Option<u32>
+    ensures { result ≡ spec.missing_loop command program.now }
 {
     match command {
-        Command::Infer(_, number) => (number as usize) < program.1.len(),
-        _ => true,
-    }
-}
-
-/// The line about a program that has no loop of the number.
-fn no_loop_line(alloc: Global, command: Command, name: &str) -> Result<Bytes, AllocError>
-    ensures { IfOk result (λ line. line ≡ spec.no_loop_line command name.now) }
-{
-    match command {
-        Command::Infer(_, number) => no_loop_text(alloc, name, number),
-        _ => Ok(Items::new(alloc)),
+        Command::Infer(_, number) if number as usize >= program.1.len() => Some(number),
+        _ => None,
     }
 }
 

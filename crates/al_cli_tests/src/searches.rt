@@ -1,10 +1,12 @@
 //! The search for annotations.
 use crate::calls::{Call, File, Wanted, gives};
-use crate::rows::{Row, broken, changed};
+use crate::rows::{Row, broken, changed, ends_in};
 use al_samples::*;
+use std::alloc::{AllocError, Global};
 use std::test::Fail;
+use std::thread::Threads;
 
-const TABLE: &str = "candidate 0: NONE OutOfOrder: output, test 1
+const REFUSED: &str = "candidate 0: NONE OutOfOrder: output, test 1
 candidate 1: NONE InOrder: output, test 1
 candidate 2: WAW OutOfOrder: conflicts, test 1
 candidate 3: WAW InOrder: conflicts, test 1
@@ -12,23 +14,70 @@ candidate 4: RAW OutOfOrder: conflicts, test 1
 candidate 5: RAW InOrder: conflicts, test 1
 candidate 6: FULL OutOfOrder: conflicts, test 1
 candidate 7: FULL InOrder: conflicts, test 1
-candidate 8: NONE OutOfOrder reduce(+: s): accepted, span 6
-candidate 9: NONE InOrder reduce(+: s): accepted, span 6
-candidate 10: WAW OutOfOrder reduce(+: s): accepted, span 6
-candidate 11: WAW InOrder reduce(+: s): accepted, span 6
-candidate 12: RAW OutOfOrder reduce(+: s): accepted, span 6
-candidate 13: RAW InOrder reduce(+: s): accepted, span 6
-candidate 14: FULL OutOfOrder reduce(+: s): accepted, span 6
-candidate 15: FULL InOrder reduce(+: s): accepted, span 6
-best 8
 ";
+
+/// The table in which exactly the candidates with a reduction of `s` are accepted.
+fn with_reduction(alloc: Global, op: &str) -> Result<String, AllocError> {
+    format!(in alloc; "{REFUSED}candidate 8: NONE OutOfOrder reduce({op}: s): accepted, span 6
+candidate 9: NONE InOrder reduce({op}: s): accepted, span 6
+candidate 10: WAW OutOfOrder reduce({op}: s): accepted, span 6
+candidate 11: WAW InOrder reduce({op}: s): accepted, span 6
+candidate 12: RAW OutOfOrder reduce({op}: s): accepted, span 6
+candidate 13: RAW InOrder reduce({op}: s): accepted, span 6
+candidate 14: FULL OutOfOrder reduce({op}: s): accepted, span 6
+candidate 15: FULL InOrder reduce({op}: s): accepted, span 6
+best 8
+")
+}
+
+/// A loop that gathers the input in `s`.
+fn gathering(alloc: Global, start: i64, update: &str) -> Result<String, AllocError> {
+    format!(in alloc; "int main(void) {{
+  long s = {start};
+#pragma alter RAW InOrder
+  for (long i = 0; i < 4; i++) {update};
+  printf(\"%ld\\n\", s);
+}}
+")
+}
+
+/// Whether the search of a program for an input, one iteration a chunk, has this table.
+fn has_table<R: Threads + Sync>(
+    rt: &R,
+    alloc: Global,
+    text: &str,
+    numbers: &str,
+    table: &str,
+) -> Result<bool, AllocError> {
+    let source = File { name: "p9.c", text };
+    let input = File {
+        name: "n.txt",
+        text: numbers,
+    };
+    let call = Call::new("infer p9.c n.txt --lanes 4 --chunk 1", source, input);
+    let wanted = Wanted {
+        status: 0,
+        out: table,
+        err: "",
+    };
+    gives(rt, alloc, &call, &wanted)
+}
 
 #[test]
 fn a_sum_has_its_table(rt: HostRuntime) -> Result<(), Fail> {
     let alloc = rt.alloc();
     let from_zero = changed(alloc, P9, "s = 7", "s = 0")?;
-    let rows: [Row; 3] = [
-        ("infer p9.c n.txt --lanes 4 --chunk 1", 0, TABLE, ""),
+    let table = with_reduction(alloc, "+")?;
+    assert!(rt;
+        has_table(
+            &rt,
+            alloc,
+            from_zero.as_str(),
+            "1 2 3 4\n",
+            table.as_str()
+        )?
+    );
+    let rows: [Row; 2] = [
         (
             "infer p9.c n.txt --loop 1",
             1,
@@ -100,5 +149,92 @@ fn a_refused_input_ends_it(rt: HostRuntime) -> Result<(), Fail> {
         err: "alter: n.txt:2: not a number\n",
     };
     assert!(rt; gives(&rt, rt.alloc(), &call, &wanted)?);
+    Ok(())
+}
+
+#[test]
+fn each_operator_is_found(rt: HostRuntime) -> Result<(), Fail> {
+    let alloc = rt.alloc();
+    let rows: [(&'static str, i64, &'static str); 7] = [
+        ("+", 0, "s += input(i)"),
+        ("*", 1, "s *= input(i)"),
+        ("min", 100, "s = min(s, input(i))"),
+        ("max", 0, "s = max(s, input(i))"),
+        ("&", -1, "s &= input(i)"),
+        ("|", 0, "s |= input(i)"),
+        ("^", 0, "s ^= input(i)"),
+    ];
+    for (op, start, update) in rows {
+        let program = gathering(alloc, start, update)?;
+        let table = with_reduction(alloc, op)?;
+        assert!(rt;
+            has_table(
+                &rt,
+                alloc,
+                program.as_str(),
+                "5 9 1 6\n",
+                table.as_str()
+            )?,
+            "{op}"
+        );
+    }
+    Ok(())
+}
+
+/// Iteration 1 takes a thousand turns where it reads the old `d`; `x` tells whether it did.
+const SLOW: &str = "long d, x;
+int main(void) {
+#pragma alter RAW InOrder
+  for (long i = 0; i < 2; i++) {
+    if (i == 0) d = 1000; else for (long k = d; k < 1000; k++) x = 5;
+  }
+  printf(\"%ld %ld\\n\", d, x);
+}
+";
+
+/// Under NONE and WAW both bytes and steps differ, and the bytes come first; under RAW and FULL the steps alone do.
+#[test]
+fn the_first_reason_counts(rt: HostRuntime) -> Result<(), Fail> {
+    let table = "candidate 0: NONE OutOfOrder: output, test 1
+candidate 1: NONE InOrder: output, test 1
+candidate 2: WAW OutOfOrder: output, test 1
+candidate 3: WAW InOrder: output, test 1
+candidate 4: RAW OutOfOrder: steps, test 1
+candidate 5: RAW InOrder: steps, test 1
+candidate 6: FULL OutOfOrder: steps, test 1
+candidate 7: FULL InOrder: steps, test 1
+best none
+";
+    assert!(rt; has_table(&rt, rt.alloc(), SLOW, "\n", table)?);
+    Ok(())
+}
+
+/// Nine variables that could be reductions.
+const NINE: &str = "long a, b, c, d, e, f, g, h, k;
+int main(void) {
+#pragma alter RAW InOrder
+  for (long i = 0; i < 4; i++) {
+    a += i; b += i; c += i; d += i; e += i; f += i; g += i; h += i; k += i;
+  }
+  printf(\"%ld\\n\", a + b + c + d + e + f + g + h + k);
+}
+";
+
+/// The first eight count: each alone, and then all together, which makes 80 candidates.
+#[test]
+fn eight_variables_count(rt: HostRuntime) -> Result<(), Fail> {
+    let tail = "candidate 71: FULL InOrder reduce(+: h): conflicts, test 1
+candidate 72: NONE OutOfOrder reduce(+: a) reduce(+: b) reduce(+: c) reduce(+: d) reduce(+: e) reduce(+: f) reduce(+: g) reduce(+: h): output, test 1
+candidate 73: NONE InOrder reduce(+: a) reduce(+: b) reduce(+: c) reduce(+: d) reduce(+: e) reduce(+: f) reduce(+: g) reduce(+: h): output, test 1
+candidate 74: WAW OutOfOrder reduce(+: a) reduce(+: b) reduce(+: c) reduce(+: d) reduce(+: e) reduce(+: f) reduce(+: g) reduce(+: h): conflicts, test 1
+candidate 75: WAW InOrder reduce(+: a) reduce(+: b) reduce(+: c) reduce(+: d) reduce(+: e) reduce(+: f) reduce(+: g) reduce(+: h): conflicts, test 1
+candidate 76: RAW OutOfOrder reduce(+: a) reduce(+: b) reduce(+: c) reduce(+: d) reduce(+: e) reduce(+: f) reduce(+: g) reduce(+: h): conflicts, test 1
+candidate 77: RAW InOrder reduce(+: a) reduce(+: b) reduce(+: c) reduce(+: d) reduce(+: e) reduce(+: f) reduce(+: g) reduce(+: h): conflicts, test 1
+candidate 78: FULL OutOfOrder reduce(+: a) reduce(+: b) reduce(+: c) reduce(+: d) reduce(+: e) reduce(+: f) reduce(+: g) reduce(+: h): conflicts, test 1
+candidate 79: FULL InOrder reduce(+: a) reduce(+: b) reduce(+: c) reduce(+: d) reduce(+: e) reduce(+: f) reduce(+: g) reduce(+: h): conflicts, test 1
+best none
+";
+    let words = "infer p.c n.txt --lanes 4 --chunk 1";
+    assert!(rt; ends_in(&rt, rt.alloc(), words, NINE, tail)?);
     Ok(())
 }

@@ -1,12 +1,12 @@
 //! The search, and its table as a text.
-ghost use Rattle.std.specs.Prelude.{◌≡◌, ◌≤◌, IfOk, Ok, length, map};
+ghost use Rattle.std.specs.Prelude.{◌≡◌, ◌≤◌, IfOk, Ok, length};
 ghost use Rattle.al_core.specs.Limits.{AreInRange};
 ghost use Rattle.al_rules.specs.Refusals.{accepted};
 ghost use Rattle.al_source.specs.declared.limits.TheConstants.{MOST_TESTS};
-ghost use Rattle.al_core.specs.Lines.{with_line};
 ghost use Rattle.al_search.specs.Search as spec;
 
-use crate::trials::{Runs, with_line};
+use crate::choices::with_lines;
+use crate::trials::ProgramTrial;
 use al_core::{Bytes, Choice, Knobs, LoopInfo, Typed};
 use al_front::Noted;
 use al_infer::{Table, infer};
@@ -67,7 +67,7 @@ fn table_of<R: Threads + Sync>(
     requires ranges { AreInRange knobs }
     ensures { IfOk result (λ t. t ≡ spec.table_of program.now number tried.now tests.now knobs) }
 {
-    let trial = Runs {
+    let trial = ProgramTrial {
         alloc,
         source,
         program: Snapshot::of(program),
@@ -91,15 +91,4 @@ fn tried(
 {
     let list = candidates(alloc, typed, info)?;
     with_lines(alloc, line, list.as_slice())
-}
-
-/// The choices, each with lines of so many words.
-fn with_lines(alloc: Global, line: u32, list: &[Choice]) -> Result<Items<Choice>, AllocError>
-    ensures { IfOk result (λ cs. cs ≡ map (with_line line) list.now) }
-{
-    let mut lined = Items::new(alloc);
-    for choice in list {
-        lined.push(with_line(alloc, line, choice)?)?;
-    }
-    Ok(lined)
 }

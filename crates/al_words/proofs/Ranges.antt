@@ -18,7 +18,7 @@ use Rattle.al_words.specs.declared.verb.Verb.{Verb}
 use Rattle.al_words.specs.declared.verb.Verb.TheVariants as verb
 use Rattle.al_words.specs.declared.walk.Waiting.{Waiting}
 use Rattle.al_words.specs.declared.walk.Walk.{Walk}
-use Rattle.al_words.specs.Words.{within, number_in, value_of, taken, takes_number, least, greatest, give, knobs_of, begin, valued, optioned, named, step_by, step, walked, word_at, place, with_size, with_start, asked, job_of, ended, after_walk, by_verb, command, verb_of, takes, loop_of, given_to, knob_for}
+use Rattle.al_words.specs.Words.{within, number_in, value_of, taken, takes_number, least, greatest, give, knobs_of, begin, valued, optioned, named, step_by, step, walked, word_at, place, with_size, with_start, asked, walked_job, ended, after_walk, by_verb, command, verb_of, takes, loop_of, given_to, knob_for}
 use Rattle.al_words.specs.Ranges.{HasRanges}
 
 abbrev IsIn : ℕ → ℕ → ℕ → Type 0
@@ -175,8 +175,8 @@ ended_in words w (Some o) i = tt
 ended_in words w None i = by_test (takes w.verb w.count) refl
   where
     by_test : (b : Bool) → takes w.verb w.count ≡ b
-        → IfOk (if b then asked words w.verb (job_of w) (loop_of w.given) else Err Names) HasRanges
-    by_test true t = asked_in words w.verb (job_of w) (loop_of w.given) t (knobs_in w.given i)
+        → IfOk (if b then asked words w.verb (walked_job w) (loop_of w.given) else Err Names) HasRanges
+    by_test true t = asked_in words w.verb (walked_job w) (loop_of w.given) t (knobs_in w.given i)
     by_test false t = tt
 
 after_in : (words : List (List ℕ)) (v : Verb) (rest : List (List ℕ)) (r : Result Walk WordFault) → walked (begin v) 1 rest ≡ r

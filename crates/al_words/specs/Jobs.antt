@@ -1,5 +1,6 @@
 -- The files of a command.
-use Rattle.std.specs.Prelude.{ℕ, List, map, slice_range, Option, Some, None}
+use Rattle.std.specs.Prelude.{⊤, ◌≤◌, ℕ, List, map, slice_range, Option, Some, None}
+use Rattle.al_source.specs.declared.limits.TheConstants.{MOST_TESTS}
 use Rattle.al_words.specs.declared.command.Command.{Command}
 use Rattle.al_words.specs.declared.command.Command.TheVariants.{Run, Plain, Trace, Infer, Check, Demo}
 use Rattle.al_words.specs.declared.command.Job.{Job}
@@ -22,3 +23,8 @@ input_places job = slice_range job.names 1 job.count
 
 abbrev pub input_names : List (List ℕ) → Job → List (List ℕ)
 input_names words job = map (word_at words) (input_places job)
+
+-- how many inputs a command may have: a search has one or more
+abbrev pub FitsInputs : Command → ℕ → Type 0
+FitsInputs (Infer job k) n = (1 ≤ n) × (n ≤ MOST_TESTS)
+FitsInputs _ n = ⊤

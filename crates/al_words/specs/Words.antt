@@ -218,12 +218,12 @@ asked words verb.Infer job k = Ok (Infer job k)
 asked words verb.Check job k = Ok (Check job)
 asked words verb.Demo job k = demo words job
 
-abbrev pub job_of : Walk → Job
-job_of w = record { names = w.names; count = w.count; knobs = knobs_of w.given }
+abbrev pub walked_job : Walk → Job
+walked_job w = record { names = w.names; count = w.count; knobs = knobs_of w.given }
 
 abbrev pub ended : List (List ℕ) → Walk → Option Waiting → Result Command WordFault
 ended words w (Some o) = Err (NoValue o.at)
-ended words w None = if takes w.verb w.count then asked words w.verb (job_of w) (loop_of w.given) else Err Names
+ended words w None = if takes w.verb w.count then asked words w.verb (walked_job w) (loop_of w.given) else Err Names
 
 abbrev pub after_walk : List (List ℕ) → Result Walk WordFault → Result Command WordFault
 after_walk words (Ok w) = ended words w w.waiting

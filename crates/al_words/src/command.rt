@@ -1,6 +1,3 @@
-ghost use Rattle.std.specs.Prelude.{◌≡◌};
-ghost use Rattle.al_words.specs.Jobs.{job_of};
-
 use al_core::Knobs;
 
 /// What the words ask for.
@@ -18,22 +15,6 @@ pub enum Command {
     Check(Job),
     /// To run the generated program, from a start and with a size.
     Demo(u32, u32, Knobs),
-}
-
-impl Command {
-    /// Its files and the numbers of its run, where it reads files.
-    pub fn job(self) -> Option<Job>
-        ensures { result ≡ job_of self }
-    {
-        match self {
-            Command::Run(job)
-            | Command::Plain(job)
-            | Command::Trace(job)
-            | Command::Infer(job, _)
-            | Command::Check(job) => Some(job),
-            Command::Demo(..) => None,
-        }
-    }
 }
 
 /// The files of a command, and the numbers of its run.
