@@ -1,13 +1,9 @@
 //! A gate that counts its calls.
 
+use crate::held::bit;
 use al_batch::PoolGate;
 use al_workers::Gate;
 use std::sync::atomic::{AtomicU64, Ordering};
-
-/// A bit for each of 64 numbers.
-pub(crate) fn bit(number: u32) -> u64 {
-    1u64.wrapping_shl(number)
-}
 
 /// Counts the calls for lanes or jobs below 64, and notes which came. It notes as a fault an `after` whose `before` has
 /// not come, and a number that comes twice.

@@ -1,21 +1,25 @@
 //! A gate that one thread, or two with fixed shares, cannot pass.
 
-use crate::counting::bit;
 use al_batch::PoolGate;
 use al_workers::Gate;
 use std::sync::atomic::{AtomicU64, Ordering};
 use std::thread;
 
 /// The number of lanes or jobs that pass the gate.
-pub(crate) const MANY: u32 = 4;
+pub const MANY: u32 = 4;
 
 const ALL: u64 = 15;
+
+/// A bit for each of 64 numbers.
+pub(crate) fn bit(number: u32) -> u64 {
+    1u64.wrapping_shl(number)
+}
 
 /// Holds one of four lanes or jobs until the three others are done, and each other until the held one has come. A wait
 /// gives the processor away, looks again at most so often, and is noted where it did not end. An `after` whose `before`
 /// has not returned is noted too.
 #[derive(Drop)]
-pub(crate) struct Held {
+pub struct Held {
     held: u32,
     looks: u64,
     came: AtomicU64,
@@ -25,7 +29,7 @@ pub(crate) struct Held {
 }
 
 impl Held {
-    pub(crate) fn new(held: u32, looks: u64) -> Held {
+    pub fn new(held: u32, looks: u64) -> Held {
         Held {
             held,
             looks,
@@ -64,7 +68,7 @@ impl Held {
     }
 
     /// Whether all four came and went, and nothing was noted.
-    pub(crate) fn is_well(&self) -> bool {
+    pub fn is_well(&self) -> bool {
         self.noted.load(Ordering::SeqCst) == 0
             && self.passed.load(Ordering::SeqCst) == ALL
             && self.done.load(Ordering::SeqCst) == ALL

@@ -3,7 +3,6 @@
 
 #[cfg(test)]
 mod counting;
-#[cfg(test)]
 mod held;
 #[cfg(test)]
 mod jobs;
@@ -13,3 +12,5 @@ mod marks;
 mod tally;
 #[cfg(test)]
 mod workers;
+
+pub use held::{Held, MANY};

@@ -4,6 +4,7 @@ use Rattle.std.proofs.lemmas.List.{append_assoc, append-nil, drop_more}
 use Rattle.std.specs.declared.alloc.AllocError.{AllocError}
 use Rattle.al_rules.specs.Refusals.{Noted, accepted}
 use Rattle.al_report.specs.Faults.{input_cause_text}
+use Rattle.al_report.specs.Tables.{no_loop_text}
 use Rattle.al_rules.specs.declared.faults.Refusal.{Refusal}
 use Rattle.al_answers.specs.declared.answers.Answer.{Answer}
 use Rattle.al_answers.specs.declared.reading.FileRead.{FileRead}

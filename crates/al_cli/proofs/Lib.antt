@@ -1,3 +1,4 @@
+pub mod Lined
 pub mod Plans
 pub mod Valid
 pub mod Onward

@@ -6,6 +6,7 @@ ghost use Rattle.al_cli.specs.Endings.{Ends};
 
 use crate::top_call::alter;
 use al_answers::Status;
+use al_engine::Gate;
 use al_io::{Files, Sink};
 use std::alloc::Global;
 use std::rt::Env;
@@ -42,15 +43,15 @@ fn cause_of(error: &io::Error) -> NoWords {
 }
 
 /// The whole program, given its words: it ends with the status of `alter`, with 6 where there is no memory for the
-/// words,
-/// and with 10 where a word is no text. With the latter two nothing is read or written.
-pub fn program<R: Threads + Sync, F: Files, O: Sink, E: Sink>(
+/// words, and with 10 where a word is no text. With the latter two nothing is read or written.
+pub fn program<R: Threads + Sync, F: Files, O: Sink, E: Sink, G: Gate>(
     rt: &R,
     alloc: Global,
     words: &Result<Vec<String>, NoWords>,
     files: &mut F,
     out: &mut O,
     err: &mut E,
+    gate: &G,
 ) -> u8
     ensures { Ends words.now (record {
       files = change (files_seen F.contents F.calls F.faults) files.old files.new;
@@ -60,7 +61,7 @@ pub fn program<R: Threads + Sync, F: Files, O: Sink, E: Sink>(
     }) }
 {
     match words {
-        Ok(words) => alter(rt, alloc, words.as_slice(), files, out, err),
+        Ok(words) => alter(rt, alloc, words.as_slice(), files, out, err, gate),
         Err(NoWords::Memory) => Status::NoMemory.code(),
         Err(NoWords::NotText) => Status::NotText.code(),
     }

@@ -3,14 +3,19 @@ ghost use Rattle.std.specs.Prelude.{◌≡◌, IfOk, Ok, length, false};
 ghost use Rattle.al_core.specs.Limits.{AreInRange};
 ghost use Rattle.al_core.specs.Report.{watched};
 ghost use Rattle.al_rules.specs.Refusals.{accepted};
+ghost use Rattle.al_rules_laws.specs.FormedLaws.{IsFormedWith};
+ghost use Rattle.al_code.specs.Valid.{IsValid};
+ghost use Rattle.al_engine.specs.Jobs.{IsCodeOf};
 ghost use Rattle.al_words.specs.Jobs.{FitsInputs};
 ghost use Rattle.al_words.specs.Ranges.{HasRanges};
 ghost use Rattle.al_cli.specs.Shown as spec;
 
 use al_answers::{Answer, Status};
+use al_code::Code;
 use al_core::{Choice, Ending, Knobs, Report};
+use al_engine::{Gate, run};
 use al_front::Noted;
-use al_plain::run;
+use al_lower::lower;
 use al_report::{totals_text, trace_text, trap_text};
 use al_search::{no_choices, searched, with_line};
 use al_source::Bytes;
@@ -20,7 +25,8 @@ use std::alloc::{AllocError, Global};
 use std::thread::Threads;
 
 /// What is written where the source of this name is the program, and its inputs are these numbers.
-pub fn answer_of<R: Threads + Sync>(
+#[tactic(auto, using(crate::proofs::Lined::formed_of))]
+pub fn answer_of<R: Threads + Sync, G: Gate>(
     rt: &R,
     alloc: Global,
     command: Command,
@@ -28,6 +34,7 @@ pub fn answer_of<R: Threads + Sync>(
     source: &[u8],
     program: &Noted,
     inputs: &[Items<i64>],
+    gate: &G,
 ) -> Result<Answer, AllocError>
     requires ranges { HasRanges command }
     requires source { accepted source.now ≡ Ok program.now }
@@ -36,15 +43,17 @@ pub fn answer_of<R: Threads + Sync>(
 {
     match command {
         Command::Run(job) => {
-            let report = in_lockstep(alloc, program, first_input(inputs), &job.knobs, false)?;
+            let input = first_input(inputs);
+            let report = in_lockstep(rt, alloc, program, input, &job.knobs, false, gate)?;
             ended(alloc, name, report.ending, report.output)
         }
         Command::Plain(job) => {
-            let report = plain(alloc, program, first_input(inputs), &job.knobs)?;
+            let report = plain(rt, alloc, program, first_input(inputs), &job.knobs, gate)?;
             ended(alloc, name, report.ending, report.output)
         }
         Command::Trace(job) => {
-            let report = in_lockstep(alloc, program, first_input(inputs), &job.knobs, true)?;
+            let input = first_input(inputs);
+            let report = in_lockstep(rt, alloc, program, input, &job.knobs, true, gate)?;
             let text = trace_text(alloc, &report)?;
             ended(alloc, name, report.ending, text)
         }
@@ -54,7 +63,8 @@ pub fn answer_of<R: Threads + Sync>(
         }
         Command::Check(_) => Ok(done(alloc, Items::from_slice(alloc, b"ok\n")?)),
         Command::Demo(_, _, knobs) => {
-            let report = in_lockstep(alloc, program, first_input(inputs), &knobs, false)?;
+            let input = first_input(inputs);
+            let report = in_lockstep(rt, alloc, program, input, &knobs, false, gate)?;
             let totals = totals_text(alloc, &report)?;
             let mut out = report.output;
             out.append(totals)?;
@@ -98,28 +108,56 @@ fn ended(alloc: Global, name: &str, ending: Ending, out: Items<u8>) -> Result<An
     }
 }
 
+/// The code of a program. An accepted one has few enough nodes, so that memory alone can be wanting.
+#[tactic(auto, using(al_loop_laws::proofs::Locals::loops_have_their_locals))]
+fn lowered(alloc: Global, program: &Noted) -> Result<Code, AllocError>
+    requires { IsFormedWith program.now.0 program.now.1 }
+    ensures valid { IfOk result IsValid }
+    ensures code { IfOk result (IsCodeOf program.now.0) }
+{
+    match lower(alloc, &program.0, program.1.as_slice()) {
+        Ok(code) => Ok(code),
+        Err(_) => Err(AllocError),
+    }
+}
+
 /// A run with every annotated loop in rounds, by its own annotation.
-fn in_lockstep(
+#[tactic(auto, using(crate::proofs::Lined::own_lined))]
+fn in_lockstep<R: Threads + Sync, G: Gate>(
+    rt: &R,
     alloc: Global,
     program: &Noted,
     input: &[i64],
     knobs: &Knobs,
     watch: bool,
+    gate: &G,
 ) -> Result<Report, AllocError>
-    requires { AreInRange knobs.now }
+    requires formed { IsFormedWith program.now.0 program.now.1 }
+    requires ranges { AreInRange knobs.now }
     ensures { IfOk result (λ r. r ≡ watched watch (spec.lockstep_report program.now input.now knobs.now)) }
 {
+    let code = lowered(alloc, program)?;
     let choices = own_choices(alloc, knobs.line, program)?;
-    run(alloc, &program.0, input, *knobs, choices.as_slice(), watch)
+    run(rt, alloc, &code, input, knobs, choices.as_slice(), watch, gate)
 }
 
 /// A run with every loop plain.
-fn plain(alloc: Global, program: &Noted, input: &[i64], knobs: &Knobs) -> Result<Report, AllocError>
-    requires { AreInRange knobs.now }
+#[tactic(auto, using(crate::proofs::Lined::none_lined))]
+fn plain<R: Threads + Sync, G: Gate>(
+    rt: &R,
+    alloc: Global,
+    program: &Noted,
+    input: &[i64],
+    knobs: &Knobs,
+    gate: &G,
+) -> Result<Report, AllocError>
+    requires formed { IsFormedWith program.now.0 program.now.1 }
+    requires ranges { AreInRange knobs.now }
     ensures { IfOk result (λ r. r ≡ watched false (spec.plain_report program.now input.now knobs.now)) }
 {
+    let code = lowered(alloc, program)?;
     let choices = no_choices(alloc, program.1.as_slice())?;
-    run(alloc, &program.0, input, *knobs, choices.as_slice(), false)
+    run(rt, alloc, &code, input, knobs, choices.as_slice(), false, gate)
 }
 
 /// Each loop's own annotation, with lines of so many words.

@@ -16,6 +16,7 @@ use crate::reading::{InputsStep, SourceStep, inputs_step, refused_line, source_n
 use crate::runs::answer_of;
 use al_answers::{Answer, Status, failed};
 use al_core::Knobs;
+use al_engine::Gate;
 use al_front::{Noted, resolve};
 use al_gen::{Made2, make};
 use al_io::Files;
@@ -27,11 +28,12 @@ use std::thread::Threads;
 
 /// What is to be written for these words: all that `alter` does before its puts.
 #[tactic(auto, unfolding(crate::specs::Shown::plan))]
-pub fn serve<R: Threads + Sync, F: Files>(
+pub fn serve<R: Threads + Sync, F: Files, G: Gate>(
     rt: &R,
     alloc: Global,
     words: &[String],
     files: &mut F,
+    gate: &G,
 ) -> Result<Answer, AllocError>
     ensures ok { IfOk result (Came (spec.plan (map string_bytes words.now))
         (files_seen F.contents F.calls F.faults files.old) (files_seen F.contents F.calls F.faults files.new)) }
@@ -47,8 +49,8 @@ pub fn serve<R: Threads + Sync, F: Files>(
         | Command::Plain(job)
         | Command::Trace(job)
         | Command::Infer(job, _)
-        | Command::Check(job) => job_answer(rt, alloc, words, command, &job, files),
-        Command::Demo(start, size, knobs) => made_answer(rt, alloc, start, size, knobs),
+        | Command::Check(job) => job_answer(rt, alloc, words, command, &job, files, gate),
+        Command::Demo(start, size, knobs) => made_answer(rt, alloc, start, size, knobs, gate),
     }
 }
 
@@ -59,13 +61,14 @@ fn words_refused(alloc: Global, words: &[String], fault: WordFault) -> Result<An
 }
 
 /// The answer of a command that reads files.
-fn job_answer<R: Threads + Sync, F: Files>(
+fn job_answer<R: Threads + Sync, F: Files, G: Gate>(
     rt: &R,
     alloc: Global,
     words: &[String],
     command: Command,
     job: &Job,
     files: &mut F,
+    gate: &G,
 ) -> Result<Answer, AllocError>
     requires ranges { HasRanges command }
     requires job { job_of command ≡ Some job.now }
@@ -86,6 +89,7 @@ fn job_answer<R: Threads + Sync, F: Files>(
                 source.as_slice(),
                 &program,
                 files,
+                gate,
             )
         }
         SourceStep::Answered(answer) => Ok(answer),
@@ -93,7 +97,7 @@ fn job_answer<R: Threads + Sync, F: Files>(
 }
 
 /// The answer where the source was read and accepted.
-fn accepted_answer<R: Threads + Sync, F: Files>(
+fn accepted_answer<R: Threads + Sync, F: Files, G: Gate>(
     rt: &R,
     alloc: Global,
     words: &[String],
@@ -102,6 +106,7 @@ fn accepted_answer<R: Threads + Sync, F: Files>(
     source: &[u8],
     program: &Noted,
     files: &mut F,
+    gate: &G,
 ) -> Result<Answer, AllocError>
     requires ranges { HasRanges command }
     requires job { job_of command ≡ Some job.now }
@@ -118,7 +123,8 @@ fn accepted_answer<R: Threads + Sync, F: Files>(
     }
     match inputs_step(alloc, words, &job.names[1..job.count as usize], files)? {
         InputsStep::Numbers(inputs) => {
-            answer_of(rt, alloc, command, name, source, program, inputs.as_slice())
+            let inputs = inputs.as_slice();
+            answer_of(rt, alloc, command, name, source, program, inputs, gate)
         }
         InputsStep::Answered(answer) => Ok(answer),
     }
@@ -135,12 +141,13 @@ fn missing_loop(command: Command, program: &Noted) -> Option<u32>
 }
 
 /// The answer of the command that runs the generated program.
-fn made_answer<R: Threads + Sync>(
+fn made_answer<R: Threads + Sync, G: Gate>(
     rt: &R,
     alloc: Global,
     start: u32,
     size: u32,
     knobs: Knobs,
+    gate: &G,
 ) -> Result<Answer, AllocError>
     requires demo { IsDemo start size }
     requires ranges { AreInRange knobs }
@@ -161,6 +168,7 @@ fn made_answer<R: Threads + Sync>(
                 text,
                 &program,
                 inputs.as_slice(),
+                gate,
             )
         }
         Err(fault) => {

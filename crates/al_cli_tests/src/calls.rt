@@ -3,7 +3,7 @@ ghost use Rattle.std.specs.Prelude.{◌≡◌, [], ◌∷◌, IfOk};
 ghost use Rattle.std.specs.Map.{keys_of};
 ghost use Rattle.al_io.specs.MemFiles.{named};
 
-use al_cli::alter;
+use al_cli::{FreeGate, Gate, alter};
 use al_io::{Cut, MemFile, MemFiles, MemSink};
 use sqlite_items::Items;
 use std::alloc::{AllocError, Global};
@@ -107,6 +107,16 @@ pub fn serve<R: Threads + Sync>(
     alloc: Global,
     call: &Call<'_>,
 ) -> Result<Seen, AllocError> {
+    serve_at(rt, alloc, call, &FreeGate)
+}
+
+/// The same with a gate, which is called round the run of each chunk.
+pub fn serve_at<R: Threads + Sync, G: Gate>(
+    rt: &R,
+    alloc: Global,
+    call: &Call<'_>,
+    gate: &G,
+) -> Result<Seen, AllocError> {
     let words = words_of(alloc, call.words)?;
     let files = two_files(alloc, &call.source, &call.input)?;
     if call.source.name == call.input.name {
@@ -115,7 +125,15 @@ pub fn serve<R: Threads + Sync>(
     let mut files = MemFiles::new(files, Items::from_slice(alloc, &[call.failing])?);
     let mut out = sink(alloc, call.out)?;
     let mut err = sink(alloc, call.err)?;
-    let status = alter(rt, alloc, words.as_slice(), &mut files, &mut out, &mut err);
+    let status = alter(
+        rt,
+        alloc,
+        words.as_slice(),
+        &mut files,
+        &mut out,
+        &mut err,
+        gate,
+    );
     Ok(Seen {
         status,
         out: Vec::from_slice(alloc, out.bytes())?,

@@ -8,6 +8,8 @@ mod failures;
 #[cfg(test)]
 mod freeing;
 #[cfg(test)]
+mod gates;
+#[cfg(test)]
 mod limits;
 #[cfg(test)]
 mod places;

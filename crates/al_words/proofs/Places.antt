@@ -1,10 +1,10 @@
 -- Each word that is taken leaves the walk where it can stand.
-use Rattle.std.proofs.Common.{◌≡◌, ℕ, ◌+◌, Option, None, Some, Result, Ok, Err, IfOk, IfSome, is_some, Bool, true, false, if◌then◌else◌, refl, sym, ap, subst, arith}
+use Rattle.std.proofs.Common.{◌≡◌, ◌≤◌, ◌<◌, ℕ, ◌+◌, Option, None, Some, Result, Ok, Err, IfOk, IfSome, is_some, Bool, true, false, if◌then◌else◌, refl, sym, ap, subst, arith}
 use Rattle.al_words.specs.declared.command.WordFault.{WordFault}
 use Rattle.al_words.specs.declared.command.WordFault.TheVariants.{Repeated}
 use Rattle.al_words.specs.declared.option.Given.{Given}
 use Rattle.al_words.specs.declared.option.Knob.{Knob}
-use Rattle.al_words.specs.declared.option.Knob.TheVariants.{Lanes, Chunk, Line, IterSteps, Steps, LoopNumber}
+use Rattle.al_words.specs.declared.option.Knob.TheVariants.{Lanes, Chunk, Threads, Line, IterSteps, Steps, LoopNumber}
 use Rattle.al_words.specs.declared.walk.Waiting.{Waiting}
 use Rattle.al_words.specs.declared.walk.Walk.{Walk}
 use Rattle.al_words.specs.Words.{given_to, give, valued, optioned, named, Takes}
@@ -13,10 +13,29 @@ use Rattle.al_words.specs.Places.{one_if, how_many, Fits}
 give_more : (g : Given) (k : Knob) (n : ℕ) → given_to g k ≡ None → how_many (give g k n) ≡ how_many g + 1
 give_more g Lanes n h = rw h (omega arith)
 give_more g Chunk n h = rw h (omega arith)
+give_more g Threads n h = rw h (omega arith)
 give_more g Line n h = rw h (omega arith)
 give_more g IterSteps n h = rw h (omega arith)
 give_more g Steps n h = rw h (omega arith)
 give_more g LoopNumber n h = rw h (omega arith)
+
+one_at_most : {A : Type 0} (r : Option A) → one_if r ≤ 1
+one_at_most (Some a) = omega arith
+one_at_most None = omega arith
+
+-- the place of a name is small: the words before it are names and options, of which there are few
+pub few_words : (at : ℕ) (w : Walk) → Fits at w → w.count < 17 → at < 4294967296
+few_words at w f few =
+    let lanes = one_at_most w.given.lanes in
+    let chunk = one_at_most w.given.chunk in
+    let threads = one_at_most w.given.threads in
+    let line = one_at_most w.given.line in
+    let iter_steps = one_at_most w.given.iter_steps in
+    let steps = one_at_most w.given.steps in
+    let loop_number = one_at_most w.given.loop_number in
+    let waiting = one_at_most w.waiting in
+    let places = f.places in
+    omega arith
 
 none_of : {A : Type 0} (r : Option A) → is_some r ≡ false → r ≡ None
 none_of None h = refl

@@ -3,7 +3,7 @@ use Rattle.std.proofs.Common.{◌≡◌, ◌≤◌, ℕ, ◌+◌, Option, None, 
 use Rattle.std.specs.Bool.{⊤}
 use Rattle.std.specs.List.{starts_with}
 use Rattle.al_source.specs.Steps.{and_then}
-use Rattle.al_source.specs.declared.limits.TheConstants.{MOST_LANES, MOST_CHUNK, MOST_STEPS, MOST_TESTS, MOST_START, MOST_SIZE, DEFAULT_LANES, DEFAULT_CHUNK, DEFAULT_LINE, DEFAULT_ITERATION_STEPS, DEFAULT_SERIAL_STEPS}
+use Rattle.al_source.specs.declared.limits.TheConstants.{MOST_LANES, MOST_CHUNK, MOST_THREADS, MOST_STEPS, MOST_TESTS, MOST_START, MOST_SIZE, DEFAULT_LANES, DEFAULT_CHUNK, DEFAULT_THREADS, DEFAULT_LINE, DEFAULT_ITERATION_STEPS, DEFAULT_SERIAL_STEPS}
 use Rattle.al_core.specs.Limits.{AreInRange}
 use Rattle.al_core.specs.Lines.{IsLineSize}
 use Rattle.al_text.specs.Digits.{numeral}
@@ -13,7 +13,7 @@ use Rattle.al_words.specs.declared.command.WordFault.{WordFault}
 use Rattle.al_words.specs.declared.command.WordFault.TheVariants.{Repeated, Names}
 use Rattle.al_words.specs.declared.option.Given.{Given}
 use Rattle.al_words.specs.declared.option.Knob.{Knob}
-use Rattle.al_words.specs.declared.option.Knob.TheVariants.{Lanes, Chunk, Line, IterSteps, Steps, LoopNumber}
+use Rattle.al_words.specs.declared.option.Knob.TheVariants.{Lanes, Chunk, Threads, Line, IterSteps, Steps, LoopNumber}
 use Rattle.al_words.specs.declared.verb.Verb.{Verb}
 use Rattle.al_words.specs.declared.verb.Verb.TheVariants as verb
 use Rattle.al_words.specs.declared.walk.Waiting.{Waiting}
@@ -37,6 +37,7 @@ is_within least most None n h = absurd cc
 abbrev IsValue : Knob → ℕ → Type 0
 IsValue Lanes n = IsIn 1 MOST_LANES n
 IsValue Chunk n = IsIn 1 MOST_CHUNK n
+IsValue Threads n = IsIn 1 MOST_THREADS n
 IsValue Line n = IsLineSize n
 IsValue IterSteps n = IsIn 1 MOST_STEPS n
 IsValue Steps n = IsIn 1 MOST_STEPS n
@@ -45,6 +46,7 @@ IsValue LoopNumber n = ⊤
 is_value : (knob : Knob) (m : ℕ) → IsIn (least knob) (greatest knob) m → takes_number knob m ≡ true → IsValue knob m
 is_value Lanes m h t = h
 is_value Chunk m h t = h
+is_value Threads m h t = h
 is_value Line m h t = t
 is_value IterSteps m h t = h
 is_value Steps m h t = h
@@ -65,18 +67,26 @@ is_given knob word n h = is_taken knob (number_in (least knob) (greatest knob) w
 record InRange (g : Given) : Type 0 where
   pub lanes : IfSome g.lanes (IsValue Lanes)
   pub chunk : IfSome g.chunk (IsValue Chunk)
+  pub threads : IfSome g.threads (IsValue Threads)
   pub line : IfSome g.line (IsValue Line)
   pub iter_steps : IfSome g.iter_steps (IsValue IterSteps)
   pub steps : IfSome g.steps (IsValue Steps)
 
 give_in : (g : Given) (k : Knob) (n : ℕ) → IsValue k n → InRange g → InRange (give g k n)
-give_in g Lanes n h i = record { lanes = h; chunk = i.chunk; line = i.line; iter_steps = i.iter_steps; steps = i.steps }
-give_in g Chunk n h i = record { lanes = i.lanes; chunk = h; line = i.line; iter_steps = i.iter_steps; steps = i.steps }
-give_in g Line n h i = record { lanes = i.lanes; chunk = i.chunk; line = h; iter_steps = i.iter_steps; steps = i.steps }
-give_in g IterSteps n h i = record { lanes = i.lanes; chunk = i.chunk; line = i.line; iter_steps = h; steps = i.steps }
-give_in g Steps n h i = record { lanes = i.lanes; chunk = i.chunk; line = i.line; iter_steps = i.iter_steps; steps = h }
+give_in g Lanes n h i =
+    record { lanes = h; chunk = i.chunk; threads = i.threads; line = i.line; iter_steps = i.iter_steps; steps = i.steps }
+give_in g Chunk n h i =
+    record { lanes = i.lanes; chunk = h; threads = i.threads; line = i.line; iter_steps = i.iter_steps; steps = i.steps }
+give_in g Threads n h i =
+    record { lanes = i.lanes; chunk = i.chunk; threads = h; line = i.line; iter_steps = i.iter_steps; steps = i.steps }
+give_in g Line n h i =
+    record { lanes = i.lanes; chunk = i.chunk; threads = i.threads; line = h; iter_steps = i.iter_steps; steps = i.steps }
+give_in g IterSteps n h i =
+    record { lanes = i.lanes; chunk = i.chunk; threads = i.threads; line = i.line; iter_steps = h; steps = i.steps }
+give_in g Steps n h i =
+    record { lanes = i.lanes; chunk = i.chunk; threads = i.threads; line = i.line; iter_steps = i.iter_steps; steps = h }
 give_in g LoopNumber n h i =
-    record { lanes = i.lanes; chunk = i.chunk; line = i.line; iter_steps = i.iter_steps; steps = i.steps }
+    record { lanes = i.lanes; chunk = i.chunk; threads = i.threads; line = i.line; iter_steps = i.iter_steps; steps = i.steps }
 
 value_in : (w v : Walk) (o : Waiting) (r : Option ℕ) → ((n : ℕ) → r ≡ Some n → IsValue o.knob n) → InRange w.given → valued w o r ≡ Ok v → InRange v.given
 value_in w v o (Some n) f i h =
@@ -121,7 +131,7 @@ knobs_in : (g : Given) → InRange g → AreInRange (knobs_of g)
 knobs_in g i = record {
   lanes = or_default 1 MOST_LANES DEFAULT_LANES g.lanes (omega arith, omega arith) i.lanes;
   chunk = or_default 1 MOST_CHUNK DEFAULT_CHUNK g.chunk (omega arith, omega arith) i.chunk;
-  threads = (omega arith, omega arith);
+  threads = or_default 1 MOST_THREADS DEFAULT_THREADS g.threads (omega arith, omega arith) i.threads;
   line = or_line g.line i.line;
   iter_steps = or_default 1 MOST_STEPS DEFAULT_ITERATION_STEPS g.iter_steps (omega arith, omega arith) i.iter_steps;
   serial_steps = or_default 1 MOST_STEPS DEFAULT_SERIAL_STEPS g.steps (omega arith, omega arith) i.steps;
@@ -182,7 +192,7 @@ ended_in words w None i = by_test (takes w.verb w.count) refl
 after_in : (words : List (List ℕ)) (v : Verb) (rest : List (List ℕ)) (r : Result Walk WordFault) → walked (begin v) 1 rest ≡ r
     → IfOk (after_walk words r) HasRanges
 after_in words v rest (Ok w) e =
-    ended_in words w w.waiting (walk_in (begin v) w 1 rest (record { lanes = tt; chunk = tt; line = tt; iter_steps = tt; steps = tt }) e)
+    ended_in words w w.waiting (walk_in (begin v) w 1 rest (record { lanes = tt; chunk = tt; threads = tt; line = tt; iter_steps = tt; steps = tt }) e)
 after_in words v rest (Err fault) e = tt
 
 verb_in : (words rest : List (List ℕ)) (r : Option Verb) → IfOk (by_verb words rest r) HasRanges

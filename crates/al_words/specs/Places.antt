@@ -11,7 +11,8 @@ one_if None = 0
 abbrev pub how_many : Given → ℕ
 how_many g =
     one_if g.lanes
-    + (one_if g.chunk + one_if g.line + (one_if g.iter_steps + (one_if g.steps + one_if g.loop_number)))
+    + (one_if g.chunk
+    + (one_if g.threads + one_if g.line + (one_if g.iter_steps + (one_if g.steps + one_if g.loop_number))))
 
 pub record Fits (at : ℕ) (w : Walk) : Type 0 where
   -- before a place stand the command, the names, and each option that was given with its value

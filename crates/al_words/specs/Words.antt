@@ -3,7 +3,7 @@ use Rattle.std.specs.Prelude.{◌≡◌, ℕ, ◌+◌, ◌-◌, ◌^◌, if◌th
 use Rattle.std.specs.List.{starts_with}
 use Rattle.std.specs.Str.{bytes_eq}
 use Rattle.al_source.specs.Steps.{and_then}
-use Rattle.al_source.specs.declared.limits.TheConstants.{MOST_LANES, MOST_CHUNK, MOST_STEPS, MOST_TESTS, MOST_START, MOST_SIZE, DEFAULT_LANES, DEFAULT_CHUNK, DEFAULT_THREADS, DEFAULT_LINE, DEFAULT_ITERATION_STEPS, DEFAULT_SERIAL_STEPS}
+use Rattle.al_source.specs.declared.limits.TheConstants.{MOST_LANES, MOST_CHUNK, MOST_THREADS, MOST_STEPS, MOST_TESTS, MOST_START, MOST_SIZE, DEFAULT_LANES, DEFAULT_CHUNK, DEFAULT_THREADS, DEFAULT_LINE, DEFAULT_ITERATION_STEPS, DEFAULT_SERIAL_STEPS}
 use Rattle.al_core.specs.declared.choices.Knobs.{Knobs}
 use Rattle.al_core.specs.Lines.{is_line_size}
 use Rattle.al_text.specs.Digits.{numeral}
@@ -14,7 +14,7 @@ use Rattle.al_words.specs.declared.command.WordFault.{WordFault}
 use Rattle.al_words.specs.declared.command.WordFault.TheVariants.{NoCommand, BadCommand, Unknown, Repeated, NoValue, BadValue, Names, BadNumber}
 use Rattle.al_words.specs.declared.option.Given.{Given}
 use Rattle.al_words.specs.declared.option.Knob.{Knob}
-use Rattle.al_words.specs.declared.option.Knob.TheVariants.{Lanes, Chunk, Line, IterSteps, Steps, LoopNumber}
+use Rattle.al_words.specs.declared.option.Knob.TheVariants.{Lanes, Chunk, Threads, Line, IterSteps, Steps, LoopNumber}
 use Rattle.al_words.specs.declared.verb.Verb.{Verb}
 use Rattle.al_words.specs.declared.verb.Verb.TheVariants as verb
 use Rattle.al_words.specs.declared.walk.Waiting.{Waiting}
@@ -47,6 +47,7 @@ abbrev pub knob_of : List ℕ → Option Knob
 knob_of word =
     if bytes_eq word (codes "--lanes") then Some Lanes
     else if bytes_eq word (codes "--chunk") then Some Chunk
+    else if bytes_eq word (codes "--threads") then Some Threads
     else if bytes_eq word (codes "--line") then Some Line
     else if bytes_eq word (codes "--iter-steps") then Some IterSteps
     else if bytes_eq word (codes "--steps") then Some Steps
@@ -57,6 +58,7 @@ knob_of word =
 abbrev pub is_of_run : Knob → Bool
 is_of_run Lanes = true
 is_of_run Chunk = true
+is_of_run Threads = true
 is_of_run Line = true
 is_of_run IterSteps = true
 is_of_run Steps = true
@@ -82,6 +84,7 @@ knob_for v word = had v (knob_of word)
 abbrev pub least : Knob → ℕ
 least Lanes = 1
 least Chunk = 1
+least Threads = 1
 least Line = 1
 least IterSteps = 1
 least Steps = 1
@@ -90,6 +93,7 @@ least LoopNumber = 0
 abbrev pub greatest : Knob → ℕ
 greatest Lanes = MOST_LANES
 greatest Chunk = MOST_CHUNK
+greatest Threads = MOST_THREADS
 greatest Line = 2 ^ 32 - 1
 greatest IterSteps = MOST_STEPS
 greatest Steps = MOST_STEPS
@@ -99,6 +103,7 @@ greatest LoopNumber = 2 ^ 32 - 1
 abbrev pub takes_number : Knob → ℕ → Bool
 takes_number Lanes n = true
 takes_number Chunk n = true
+takes_number Threads n = true
 takes_number Line n = is_line_size n
 takes_number IterSteps n = true
 takes_number Steps n = true
@@ -119,11 +124,20 @@ abbrev pub value_of : Knob → List ℕ → Option ℕ
 value_of knob word = taken knob (number_in (least knob) (greatest knob) word)
 
 abbrev pub nothing : Given
-nothing = record { lanes = None; chunk = None; line = None; iter_steps = None; steps = None; loop_number = None }
+nothing = record {
+  lanes = None;
+  chunk = None;
+  threads = None;
+  line = None;
+  iter_steps = None;
+  steps = None;
+  loop_number = None;
+}
 
 abbrev pub given_to : Given → Knob → Option ℕ
 given_to g Lanes = g.lanes
 given_to g Chunk = g.chunk
+given_to g Threads = g.threads
 given_to g Line = g.line
 given_to g IterSteps = g.iter_steps
 given_to g Steps = g.steps
@@ -132,6 +146,7 @@ given_to g LoopNumber = g.loop_number
 abbrev pub give : Given → Knob → ℕ → Given
 give g Lanes n = record g { lanes = Some n }
 give g Chunk n = record g { chunk = Some n }
+give g Threads n = record g { threads = Some n }
 give g Line n = record g { line = Some n }
 give g IterSteps n = record g { iter_steps = Some n }
 give g Steps n = record g { steps = Some n }
@@ -142,7 +157,7 @@ abbrev pub knobs_of : Given → Knobs
 knobs_of g = record {
   lanes = unwrap_or g.lanes DEFAULT_LANES;
   chunk = unwrap_or g.chunk DEFAULT_CHUNK;
-  threads = DEFAULT_THREADS;
+  threads = unwrap_or g.threads DEFAULT_THREADS;
   line = unwrap_or g.line DEFAULT_LINE;
   iter_steps = unwrap_or g.iter_steps DEFAULT_ITERATION_STEPS;
   serial_steps = unwrap_or g.steps DEFAULT_SERIAL_STEPS;

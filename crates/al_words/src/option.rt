@@ -5,7 +5,7 @@ use crate::range::number_in;
 use al_core::{Knobs, is_line_size};
 use al_source::limits::{
     DEFAULT_CHUNK, DEFAULT_ITERATION_STEPS, DEFAULT_LANES, DEFAULT_LINE, DEFAULT_SERIAL_STEPS,
-    DEFAULT_THREADS, MOST_CHUNK, MOST_LANES, MOST_STEPS,
+    DEFAULT_THREADS, MOST_CHUNK, MOST_LANES, MOST_STEPS, MOST_THREADS,
 };
 
 /// An option: it sets a number of a run, or tells the number of a loop.
@@ -13,6 +13,7 @@ use al_source::limits::{
 pub enum Knob {
     Lanes,
     Chunk,
+    Threads,
     Line,
     IterSteps,
     Steps,
@@ -24,6 +25,7 @@ pub enum Knob {
 pub struct Given {
     pub lanes: Option<u32>,
     pub chunk: Option<u32>,
+    pub threads: Option<u32>,
     pub line: Option<u32>,
     pub iter_steps: Option<u32>,
     pub steps: Option<u32>,
@@ -38,6 +40,7 @@ impl Knob {
         match word {
             "--lanes" => Some(Knob::Lanes),
             "--chunk" => Some(Knob::Chunk),
+            "--threads" => Some(Knob::Threads),
             "--line" => Some(Knob::Line),
             "--iter-steps" => Some(Knob::IterSteps),
             "--steps" => Some(Knob::Steps),
@@ -51,7 +54,12 @@ impl Knob {
         ensures { result ≡ spec.is_of_run self }
     {
         match self {
-            Knob::Lanes | Knob::Chunk | Knob::Line | Knob::IterSteps | Knob::Steps => true,
+            Knob::Lanes
+            | Knob::Chunk
+            | Knob::Threads
+            | Knob::Line
+            | Knob::IterSteps
+            | Knob::Steps => true,
             Knob::LoopNumber => false,
         }
     }
@@ -61,7 +69,12 @@ impl Knob {
         ensures { result ≡ spec.least self }
     {
         match self {
-            Knob::Lanes | Knob::Chunk | Knob::Line | Knob::IterSteps | Knob::Steps => 1,
+            Knob::Lanes
+            | Knob::Chunk
+            | Knob::Threads
+            | Knob::Line
+            | Knob::IterSteps
+            | Knob::Steps => 1,
             Knob::LoopNumber => 0,
         }
     }
@@ -73,6 +86,7 @@ impl Knob {
         match self {
             Knob::Lanes => MOST_LANES,
             Knob::Chunk => MOST_CHUNK,
+            Knob::Threads => MOST_THREADS,
             Knob::Line | Knob::LoopNumber => u32::MAX,
             Knob::IterSteps | Knob::Steps => MOST_STEPS,
         }
@@ -84,7 +98,12 @@ impl Knob {
     {
         match self {
             Knob::Line => is_line_size(n),
-            Knob::Lanes | Knob::Chunk | Knob::IterSteps | Knob::Steps | Knob::LoopNumber => true,
+            Knob::Lanes
+            | Knob::Chunk
+            | Knob::Threads
+            | Knob::IterSteps
+            | Knob::Steps
+            | Knob::LoopNumber => true,
         }
     }
 
@@ -104,6 +123,7 @@ impl Given {
         Given {
             lanes: None,
             chunk: None,
+            threads: None,
             line: None,
             iter_steps: None,
             steps: None,
@@ -118,6 +138,7 @@ impl Given {
         match knob {
             Knob::Lanes => self.lanes,
             Knob::Chunk => self.chunk,
+            Knob::Threads => self.threads,
             Knob::Line => self.line,
             Knob::IterSteps => self.iter_steps,
             Knob::Steps => self.steps,
@@ -131,6 +152,7 @@ impl Given {
         match knob {
             Knob::Lanes => self.lanes = Some(n),
             Knob::Chunk => self.chunk = Some(n),
+            Knob::Threads => self.threads = Some(n),
             Knob::Line => self.line = Some(n),
             Knob::IterSteps => self.iter_steps = Some(n),
             Knob::Steps => self.steps = Some(n),
@@ -152,7 +174,7 @@ impl Given {
         Knobs {
             lanes: self.lanes.unwrap_or(DEFAULT_LANES),
             chunk: self.chunk.unwrap_or(DEFAULT_CHUNK),
-            threads: DEFAULT_THREADS,
+            threads: self.threads.unwrap_or(DEFAULT_THREADS),
             line: self.line.unwrap_or(DEFAULT_LINE),
             iter_steps: u64::from(self.iter_steps.unwrap_or(DEFAULT_ITERATION_STEPS)),
             serial_steps: u64::from(self.steps.unwrap_or(DEFAULT_SERIAL_STEPS)),

@@ -16,7 +16,7 @@ const DEFAULTS: Knobs = Knobs {
 const SET: Knobs = Knobs {
     lanes: 64,
     chunk: 65536,
-    threads: 4,
+    threads: 2,
     line: 16,
     iter_steps: 1,
     serial_steps: 1000000000,
@@ -57,7 +57,7 @@ fn words_are_commands(rt: HostRuntime) -> Result<(), Fail> {
         ("run p1.c", Command::Run(job(1, 0, DEFAULTS))),
         ("plain p9.c n.txt", Command::Plain(job(1, 2, DEFAULTS))),
         (
-            "trace --lanes 64 p.c --chunk 65536 --iter-steps 1 n.txt --steps 1000000000 --line 16",
+            "trace --lanes 64 p.c --chunk 65536 --iter-steps 1 n.txt --steps 1000000000 --line 16 --threads 2",
             Command::Trace(job(3, 8, SET)),
         ),
         ("check p1.c", Command::Check(job(1, 0, DEFAULTS))),
@@ -85,7 +85,7 @@ fn words_are_commands(rt: HostRuntime) -> Result<(), Fail> {
 
 #[test]
 fn words_have_faults(rt: HostRuntime) -> Result<(), Fail> {
-    let rows: [(&str, WordFault); 38] = [
+    let rows: [(&str, WordFault); 40] = [
         ("walk p1.c", WordFault::BadCommand(0)),
         ("infers p1.c n.txt", WordFault::BadCommand(0)),
         ("", WordFault::BadCommand(0)),
@@ -105,7 +105,9 @@ fn words_have_faults(rt: HostRuntime) -> Result<(), Fail> {
         ("run p1.c --lanes", WordFault::NoValue(2)),
         ("run --lanes=2 p1.c", WordFault::Unknown(1)),
         ("run -- p1.c", WordFault::Unknown(1)),
-        ("run p1.c --threads 2", WordFault::Unknown(2)),
+        ("run p1.c --threads 65", WordFault::BadValue(2)),
+        ("run p1.c --threads 0", WordFault::BadValue(2)),
+        ("check p1.c --threads 2", WordFault::Unknown(2)),
         ("check p1.c --lanes 2", WordFault::Unknown(2)),
         ("demo -1 3", WordFault::Unknown(1)),
         ("run", WordFault::Names),

@@ -1,7 +1,7 @@
 //! The program `alter`, run on a source whose run a trap ends.
 #![tactic(auto)]
 
-use al_cli::{program, words};
+use al_cli::{FreeGate, program, words};
 use al_io::{HostErr, HostFiles, HostOut};
 use std::process::ExitCode;
 
@@ -14,5 +14,6 @@ fn main(rt: HostRuntime) -> ExitCode {
         &mut HostFiles::new(&rt),
         &mut out,
         &mut err,
+        &FreeGate,
     ))
 }
