@@ -1,9 +1,9 @@
 -- Where a machine starts.
-use Rattle.std.proofs.Common.{◌≡◌, ℕ, ◌-◌, ◌<◌, ◌≤◌, true, false, List, [], ◌++◌, length, take, reverse, Some, sym, ap, ◌∙◌, subst, arith, append-nil}
+use Rattle.std.proofs.Common.{◌≡◌, ℕ, ◌-◌, ◌<◌, ◌≤◌, true, false, List, [], ◌++◌, length, take, reverse, Some, sym, ap, ◌∙◌, ⊎_elim, subst, arith, append-nil}
 use Rattle.std.specs.Prelude.{slice_get, replicate, ℤ, pos}
 use Rattle.std.proofs.Math.Seq.{take-length}
 use Rattle.std.proofs.lemmas.List.{length-reverse, reverse-reverse}
-use Rattle.std.proofs.lemmas.Option.{slice_get_within}
+use Rattle.std.proofs.lemmas.Option.{slice_get_within, slice_get_cases}
 use Rattle.al_core.specs.declared.choices.LoopInfo.{LoopInfo}
 use Rattle.al_core.specs.declared.values.Val.{Val}
 use Rattle.al_core.specs.declared.values.Val.TheVariants.{Int}
@@ -18,8 +18,8 @@ use Rattle.al_exec.specs.declared.machine.Machine.{Machine}
 use Rattle.al_exec.specs.declared.machine.Start.TheVariants as start
 use Rattle.al_exec.specs.Active.{Active}
 use Rattle.al_exec.specs.Frames.{Laid}
-use Rattle.al_exec.specs.Machines.{Lie, callers_in, spot_in, Stands}
-use Rattle.al_exec.specs.Starts.{IsTall, StartsFunction, StartsIteration}
+use Rattle.al_exec.specs.Machines.{Lie, callers_in, spot_in, Keeps, Stands}
+use Rattle.al_exec.specs.Starts.{IsTall, HasRoom, StartsFunction, StartsIteration}
 
 module _ (code : Code) (m : Machine) (place : ℕ) (at : m.active.place ≡ place) (stack : m.active.stack ≡ []) (height : m.active.height ≡ 0)
     (inner : m.inner.items ≡ []) (callers : m.callers.items ≡ []) (room : m.room ≡ 255) where
@@ -42,6 +42,13 @@ module _ (code : Code) (m : Machine) (place : ℕ) (at : m.active.place ≡ plac
     tall = tall;
     calls = let e = ap length callers in omega (arith, e, room);
   }
+
+-- what is there stays there
+pub room_kept : (code : Code) (info : LoopInfo) (m m' : Machine) → Keeps m m' → HasRoom code info m → HasRoom code info m'
+room_kept code info m m' kept room = record {
+  tall = λ q h g. subst (λ n. h ≤ n) (sym kept.tallest) (room.tall q h g);
+  cells = λ e g. let a = room.cells e g in omega (arith, a, kept.cells, kept.tallest);
+}
 
 pub function_starts : (code : Code) (valid : IsValid code) (f : ℕ) (e : Entry) → slice_get code.funcs f ≡ Some e → (args : List Val) → length args ≡ e.params
     → (s : Active) → s.stack ≡ reverse args ++ [] → (m : Machine) → Laid s e m.tallest m.active
@@ -90,3 +97,11 @@ pub func_number : (code : Code) (valid : IsValid code) (info : LoopInfo) (b : Bo
 func_number code valid info b one has =
     let h = valid.loops info.number info b one has in
     slice_get_within code.funcs info.func h.func h.has_func
+
+pub func_there : (code : Code) (valid : IsValid code) (info : LoopInfo) → slice_get code.loops info.number ≡ Some info → info.func < length code.funcs
+func_there code valid info one =
+    let within = body_number code valid info one in
+    ⊎_elim
+    (λ p. func_number code valid info p.0 one p.2)
+    (λ p. let past = p.0 in absurd (omega (arith, within, past)))
+    (slice_get_cases code.bodies info.number).1

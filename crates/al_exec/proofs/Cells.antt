@@ -70,6 +70,7 @@ module _ (cells : List Val) (place base floor top : ℕ) (own : Private) (budget
         stack = stack j;
         height = high j;
         room = length-set cells top v j - floor;
+        size = length-set cells top v j;
         budget = budget;
       }
 
@@ -144,6 +145,7 @@ module _ (cells : List Val) (place base floor top : ℕ) (own : Private) (budget
         locals = locals j;
         stack = reverse (take (top - floor) (drop-set-lt floor cells (base + k) v (omega arith) j));
         room = length-set cells (base + k) v j - floor;
+        size = length-set cells (base + k) v j;
       }
 
   -- ---- frames
@@ -165,6 +167,7 @@ module _ (cells : List Val) (place base floor top : ℕ) (own : Private) (budget
           stack = reverse (take (none j) (drop top cells));
           height = none j;
           room = (let e : length cells - top ≡ length cells - floor - (top - floor) = omega arith in e j);
+          size = length cells;
           budget = budget;
         };
         place = at;
@@ -203,6 +206,7 @@ module _ (cells : List Val) (place base floor top : ℕ) (own : Private) (budget
               ∙ ap (λ k. reverse (drop left.floor (take k cells))) (let e : left.floor + (base - left.floor) ≡ base = omega arith in e)) j;
           height = sym size j - left.floor;
           room = length cells - left.floor;
+          size = length cells;
           budget = budget;
         };
         room = omega arith;

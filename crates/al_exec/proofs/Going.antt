@@ -84,10 +84,11 @@ pub record InRun (input : List ℤ) (code : Code) (s : Active) (w : Content) (s'
   pub fits : Fits code s'
   pub below : s'.below ≡ s.below
   pub room : s'.room ≡ s.room
+  pub size : s'.size ≡ s.size
   pub weighs : (n : ℕ) → weight code (2 * s'.budget + n) s'.place ≤ weight code (2 * s.budget + n) s.place
 
 pub begun : (input : List ℤ) (code : Code) (s : Active) (w : Content) → Fits code s → InRun input code s w s w
-begun input code s w fits = record { comes = λ a k. (k, refl); fits = fits; below = refl; room = refl; weighs = λ n. omega arith }
+begun input code s w fits = record { comes = λ a k. (k, refl); fits = fits; below = refl; room = refl; size = refl; weighs = λ n. omega arith }
 
 module _ (input : List ℤ) (code : Code) (s : Active) (w : Content) where
   -- one instruction of a run
@@ -112,6 +113,7 @@ module _ (input : List ℤ) (code : Code) (s0 s s' : Active) (w0 w w' : Content)
     fits = fits_next code valid s run.fits x s' at did.1;
     below = did.1.below ∙ run.below;
     room = did.1.room ∙ run.room;
+    size = did.2 ∙ run.size;
     weighs = λ n. let h = falls_next code valid s run.fits x s' at did.1 n in omega (arith, h, run.weighs n);
   }
 

@@ -4,6 +4,7 @@ pub mod Acting
 pub mod Weights
 pub mod Going
 pub mod Calling
+pub mod Filling
 pub mod Called
 pub mod Returned
 pub mod Looping

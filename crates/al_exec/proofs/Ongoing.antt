@@ -1,5 +1,5 @@
 -- From one pause of the machine to the next, and to a stop.
-use Rattle.std.proofs.Common.{◌≡◌, ℕ, suc, ◌<◌, ◌≤◌, List, reverse, Some, Ok, Err, refl, sym, ap, ◌∙◌, subst}
+use Rattle.std.proofs.Common.{◌≡◌, ℕ, suc, ◌<◌, ◌≤◌, List, reverse, Some, Ok, Err, refl, sym, ap, ◌∙◌, subst, arith}
 use Rattle.std.specs.Prelude.{slice_get, ℤ}
 use Rattle.al_core.specs.declared.values.Val.{Val}
 use Rattle.al_core.specs.declared.values.Trap.{Trap}
@@ -15,20 +15,41 @@ use Rattle.al_exec.specs.declared.pause.Pause.{Pause}
 use Rattle.al_exec.specs.Active.{Active, state_of}
 use Rattle.al_exec.specs.Meets.{Around, spot_of}
 use Rattle.al_exec.specs.Running.{Paused}
-use Rattle.al_exec.specs.Machines.{callers_in, Lie, where_of, around_of, spot_in, state_in, Stands, begun_in, total, Moved}
+use Rattle.al_exec.specs.Machines.{callers_in, Lie, where_of, around_of, spot_in, state_in, Stands, Keeps, begun_in, total, Moved}
 use Rattle.al_exec.specs.Going.{run_in, StopsAtLoop}
+
+-- with other locals it stands where it stood
+pub relocated : (code : Code) (m : Machine) (s : Active) → s ≡ record m.active { locals = s.locals } → Stands code m → Stands code (record m { active = s })
+relocated code m s same stands =
+    subst (λ (s : Active). Stands code (record m { active = s })) (sym same)
+    (record {
+      fits = record { height = stands.fits.height; room = stands.fits.room };
+      callers = stands.callers;
+      tall = stands.tall;
+      calls = stands.calls;
+    })
 
 -- how far the machine is from where it began
 pub record InGo (input : List ℤ) (code : Code) (m0 : Machine) (w0 : Content) (m : Machine) (w : Content) : Type 0 where
   pub comes : (k : ℕ) → (j : ℕ) × (run_in input code m0 j (state_in m0 w0) ≡ run_in input code m k (state_in m w))
   pub stands : Stands code m
   pub inside : m.inside ≡ m0.inside
+  pub kept : Keeps m0 m
+
+-- in turn
+pub keeps_on : (m m1 m2 : Machine) → Keeps m m1 → Keeps m1 m2 → Keeps m m2
+keeps_on m m1 m2 a b = record { cells = omega (arith, a.cells, b.cells); tallest = b.tallest ∙ a.tallest }
+
+pub ran_kept : (m0 m m1 : Machine) (s1 : Active) → Keeps m0 m → s1.size ≡ m.active.size → m1 ≡ record m { active = s1; bytes = m1.bytes } → Keeps m0 m1
+ran_kept m0 m m1 s1 kept size new =
+    let same : m1.active.size ≡ s1.size = ap (λ (m : Machine). m.active.size) new in
+    record { cells = omega (arith, kept.cells, size, same); tallest = ap (λ (m : Machine). m.tallest) new ∙ kept.tallest }
 
 pub begun : (input : List ℤ) (code : Code) (m : Machine) (w : Content) → Stands code m → InGo input code m w m w
-begun input code m w stands = record { comes = λ k. (k, refl); stands = stands; inside = refl }
+begun input code m w stands = record { comes = λ k. (k, refl); stands = stands; inside = refl; kept = record { cells = omega arith; tallest = refl } }
 
 module _ (input : List ℤ) (code : Code) (m0 m m1 : Machine) (w0 w w1 : Content) (go : InGo input code m0 w0 m w) (p : Pause) (s1 : Active)
-    (paused : Paused input code m.active w p s1 w1) (new : m1 ≡ record m { active = s1; bytes = m1.bytes }) where
+    (paused : Paused input code m.active w p s1 w1) (size : s1.size ≡ m.active.size) (new : m1 ≡ record m { active = s1; bytes = m1.bytes }) where
   same_callers : callers_in s1.below (reverse m.callers.items) ≡ callers_in m.active.below (reverse m.callers.items)
   same_callers = ap (λ b. callers_in b (reverse m.callers.items)) paused.below
 
@@ -56,7 +77,7 @@ module _ (input : List ℤ) (code : Code) (m0 m m1 : Machine) (w0 w w1 : Content
   pub paused_on : InGo input code m0 w0 m1 w1
   paused_on =
       subst (λ (m : Machine). InGo input code m0 w0 m w1) (sym new)
-      (record { comes = paused_comes; stands = paused_stands; inside = go.inside })
+      (record { comes = paused_comes; stands = paused_stands; inside = go.inside; kept = ran_kept m0 m m2 s1 go.kept size refl })
 
   pub paused_less : total code m1 ≤ total code m
   paused_less =
@@ -80,8 +101,8 @@ module _ (input : List ℤ) (code : Code) (m0 m m' : Machine) (w0 w w' : Content
       (does in_iteration (where_of m.inside) input code o line (spot_in m) (state_in m w)).1 next) at
       ∙ ap (λ (r : Answer Move × State Content). after r.0 r.1 next) did
 
-  pub moved_on : Moved input code x m w onward.Goes m' w' → InGo input code m0 w0 m' w'
-  moved_on moved = record {
+  pub moved_on : Moved input code x m w onward.Goes m' w' → Keeps m m' → InGo input code m0 w0 m' w'
+  moved_on moved kept = record {
     comes = λ k.
         let a = go.comes (suc k) in (
           a.0,
@@ -90,6 +111,7 @@ module _ (input : List ℤ) (code : Code) (m0 m m' : Machine) (w0 w w' : Content
         );
     stands = moved.stays.0;
     inside = moved.inside ∙ go.inside;
+    kept = keeps_on m0 m m' go.kept kept;
   }
 
   pub moved_less : Moved input code x m w onward.Goes m' w' → total code m' < total code m

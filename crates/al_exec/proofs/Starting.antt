@@ -41,17 +41,17 @@ module _ (input : List ℤ) (code : Code) (m m1 : Machine) (w w1 : Content) (beg
 
 -- the machine after a stop, with its steps given back
 pub given_back : (code : Code) (inside : Bool) (run : ℕ → Act Content (Option Stop)) (s : State Content) (stop : Stopped) (m m' : Machine) (w : Content)
-    → m' ≡ record m { start = start.Running; tallest = m'.tallest } → ((q h : ℕ) → slice_get code.heights q ≡ Some h → h ≤ m'.tallest)
+    → m' ≡ record m { start = start.Running }
     → StopsAs code inside run s stop m m.active.budget w → StopsAs code inside run s stop m' m.active.budget w
-given_back code inside run s (stopped.Ended v) m m' w new tall h =
+given_back code inside run s (stopped.Ended v) m m' w new h =
     (h.0, h.1 ∙ (λ j. (Ok (Some (Ended v)), state_with (sym new j) m.active.budget w)))
-given_back code inside run s (stopped.AtLoop k lo hi) m m' w new tall h =
+given_back code inside run s (stopped.AtLoop k lo hi) m m' w new h =
     subst (λ (x : Machine). StopsAtLoop code inside run s k lo hi x m.active.budget w) (sym new)
     (record {
       comes = h.comes;
-      stands = record { fits = h.stands.fits; callers = h.stands.callers; tall = tall; calls = h.stands.calls };
+      stands = record { fits = h.stands.fits; callers = h.stands.callers; tall = h.stands.tall; calls = h.stands.calls };
       here = h.here;
       counter = h.counter;
     })
-given_back code inside run s (stopped.Trapped t line) m m' w new tall h =
+given_back code inside run s (stopped.Trapped t line) m m' w new h =
     (h.0, h.1 ∙ (λ j. (Err (t, line), state_with (sym new j) m.active.budget w)))

@@ -19,8 +19,9 @@ pub record Active : Type 0 where
   -- the top first, and how many values there are
   pub stack : List Val
   pub height : ℕ
-  -- how many values the stack has room for
+  -- how many values the stack has room for, and all values together
   pub room : ℕ
+  pub size : ℕ
   -- the steps that are left
   pub budget : ℕ
 
@@ -34,6 +35,7 @@ active_in cells place base floor top own budget = record {
   stack = reverse (take (top - floor) (drop floor cells));
   height = top - floor;
   room = length cells - floor;
+  size = length cells;
   budget = budget;
 }
 

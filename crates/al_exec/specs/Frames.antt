@@ -20,6 +20,7 @@ pub record Opened (s : Active) (n start : ℕ) (left : Left) (s' : Active) : Typ
         stack = [];
         height = 0;
         room = s.room - s.height;
+        size = s.size;
         budget = s.budget;
       }
   pub place : left.place ≡ s.place + 1
@@ -43,21 +44,28 @@ pub record Resumed (s : Active) (left : Left) (s' : Active) : Type 0 where
         stack = reverse (drop left.floor s.below);
         height = length s.below - left.floor;
         room = s'.room;
+        size = s.size;
         budget = s.budget;
       }
   pub room : s.room ≤ s'.room
 
 -- there is room for so many values more
 pub record Grown (s : Active) (more : ℕ) (s' : Active) : Type 0 where
-  pub same : s' ≡ record s { room = s'.room }
+  pub same : s' ≡ record s { room = s'.room; size = s'.size }
   pub wide : s.height + more ≤ s'.room
   pub wider : s.room ≤ s'.room
+  pub all : more ≤ s'.size
 
 -- there are so many zeros on the stack, and room for so many values more
 pub record Filled (s : Active) (zeros more : ℕ) (s' : Active) : Type 0 where
   pub same :
       s'
-      ≡ record s { stack = replicate zeros (Int (pos 0)) ++ s.stack; height = s.height + zeros; room = s'.room }
+      ≡ record s {
+        stack = replicate zeros (Int (pos 0)) ++ s.stack;
+        height = s.height + zeros;
+        room = s'.room;
+        size = s'.size;
+      }
   pub wide : s'.height + more ≤ s'.room
   pub wider : s.room ≤ s'.room
 

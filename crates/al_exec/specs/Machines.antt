@@ -79,6 +79,11 @@ pub record Stands (code : Code) (m : Machine) : Type 0 where
   pub tall : (q h : ℕ) → slice_get code.heights q ≡ Some h → h ≤ m.tallest
   pub calls : m.room + length m.callers.items ≤ calls_within
 
+-- it has no fewer cells than before, and the same greatest height
+pub record Keeps (m m' : Machine) : Type 0 where
+  pub cells : m.active.size ≤ m'.active.size
+  pub tallest : m'.tallest ≡ m.tallest
+
 -- ---- how much it may still do
 
 -- loops and callers that were begun are ended

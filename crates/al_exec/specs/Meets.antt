@@ -61,7 +61,7 @@ abbrev pub Did : List ℤ → Code → Instr → Active → Content → Result (
 Did input code x s w r s' w' =
     ((a : Around) (line : ℕ)
     → Meets a line (does in_iteration a.here input code (Some x) line (spot_of a s) (state_of s w)) r s' w')
-    × WentOn code x s r s'
+    × WentOn code x s r s' × (s'.size ≡ s.size)
 
 -- an instruction that asks nothing of what the code sees
 abbrev pub DidAlone : Instr → Active → Result (Unit {0}) ViewFault → Active → Type 0

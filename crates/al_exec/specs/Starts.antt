@@ -1,5 +1,5 @@
 -- Where a machine starts.
-use Rattle.std.specs.Prelude.{◌≡◌, ℕ, ◌≤◌, true, false, List, replicate, Some, slice_get, ℤ, pos}
+use Rattle.std.specs.Prelude.{◌≡◌, ℕ, ◌+◌, ◌≤◌, true, false, List, replicate, Some, slice_get, ℤ, pos}
 use Rattle.al_core.specs.declared.choices.LoopInfo.{LoopInfo}
 use Rattle.al_core.specs.declared.values.Val.{Val}
 use Rattle.al_core.specs.declared.values.Val.TheVariants.{Int}
@@ -20,6 +20,11 @@ frame_in m = record { locals = m.active.locals; own = m.active.own }
 -- no stack of the code is higher
 abbrev pub IsTall : Code → ℕ → Type 0
 IsTall code tallest = (q h : ℕ) → slice_get code.heights q ≡ Some h → h ≤ tallest
+
+-- The machine has room for an iteration of a loop, and for all stacks of its body.
+pub record HasRoom (code : Code) (info : LoopInfo) (m : Machine) : Type 0 where
+  pub tall : IsTall code m.tallest
+  pub cells : (e : Entry) → slice_get code.funcs info.func ≡ Some e → e.locals + m.tallest ≤ m.active.size
 
 -- The machine has a function before it, called from nowhere with these arguments.
 pub record StartsFunction (code : Code) (e : Entry) (args : List Val) (m : Machine) : Type 0 where

@@ -10,6 +10,7 @@ use crate::pause::Pause;
 use al_code::{Code, Instr};
 use al_core::{View, ViewFault};
 
+#[inline(always)]
 fn going(r: Result<(), ViewFault>) -> Result<Option<Pause>, ViewFault>
     ensures { result ≡ gone r }
 {
@@ -21,6 +22,7 @@ fn going(r: Result<(), ViewFault>) -> Result<Option<Pause>, ViewFault>
 
 impl Active {
     /// Prints the text of a number.
+    #[inline(always)]
     fn print_text<V: View>(
         &mut self,
         code: &Code,
@@ -41,6 +43,7 @@ impl Active {
     }
 
     /// Does an instruction, or says at which pause it stands.
+    #[inline(always)]
     pub fn act<V: View>(
         &mut self,
         code: &Code,

@@ -56,6 +56,7 @@ impl Active {
           stack = [];
           height = 0;
           room = 0;
+          size = 0;
           budget = 0;
         } }
     {
@@ -79,7 +80,8 @@ impl Active {
           own = action.AllPrivate;
           stack = [];
           height = 0;
-          room = self.new.room;
+          room = self.old.size;
+          size = self.old.size;
           budget = self.old.budget;
         } }
     {
@@ -103,12 +105,14 @@ impl Active {
         &self.cells[self.base..self.floor]
     }
 
+    #[inline(always)]
     pub fn place(&self) -> usize
         ensures { result ≡ self.now.place }
     {
         self.place
     }
 
+    #[inline(always)]
     pub fn goto(&mut self, place: usize)
         ensures { self.new ≡ record self.old { place = place } }
     {
@@ -116,6 +120,7 @@ impl Active {
     }
 
     /// Goes to the next instruction.
+    #[inline(always)]
     pub fn advance(&mut self)
         requires { self.old.place + 1 < 2 ^ 64 }
         ensures { self.new ≡ record self.old { place = self.old.place + 1 } }
@@ -123,6 +128,7 @@ impl Active {
         self.place += 1;
     }
 
+    #[inline(always)]
     pub fn push(&mut self, v: PackedValue)
         requires { self.old.height < self.old.room }
         ensures { self.new ≡ record self.old { stack = v ∷ self.old.stack; height = self.old.height + 1 } }
@@ -131,6 +137,7 @@ impl Active {
         self.top += 1;
     }
 
+    #[inline(always)]
     pub fn pop(&mut self) -> PackedValue
         requires { 1 ≤ self.old.height }
         ensures value { result ≡ code.top self.old.stack }
@@ -141,6 +148,7 @@ impl Active {
     }
 
     /// The value at the top.
+    #[inline(always)]
     pub fn peek(&self) -> PackedValue
         requires { 1 ≤ self.now.height }
         ensures { result ≡ code.top self.now.stack }
@@ -149,6 +157,7 @@ impl Active {
     }
 
     /// So many values from the top, the deepest first.
+    #[inline(always)]
     pub fn top_values(&self, count: usize) -> &[PackedValue]
         requires { count ≤ self.now.height }
         ensures { result.now ≡ reverse (take count self.now.stack) }
@@ -156,6 +165,7 @@ impl Active {
         &self.cells[self.top - count..self.top]
     }
 
+    #[inline(always)]
     pub fn drop_values(&mut self, count: usize)
         requires { count ≤ self.old.height }
         ensures { self.new ≡ record self.old { stack = drop count self.old.stack; height = self.old.height - count } }
@@ -163,12 +173,14 @@ impl Active {
         self.top -= count;
     }
 
+    #[inline(always)]
     pub fn is_private(&self, k: u32) -> bool
         ensures { result ≡ action.is_private self.now.own k }
     {
         self.own.has(k)
     }
 
+    #[inline(always)]
     pub fn local(&self, k: u32) -> PackedValue
         ensures { result ≡ action.or_zero (slice_get self.now.locals k) }
     {
@@ -179,6 +191,7 @@ impl Active {
         }
     }
 
+    #[inline(always)]
     pub fn set_local(&mut self, k: u32, v: PackedValue)
         ensures { self.new ≡ record self.old { locals = slice_set self.old.locals k v } }
     {
@@ -186,6 +199,7 @@ impl Active {
     }
 
     /// Sets a local, where there is one of that number.
+    #[inline(always)]
     pub fn write_local(&mut self, k: usize, v: PackedValue)
         ensures { self.new ≡ record self.old { locals = slice_set self.old.locals k v } }
     {
@@ -195,6 +209,7 @@ impl Active {
     }
 
     /// The steps that are left.
+    #[inline(always)]
     pub fn budget(&self) -> u64
         ensures { result ≡ self.now.budget }
     {
@@ -208,6 +223,7 @@ impl Active {
     }
 
     /// Takes a step, if one is left.
+    #[inline(always)]
     pub fn spend(&mut self) -> bool
         ensures paid { IsTrue result
             → (self.old.budget ≡ suc self.new.budget) × (self.new ≡ record self.old { budget = self.new.budget }) }
@@ -222,7 +238,8 @@ impl Active {
 
     /// Makes room for so many values more.
     pub fn grow(&mut self, more: usize) -> Result<(), AllocError>
-        ensures { OnOk result (Grown self.old more self.new) }
+        ensures ok { OnOk result (Grown self.old more self.new) }
+        ensures size { self.old.size ≤ self.new.size }
     {
         let Some(size) = self.top.checked_add(more) else {
             return Err(AllocError);

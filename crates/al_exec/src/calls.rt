@@ -2,7 +2,7 @@ ghost use Rattle.std.specs.Prelude.{◌≡◌, ◌<◌, List, ℤ, Ok, OnOk, Som
 ghost use Rattle.al_core.specs.Access.{Content};
 ghost use Rattle.al_code.specs.declared.instructions.Instr.TheVariants as i;
 ghost use Rattle.al_code.specs.Valid.{IsValid};
-ghost use Rattle.al_exec.specs.Machines.{Stands, Moves, Waits};
+ghost use Rattle.al_exec.specs.Machines.{Stands, Keeps, Moves, Waits};
 
 use crate::machine::{Machine, Onward, Waiting};
 use al_code::{Code, Entry};
@@ -11,11 +11,12 @@ use std::alloc::AllocError;
 
 impl Machine {
     /// Calls a function.
-    pub fn enter_function(&mut self, code: &Code, f: u32) -> Result<Onward, ViewFault>
+    pub(crate) fn enter_function(&mut self, code: &Code, f: u32) -> Result<Onward, ViewFault>
         requires valid { IsValid code.now }
         requires stands { Stands code.now self.old }
         requires at { slice_get code.now.instrs self.old.active.place ≡ Some (i.Call f) }
-        ensures { (input : List ℤ) (w : Content) → Moves input code.now (i.Call f) self.old w result self.new w }
+        ensures moves { (input : List ℤ) (w : Content) → Moves input code.now (i.Call f) self.old w result self.new w }
+        ensures kept { Keeps self.old self.new }
     {
         let _size = code.instrs.len();
         let entry = entry_at(code, f);
@@ -36,18 +37,20 @@ impl Machine {
     }
 
     fn wait(&mut self, w: Waiting) -> Result<(), AllocError>
-        ensures { OnOk result (Waits self.old w self.new) }
+        ensures ok { OnOk result (Waits self.old w self.new) }
+        ensures kept { self.new ≡ record self.old { callers = self.new.callers } }
     {
         self.callers.push(w)?;
         Ok(())
     }
 
     /// Gives a value to the caller, if there is one.
-    pub fn leave(&mut self, code: &Code) -> Onward
+    pub(crate) fn leave(&mut self, code: &Code) -> Onward
         requires valid { IsValid code.now }
         requires stands { Stands code.now self.old }
         requires at { slice_get code.now.instrs self.old.active.place ≡ Some i.Return }
-        ensures { (input : List ℤ) (w : Content) → Moves input code.now i.Return self.old w (Ok result) self.new w }
+        ensures moves { (input : List ℤ) (w : Content) → Moves input code.now i.Return self.old w (Ok result) self.new w }
+        ensures kept { Keeps self.old self.new }
     {
         let _code = code;
         let v = self.active.peek();

@@ -12,6 +12,7 @@ use al_values::PackedValue;
 /// Steps, jumps, and the input.
 #[tactic(auto, unfolding(al_core::specs::Action::bind, al_core::specs::Action::pure, al_core::specs::Action::lift, al_core::specs::Action::spend))]
 impl Active {
+    #[inline(always)]
     pub fn step(&mut self) -> Result<(), ViewFault>
         requires place { self.old.place + 1 < 2 ^ 64 }
         ensures { DidAlone i.Step self.old result self.new }
@@ -24,6 +25,7 @@ impl Active {
         }
     }
 
+    #[inline(always)]
     pub fn jump(&mut self, to: u32) -> Result<(), ViewFault>
         ensures { DidAlone (i.Jump to) self.old result self.new }
     {
@@ -31,6 +33,7 @@ impl Active {
         Ok(())
     }
 
+    #[inline(always)]
     pub fn jump_if(&mut self, holds: bool, to: u32) -> Result<(), ViewFault>
         requires place { self.old.place + 1 < 2 ^ 64 }
         requires operands { 1 ≤ self.old.height }
@@ -44,6 +47,7 @@ impl Active {
         Ok(())
     }
 
+    #[inline(always)]
     pub fn input(&mut self, input: &[i64]) -> Result<(), ViewFault>
         requires place { self.old.place + 1 < 2 ^ 64 }
         requires operands { 1 ≤ self.old.height }
@@ -60,6 +64,7 @@ impl Active {
         }
     }
 
+    #[inline(always)]
     pub fn inputs(&mut self, input: &[i64]) -> Result<(), ViewFault>
         requires place { self.old.place + 1 < 2 ^ 64 }
         requires room { self.old.height < self.old.room }

@@ -1,8 +1,10 @@
 ghost use Rattle.std.specs.Prelude.{◌≡◌, List, ℤ, Some, IfOk, OnOk, slice_get};
 ghost use Rattle.al_code.specs.Valid.{IsValid};
 ghost use Rattle.al_exec.specs.Going.{Begins, StopsAs, run_in, run_of, state_with};
-ghost use Rattle.al_exec.specs.Machines.{Moves, Stands, state_in};
+ghost use Rattle.al_exec.specs.Machines.{Keeps, Moves, Stands, state_in};
 ghost use Rattle.al_exec.specs.Pauses.{instr_of};
+ghost use Rattle.al_exec.specs.Starts.{HasRoom};
+ghost use Rattle.al_core.specs.declared.choices.LoopInfo.{LoopInfo};
 ghost use Rattle.al_exec.specs.declared.machine.Start.TheVariants as start;
 
 use crate::fault::Fault;
@@ -26,8 +28,9 @@ impl Machine {
         requires valid { IsValid code.now }
         requires stands { Stands code.now self.old }
         requires at { slice_get code.now.instrs self.old.active.place ≡ Some (instr_of pause) }
-        ensures { (input : List ℤ)
+        ensures moves { (input : List ℤ)
             → Moves input code.now (instr_of pause) self.old (V.content view.old) result self.new (V.content view.new) }
+        ensures kept { Keeps self.old self.new }
     {
         match pause {
             Pause::Call(f) => self.enter_function(code, f),
@@ -39,7 +42,8 @@ impl Machine {
 
     /// Does what comes before the first instruction.
     fn begin_run<V: View>(&mut self, view: &mut V) -> Result<(), Fault>
-        ensures { Begins self.old (V.content view.old) result self.new (V.content view.new) }
+        ensures begins { Begins self.old (V.content view.old) result self.new (V.content view.new) }
+        ensures kept { Keeps self.old self.new }
     {
         match self.start {
             Start::Running => Ok(()),
@@ -78,12 +82,16 @@ impl Machine {
     ) -> Result<Stop, AllocError>
         requires valid { IsValid code.now }
         requires stands { Stands code.now self.old }
-        ensures { IfOk result (λ stop.
+        ensures stops { IfOk result (λ stop.
             StopsAs code.now self.old.inside (run_in input.now code.now self.old)
             (state_in self.old (V.content view.old)) stop self.new self.new.active.budget (V.content view.new)) }
+        ensures kept { OnOk result (Keeps self.old self.new) }
     {
         'go: loop {
-            match self.active.run(code, input, &mut self.bytes, view) {
+            match self
+                .active
+                .run(self.alloc, code, input, &mut self.bytes, view)
+            {
                 Ok(pause) => {
                     let place = self.active.place();
                     match self.pass(code, pause, view) {
@@ -113,9 +121,10 @@ impl Machine {
     ) -> Result<Stop, AllocError>
         requires valid { IsValid code.now }
         requires stands { Stands code.now self.old }
-        ensures { IfOk result (λ stop.
+        ensures stops { IfOk result (λ stop.
             StopsAs code.now self.old.inside (run_of input.now code.now self.old)
             (state_in self.old (V.content view.old)) stop self.new self.new.active.budget (V.content view.new)) }
+        ensures kept { OnOk result (Keeps self.old self.new) }
     {
         match self.begin_run(view) {
             Ok(()) => {
@@ -142,14 +151,13 @@ impl Machine {
             StopsAs code.now self.old.inside (run_of input.now code.now self.old)
             (state_with self.old budget.old (V.content view.old)) stop self.new budget.new (V.content view.new)) }
         ensures running { OnOk result (self.new.start ≡ start.Running) }
-        ensures tallest { OnOk result (self.new.tallest ≡ self.old.tallest) }
+        ensures room { OnOk result
+            ((info : LoopInfo) → HasRoom code.now info self.old → HasRoom code.now info self.new) }
     {
-        let tallest = self.tallest;
         self.active.set_budget(budget.left());
         let stop = self.run_from_start(code, input, view)?;
         *budget = Budget::new(self.active.budget());
         self.start = Start::Running;
-        self.tallest = tallest;
         Ok(stop)
     }
 }

@@ -1,4 +1,5 @@
-ghost use Rattle.std.specs.Prelude.{◌≡◌, ◌≤◌, OnOk};
+ghost use Rattle.std.specs.Prelude.{◌≡◌, ◌≤◌, ◌+◌, ◌++◌, OnOk, replicate, pos};
+ghost use Rattle.al_core.specs.declared.values.Val.TheVariants as value;
 ghost use Rattle.al_core.specs.Access.{in_iteration};
 ghost use Rattle.al_core.specs.Action as action;
 ghost use Rattle.al_core.specs.Meaning as meaning;
@@ -49,7 +50,8 @@ impl Active {
     /// Takes the start of an annotated loop, and reads its bound.
     pub fn range<V: View>(&mut self, bound: Bound, view: &mut V) -> Result<Range, ViewFault>
         requires { 1 ≤ self.old.height }
-        ensures { ReadsRange bound self.old (V.content view.old) result self.new (V.content view.new) }
+        ensures read { ReadsRange bound self.old (V.content view.old) result self.new (V.content view.new) }
+        ensures size { self.new.size ≡ self.old.size }
     {
         match number(self.pop().unpack()) {
             Ok(lo) => match self.bound(bound, view) {
@@ -82,12 +84,24 @@ impl Active {
 impl Active {
     /// Puts so many zeros on the stack, and makes room for so many values more.
     pub fn fill(&mut self, zeros: u32, more: u32) -> Result<(), AllocError>
-        ensures { OnOk result (Filled self.old zeros more self.new) }
+        ensures ok { OnOk result (Filled self.old zeros more self.new) }
+        ensures size { self.old.size ≤ self.new.size }
     {
         self.grow(zeros as usize + more as usize)?;
+        self.push_zeros(zeros);
+        Ok(())
+    }
+
+    /// Puts so many zeros on the stack.
+    pub fn push_zeros(&mut self, zeros: u32)
+        requires { self.old.height + zeros ≤ self.old.room }
+        ensures { self.new ≡ record self.old {
+          stack = replicate zeros (value.Int (pos 0)) ++ self.old.stack;
+          height = self.old.height + zeros;
+        } }
+    {
         for _i in 0..zeros {
             self.push(PackedValue::zero());
         }
-        Ok(())
     }
 }

@@ -1,7 +1,7 @@
 ghost use Rattle.std.specs.Prelude.{◌≡◌, ◌<◌, List, ℤ, Ok, OnOk, Some, length, slice_get};
 ghost use Rattle.al_code.specs.declared.instructions.Instr.TheVariants as i;
 ghost use Rattle.al_code.specs.Valid.{IsValid};
-ghost use Rattle.al_exec.specs.Machines.{Stands, Moves};
+ghost use Rattle.al_exec.specs.Machines.{Stands, Keeps, Moves};
 ghost use Rattle.al_exec.specs.Tripping.{Begins, BeginsLoop, Counted, Trips};
 
 use crate::inner::InnerLoop;
@@ -13,7 +13,8 @@ use std::alloc::AllocError;
 
 impl Machine {
     fn begin(&mut self, x: InnerLoop) -> Result<(), AllocError>
-        ensures { OnOk result (Begins self.old x self.new) }
+        ensures ok { OnOk result (Begins self.old x self.new) }
+        ensures kept { self.new ≡ record self.old { inner = self.new.inner } }
     {
         self.inner.push(x)?;
         Ok(())
@@ -27,7 +28,8 @@ impl Machine {
         x: InnerLoop,
         view: &mut V,
     ) -> Result<(), ViewFault>
-        ensures { Trips counter body x self.old (V.content view.old) result self.new (V.content view.new) }
+        ensures trips { Trips counter body x self.old (V.content view.old) result self.new (V.content view.new) }
+        ensures kept { Keeps self.old self.new }
     {
         if x.left() == 0 {
             if let Err(e) = self.active.set_counter(counter, x.end(), view) {
@@ -56,8 +58,9 @@ impl Machine {
         range: Range,
         view: &mut V,
     ) -> Result<(), ViewFault>
-        ensures { BeginsLoop counter body k range.lo range.hi self.old (V.content view.old)
+        ensures begins { BeginsLoop counter body k range.lo range.hi self.old (V.content view.old)
             result self.new (V.content view.new) }
+        ensures kept { Keeps self.old self.new }
     {
         match range.counted(k) {
             Ok(x) => self.trip(counter, body, x, view),
@@ -66,7 +69,7 @@ impl Machine {
     }
 
     /// Stops at an annotated loop, or begins it.
-    pub fn enter_loop<V: View>(
+    pub(crate) fn enter_loop<V: View>(
         &mut self,
         code: &Code,
         k: u32,
@@ -75,8 +78,9 @@ impl Machine {
         requires valid { IsValid code.now }
         requires stands { Stands code.now self.old }
         requires at { slice_get code.now.instrs self.old.active.place ≡ Some (i.Loop k) }
-        ensures { (input : List ℤ)
+        ensures moves { (input : List ℤ)
             → Moves input code.now (i.Loop k) self.old (V.content view.old) result self.new (V.content view.new) }
+        ensures kept { Keeps self.old self.new }
     {
         let info = info_at(code, k);
         let body = body_at(code, k);
@@ -96,12 +100,17 @@ impl Machine {
     }
 
     /// Ends an iteration: the next trip of the innermost loop, or the end of the iteration that was started.
-    pub fn end_iteration<V: View>(&mut self, code: &Code, view: &mut V) -> Result<Onward, ViewFault>
+    pub(crate) fn end_iteration<V: View>(
+        &mut self,
+        code: &Code,
+        view: &mut V,
+    ) -> Result<Onward, ViewFault>
         requires valid { IsValid code.now }
         requires stands { Stands code.now self.old }
         requires at { slice_get code.now.instrs self.old.active.place ≡ Some i.EndIteration }
-        ensures { (input : List ℤ)
+        ensures moves { (input : List ℤ)
             → Moves input code.now i.EndIteration self.old (V.content view.old) result self.new (V.content view.new) }
+        ensures kept { Keeps self.old self.new }
     {
         let Some(x) = self.inner.pop() else {
             return Ok(Onward::Ends(Val::Int(0)));

@@ -33,19 +33,19 @@ pub enum Start {
 /// The machine of lowered code.
 #[derive(Drop)]
 pub struct Machine {
-    pub alloc: Global,
-    pub active: Active,
-    pub inner: Vec<InnerLoop>,
-    pub callers: Vec<Waiting>,
+    pub(crate) alloc: Global,
+    pub(crate) active: Active,
+    pub(crate) inner: Vec<InnerLoop>,
+    pub(crate) callers: Vec<Waiting>,
     /// How many more calls may be active.
-    pub room: u32,
+    pub(crate) room: u32,
     /// Whether it runs an iteration of an annotated loop.
-    pub inside: bool,
+    pub(crate) inside: bool,
     /// The greatest height of a stack.
-    pub tallest: u32,
+    pub(crate) tallest: u32,
     /// The counter of the loop at which it stands.
-    pub counter: u32,
-    pub start: Start,
+    pub(crate) counter: u32,
+    pub(crate) start: Start,
     /// Where a text is written before it is printed.
-    pub bytes: Vec<u8>,
+    pub(crate) bytes: Vec<u8>,
 }

@@ -11,6 +11,7 @@ use al_values::PackedValue;
 /// Instructions that go through what the code sees.
 #[tactic(auto, unfolding(al_core::specs::Action::bind, al_core::specs::Action::pure, al_core::specs::Action::lift, al_core::specs::Action::asks, al_core::specs::Action::get_frame, al_core::specs::Action::set_frame))]
 impl Active {
+    #[inline(always)]
     pub fn get_local<V: View>(&mut self, k: u32, view: &mut V) -> Result<(), ViewFault>
         requires place { self.old.place + 1 < 2 ^ 64 }
         requires room { self.old.height < self.old.room }
@@ -27,6 +28,7 @@ impl Active {
         Ok(())
     }
 
+    #[inline(always)]
     pub fn put_local<V: View>(&mut self, k: u32, view: &mut V) -> Result<(), ViewFault>
         requires place { self.old.place + 1 < 2 ^ 64 }
         requires operands { 1 ≤ self.old.height }
@@ -43,6 +45,7 @@ impl Active {
         Ok(())
     }
 
+    #[inline(always)]
     pub fn load<V: View>(&mut self, want: Kind, view: &mut V) -> Result<(), ViewFault>
         requires place { self.old.place + 1 < 2 ^ 64 }
         requires operands { 1 ≤ self.old.height }
@@ -57,6 +60,7 @@ impl Active {
         Ok(())
     }
 
+    #[inline(always)]
     pub fn store<V: View>(&mut self, view: &mut V) -> Result<(), ViewFault>
         requires place { self.old.place + 1 < 2 ^ 64 }
         requires operands { 2 ≤ self.old.height }
@@ -70,6 +74,7 @@ impl Active {
         Ok(())
     }
 
+    #[inline(always)]
     pub fn calloc<V: View>(&mut self, size: u32, view: &mut V) -> Result<(), ViewFault>
         requires place { self.old.place + 1 < 2 ^ 64 }
         requires operands { 1 ≤ self.old.height }
@@ -88,6 +93,7 @@ impl Active {
         }
     }
 
+    #[inline(always)]
     pub fn free<V: View>(&mut self, view: &mut V) -> Result<(), ViewFault>
         requires place { self.old.place + 1 < 2 ^ 64 }
         requires operands { 1 ≤ self.old.height }

@@ -81,6 +81,7 @@ fn write_text(bytes: &mut Vec<u8>, format: &[Piece], vs: &[PackedValue]) -> Resu
 impl Active {
     /// Prints a text. The bytes are a place to write it first.
     #[tactic(auto, unfolding(al_core::specs::Action::bind, al_core::specs::Action::pure, al_core::specs::Action::lift, al_core::specs::Action::asks))]
+    #[inline(always)]
     pub fn print<V: View>(
         &mut self,
         k: u32,

@@ -11,6 +11,7 @@ pub enum Own {
 }
 
 impl Own {
+    #[inline(always)]
     pub fn has(self, k: u32) -> bool
         ensures { result ≡ is_private (private_of self) k }
     {

@@ -8,6 +8,8 @@ use crate::fault::Fault;
 use crate::pause::Pause;
 use al_code::{Code, Instr};
 use al_core::{View, ViewFault};
+use std::alloc::Global;
+use std::mem;
 
 /// The line of the instruction at a place.
 pub fn line_at(code: &Code, place: usize) -> u32
@@ -21,6 +23,7 @@ pub fn line_at(code: &Code, place: usize) -> u32
 
 impl Active {
     /// The next instruction.
+    #[inline(always)]
     fn instr(&self, code: &Code) -> Instr
         requires { self.now.place < length code.now.instrs }
         ensures at { slice_get code.now.instrs self.now.place ≡ Some result }
@@ -33,6 +36,7 @@ impl Active {
     /// Runs to the next call, return, loop or end of an iteration.
     pub fn run<V: View>(
         &mut self,
+        alloc: Global,
         code: &Code,
         input: &[i64],
         bytes: &mut Vec<u8>,
@@ -40,7 +44,28 @@ impl Active {
     ) -> Result<Pause, Fault>
         requires valid { IsValid code.now }
         requires fits { Fits code.now self.old }
-        ensures { Ran input.now code.now self.old (V.content view.old) result self.new (V.content view.new) }
+        ensures ran { Ran input.now code.now self.old (V.content view.old) result self.new (V.content view.new) }
+        ensures size { self.new.size ≡ self.old.size }
+    {
+        // A copy of its own, which nothing else points to, can stay in registers.
+        let mut active = mem::replace(self, Active::empty(alloc));
+        let ran = active.run_here(code, input, bytes, view);
+        *self = active;
+        ran
+    }
+
+    #[inline(always)]
+    fn run_here<V: View>(
+        &mut self,
+        code: &Code,
+        input: &[i64],
+        bytes: &mut Vec<u8>,
+        view: &mut V,
+    ) -> Result<Pause, Fault>
+        requires valid { IsValid code.now }
+        requires fits { Fits code.now self.old }
+        ensures ran { Ran input.now code.now self.old (V.content view.old) result self.new (V.content view.new) }
+        ensures size { self.new.size ≡ self.old.size }
     {
         'run: loop {
             let place = self.place();

@@ -1,11 +1,12 @@
-ghost use Rattle.std.specs.Prelude.{◌≡◌, ◌+◌, ◌<◌, ◌≤◌, ◌^◌, Some, OnOk, IfOk, length, slice_get, slice_set};
+ghost use Rattle.std.specs.Prelude.{◌≡◌, ℕ, ◌+◌, ◌-◌, ◌<◌, ◌≤◌, ◌^◌, Some, OnOk, IfOk, length, slice_get, slice_set};
 ghost use Rattle.al_core.specs.declared.values.Val.TheVariants as value;
 ghost use Rattle.al_code.specs.Valid.{IsValid, params_of};
 ghost use Rattle.al_code.specs.declared.lowered.Entry.{Entry};
 ghost use Rattle.al_code.specs.declared.lowered.Body.{Body};
+ghost use Rattle.al_code.specs.declared.lowered.Code.{Code};
 ghost use Rattle.al_exec.specs.Frames.{Given, Laid};
 ghost use Rattle.al_exec.specs.Machines.{Stands};
-ghost use Rattle.al_exec.specs.Starts.{StartsFunction, StartsIteration, IsTall};
+ghost use Rattle.al_exec.specs.Starts.{HasRoom, StartsFunction, StartsIteration, IsTall};
 
 use crate::active::Active;
 use crate::calls::entry_at;
@@ -27,9 +28,23 @@ impl Active {
         requires args { entry.params ≤ self.old.height }
         ensures { OnOk result (Laid self.old entry more self.new) }
     {
-        self.fill(entry.locals - entry.params, more)?;
-        self.open(entry.locals as usize, entry.start as usize);
+        self.grow((entry.locals - entry.params) as usize + more as usize)?;
+        self.lay_here(entry);
         Ok(())
+    }
+
+    /// Begins a function whose arguments are at the top of the stack, in the room that is there.
+    fn lay_here(&mut self, entry: Entry)
+        requires place { self.old.place + 1 < 2 ^ 64 }
+        requires params { entry.params ≤ entry.locals }
+        requires args { entry.params ≤ self.old.height }
+        requires room { self.old.height + (entry.locals - entry.params) ≤ self.old.room }
+        ensures laid { (more : ℕ) → self.old.height + (entry.locals - entry.params) + more ≤ self.old.room
+            → Laid self.old entry more self.new }
+        ensures size { self.new.size ≡ self.old.size }
+    {
+        self.push_zeros(entry.locals - entry.params);
+        self.open(entry.locals as usize, entry.start as usize);
     }
 
     /// Sets all locals.
@@ -74,8 +89,9 @@ impl Machine {
         requires valid { IsValid code.now }
         requires has { func < length code.now.funcs }
         requires args { length args.now ≡ params_of (slice_get code.now.funcs func) }
-        ensures { IfOk result (λ m.
+        ensures starts { IfOk result (λ m.
             (e : Entry) → slice_get code.now.funcs func ≡ Some e → StartsFunction code.now e args.now m) }
+        ensures stands { IfOk result (Stands code.now) }
     {
         let entry = entry_at(code, func);
         let line = line_at(code, (entry.end as usize).saturating_sub(1));
@@ -106,33 +122,40 @@ impl Machine {
     ) -> Result<Machine, AllocError>
         requires valid { IsValid code.now }
         requires one { slice_get code.now.loops info.now.number ≡ Some info.now }
-        ensures { IfOk result (λ m. (e : Entry) (b : Body) → slice_get code.now.funcs info.now.func ≡ Some e
+        ensures starts { IfOk result (λ m. (e : Entry) (b : Body) → slice_get code.now.funcs info.now.func ≡ Some e
             → slice_get code.now.bodies info.now.number ≡ Some b → StartsIteration code.now info.now e b counter m) }
+        ensures stands { IfOk result (Stands code.now) }
+        ensures room { IfOk result (HasRoom code.now info.now) }
     {
+        let tallest = tallest(code);
+        let mut active = Active::empty(alloc);
+        active.grow(entry_at(code, info.func).locals as usize + tallest as usize)?;
         let mut m = Machine {
             alloc,
-            active: Active::empty(alloc),
+            active,
             inner: Vec::new(alloc),
             callers: Vec::new(alloc),
             room: ACTIVE_CALLS - 1,
             inside: true,
-            tallest: tallest(code),
+            tallest,
             counter: 0,
             start: Start::Running,
             bytes: Vec::new(alloc),
         };
-        m.again(code, info, counter)?;
+        m.again(code, info, counter);
         Ok(m)
     }
 
-    /// What `iterate` gives, in the room that this machine has. It takes memory only where that does not suffice.
-    pub fn again(&mut self, code: &Code, info: &LoopInfo, counter: i64) -> Result<(), AllocError>
+    /// What `iterate` gives, without memory, in a machine that `iterate` made for this loop, whatever it ran since.
+    pub fn again(&mut self, code: &Code, info: &LoopInfo, counter: i64)
         requires valid { IsValid code.now }
         requires one { slice_get code.now.loops info.now.number ≡ Some info.now }
-        requires tall { IsTall code.now self.old.tallest }
-        ensures { OnOk result ((e : Entry) (b : Body) → slice_get code.now.funcs info.now.func ≡ Some e
+        requires room { HasRoom code.now info.now self.old }
+        ensures starts { (e : Entry) (b : Body) → slice_get code.now.funcs info.now.func ≡ Some e
             → slice_get code.now.bodies info.now.number ≡ Some b
-            → StartsIteration code.now info.now e b counter self.new) }
+            → StartsIteration code.now info.now e b counter self.new }
+        ensures stands { Stands code.now self.new }
+        ensures room { HasRoom code.now info.now self.new }
     {
         let body = body_at(code, info.number);
         let locals = entry_at(code, info.func).locals;
@@ -143,7 +166,7 @@ impl Machine {
             locals,
         };
         self.active.reset();
-        self.active.lay(entry, self.tallest)?;
+        self.active.lay_here(entry);
         self.active.set_own(Own::Loop {
             counter: info.counter,
             first: info.first,
@@ -154,7 +177,6 @@ impl Machine {
         self.room = ACTIVE_CALLS - 1;
         self.inside = true;
         self.start = Start::Iteration(info.line, info.counter, counter);
-        Ok(())
     }
 
     /// The locals of the function that stands at a loop.
@@ -167,11 +189,12 @@ impl Machine {
     /// Sets the locals after a loop, and the loop's counter.
     pub fn after_loop(&mut self, locals: &[PackedValue], counter: i64)
         requires { length locals.now ≡ length self.old.active.locals }
-        ensures { self.new ≡ record self.old {
+        ensures set { self.new ≡ record self.old {
           active = record self.old.active {
             locals = slice_set locals.now self.old.counter (value.Int counter);
           };
         } }
+        ensures stands { (code : Code) → Stands code self.old → Stands code self.new }
     {
         self.active.set_locals(locals);
         self.active

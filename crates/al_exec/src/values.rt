@@ -14,6 +14,7 @@ use al_core::{
 use al_values::PackedValue;
 
 /// A value packed. There is no room for a name that no run makes.
+#[inline(always)]
 pub fn packed(v: Val) -> Result<PackedValue, ViewFault>
     ensures { MatchResult result (λ c. c ≡ v) (λ e. e ≡ fault.Memory) }
 {
@@ -24,6 +25,7 @@ pub fn packed(v: Val) -> Result<PackedValue, ViewFault>
 }
 
 /// Where a pointer leads.
+#[inline(always)]
 pub fn pointer(v: PackedValue) -> (Obj, u32)
     ensures { result ≡ pointer_in v }
 {
@@ -33,6 +35,7 @@ pub fn pointer(v: PackedValue) -> (Obj, u32)
     }
 }
 
+#[inline(always)]
 pub fn input_value(input: &[i64], index: Val) -> Result<Val, Trap>
     ensures { result ≡ and_then (spec.number index) (spec.input_at input.now) }
 {
@@ -48,6 +51,7 @@ pub fn object_words(count: Val, size: u32) -> Result<u32, Trap>
 /// Instructions that work on the stack alone.
 #[tactic(auto, unfolding(al_core::specs::Action::bind, al_core::specs::Action::pure, al_core::specs::Action::lift))]
 impl Active {
+    #[inline(always)]
     pub fn push_number(&mut self, n: i64) -> Result<(), ViewFault>
         requires place { self.old.place + 1 < 2 ^ 64 }
         requires room { self.old.height < self.old.room }
@@ -58,6 +62,7 @@ impl Active {
         Ok(())
     }
 
+    #[inline(always)]
     pub fn push_global(&mut self, k: u32) -> Result<(), ViewFault>
         requires place { self.old.place + 1 < 2 ^ 64 }
         requires room { self.old.height < self.old.room }
@@ -68,6 +73,7 @@ impl Active {
         Ok(())
     }
 
+    #[inline(always)]
     pub fn not_null(&mut self) -> Result<(), ViewFault>
         requires place { self.old.place + 1 < 2 ^ 64 }
         requires operands { 1 ≤ self.old.height }
@@ -84,6 +90,7 @@ impl Active {
         }
     }
 
+    #[inline(always)]
     pub fn plus(&mut self, words: u32) -> Result<(), ViewFault>
         requires place { self.old.place + 1 < 2 ^ 64 }
         requires operands { 1 ≤ self.old.height }
@@ -100,6 +107,7 @@ impl Active {
         }
     }
 
+    #[inline(always)]
     pub fn elem(&mut self, size: u32) -> Result<(), ViewFault>
         requires place { self.old.place + 1 < 2 ^ 64 }
         requires operands { 2 ≤ self.old.height }
@@ -117,6 +125,7 @@ impl Active {
         }
     }
 
+    #[inline(always)]
     pub fn dup(&mut self) -> Result<(), ViewFault>
         requires place { self.old.place + 1 < 2 ^ 64 }
         requires operands { 1 ≤ self.old.height }
@@ -129,6 +138,7 @@ impl Active {
         Ok(())
     }
 
+    #[inline(always)]
     pub fn drop_top(&mut self) -> Result<(), ViewFault>
         requires place { self.old.place + 1 < 2 ^ 64 }
         requires operands { 1 ≤ self.old.height }
@@ -139,6 +149,7 @@ impl Active {
         Ok(())
     }
 
+    #[inline(always)]
     pub fn unary(&mut self, op: UnOp) -> Result<(), ViewFault>
         requires place { self.old.place + 1 < 2 ^ 64 }
         requires operands { 1 ≤ self.old.height }
@@ -155,6 +166,7 @@ impl Active {
         }
     }
 
+    #[inline(always)]
     pub fn test(&mut self) -> Result<(), ViewFault>
         requires place { self.old.place + 1 < 2 ^ 64 }
         requires operands { 1 ≤ self.old.height }
@@ -167,6 +179,7 @@ impl Active {
         Ok(())
     }
 
+    #[inline(always)]
     pub fn binary(&mut self, op: BinOp) -> Result<(), ViewFault>
         requires place { self.old.place + 1 < 2 ^ 64 }
         requires operands { 2 ≤ self.old.height }
@@ -185,6 +198,7 @@ impl Active {
         }
     }
 
+    #[inline(always)]
     pub fn same(&mut self, equal: bool) -> Result<(), ViewFault>
         requires place { self.old.place + 1 < 2 ^ 64 }
         requires operands { 2 ≤ self.old.height }
@@ -198,6 +212,7 @@ impl Active {
         Ok(())
     }
 
+    #[inline(always)]
     pub fn choose(&mut self, op: RedOp) -> Result<(), ViewFault>
         requires place { self.old.place + 1 < 2 ^ 64 }
         requires operands { 2 ≤ self.old.height }

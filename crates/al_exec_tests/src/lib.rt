@@ -1,6 +1,12 @@
-//! Programs from their sources, lowered and run by the machine over a store in a map.
+//! Programs from their sources, lowered and run by the machine, each annotated loop plain.
 #![tactic(auto)]
 
-pub mod ran;
+#[cfg(test)]
+mod beside;
+mod lowered;
+mod plain;
 #[cfg(test)]
 mod runs;
+
+pub use lowered::{lowered, put_globals};
+pub use plain::{Ran, Steps, run_plain};

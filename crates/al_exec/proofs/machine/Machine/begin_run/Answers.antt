@@ -13,21 +13,21 @@ use Rattle.al_exec.specs.Active.{Active, state_of}
 use Rattle.al_exec.proofs.Beginning.{function_unpaid, function_paid, iteration_unpaid, iteration_goes, changed}
 use Rattle.al_exec.proofs.machine.Machine.begin_run.Goals as goal
 
-pub returns-then-not-spend : goal.returns-then-not-spend
-returns-then-not-spend g c run n =
+pub returns-then-not-spend-clause-begins : goal.returns-then-not-spend-clause-begins
+returns-then-not-spend-clause-begins g c run n =
     let out = c.if-not-spend.ensures.out refl in
     function_unpaid c.args.self.now (g.V.View.content c.args.view.now) run n c.in-Function.line c.in-Function.is out.0
     ∙ (λ j. (Err (trap.Steps, c.in-Function.line), state_of (sym out.1 j) (g.V.View.content c.args.view.now)))
 
-pub returns-then-not-spend-2 : goal.returns-then-not-spend-2
-returns-then-not-spend-2 g c run n =
+pub returns-then-not-spend-2-clause-begins : goal.returns-then-not-spend-2-clause-begins
+returns-then-not-spend-2-clause-begins g c run n =
     let out = c.if-not-spend-2.ensures.out refl in
     iteration_unpaid c.args.self.now (g.V.View.content c.args.view.now) run n
     c.in-Iteration.line c.in-Iteration.counter c.in-Iteration.n c.in-Iteration.is out.0
     ∙ (λ j. (Err (trap.Steps, c.in-Iteration.line), state_of (sym out.1 j) (g.V.View.content c.args.view.now)))
 
-pub returns-else-not-spend : goal.returns-else-not-spend
-returns-else-not-spend g c =
+pub returns-else-not-spend-clause-begins : goal.returns-else-not-spend-clause-begins
+returns-else-not-spend-clause-begins g c =
     let m : Machine = c.args.self.now in
     let paid = c.if-not-spend.ensures.paid refl in
     let s1 : Active = c.spend.new.self in
@@ -39,8 +39,8 @@ returns-else-not-spend g c =
       same = ap (λ (s : Active). record m { active = s; start = start.Running }) same;
     }
 
-pub returns-in-Ok : goal.returns-in-Ok
-returns-in-Ok g c =
+pub returns-in-Ok-clause-begins : goal.returns-in-Ok-clause-begins
+returns-in-Ok-clause-begins g c =
     let m : Machine = c.args.self.now in
     let paid = c.if-not-spend-2.ensures.paid refl in
     let s1 : Active = c.spend-in-Iteration.new.self in
@@ -57,8 +57,8 @@ returns-in-Ok g c =
       same = ap (λ (s : Active). record m { active = s; start = start.Running }) same;
     }
 
-pub returns-in-Err-Trap : goal.returns-in-Err-Trap
-returns-in-Err-Trap g c run n =
+pub returns-in-Err-Trap-clause-begins : goal.returns-in-Err-Trap-clause-begins
+returns-in-Err-Trap-clause-begins g c run n =
     let m : Machine = c.args.self.now in
     let paid = c.if-not-spend-2.ensures.paid refl in
     let s1 : Active = c.spend-in-Iteration.new.self in

@@ -5,8 +5,8 @@ use Rattle.al_exec.specs.declared.machine.Machine.{Machine}
 use Rattle.al_exec.proofs.LoopMoves.{iteration_over, no_info, no_body, again_moved, again_fault}
 use Rattle.al_exec.proofs.machine.Machine.end_iteration.Goals as goal
 
-pub returns-in_default : goal.returns-in_default
-returns-in_default g c input =
+pub returns-in_default-clause-moves : goal.returns-in_default-clause-moves
+returns-in_default-clause-moves g c input =
     let m : Machine = c.args.self.now in
     let none : m.inner.items ≡ [] =
     c.in_default.ensures.items ∙ append-nil c.pop.new.self.items ∙ c.in_default.ensures.rest
@@ -14,8 +14,8 @@ returns-in_default g c input =
     iteration_over c.args.code.now c.requires.valid m c.requires.stands c.requires.at input
     (g.V.View.content c.args.view.now) (record m { inner = c.pop.new.self }) none refl refl
 
-pub returns-in-Ok : goal.returns-in-Ok
-returns-in-Ok g c input =
+pub returns-in-Ok-clause-moves : goal.returns-in-Ok-clause-moves
+returns-in-Ok-clause-moves g c input =
     let m : Machine = c.args.self.now in
     let m1 : Machine = record m { inner = c.pop.new.self } in
     let has : slice_get c.args.code.now.loops c.in-Some.x.loop ≡ Some c.in-Some-Some.info.now =
@@ -24,10 +24,10 @@ returns-in-Ok g c input =
     ap (slice_get c.args.code.now.bodies) (sym c.number-k.ensures) ∙ sym c.get-2.ensures.value ∙ ap option_copied c.in-Some-Some.is-1 in
     again_moved c.args.code.now c.requires.valid m c.requires.stands c.requires.at m1 c.in-Some.x c.pop.new.self.items c.in-Some.ensures.items refl refl
     c.in-Some-Some.info.now c.in-Some-Some.body.now has body input (g.V.View.content c.args.view.now)
-    (g.V.View.content c.trip.new.view) c.trip.new.self c.in-Ok.ensures
+    (g.V.View.content c.trip.new.view) c.trip.new.self c.in-Ok.ensures.trips
 
-pub returns-in-Err : goal.returns-in-Err
-returns-in-Err g c input =
+pub returns-in-Err-clause-moves : goal.returns-in-Err-clause-moves
+returns-in-Err-clause-moves g c input =
     let m : Machine = c.args.self.now in
     let m1 : Machine = record m { inner = c.pop.new.self } in
     let has : slice_get c.args.code.now.loops c.in-Some.x.loop ≡ Some c.in-Some-Some.info.now =
@@ -36,10 +36,10 @@ returns-in-Err g c input =
     ap (slice_get c.args.code.now.bodies) (sym c.number-k.ensures) ∙ sym c.get-2.ensures.value ∙ ap option_copied c.in-Some-Some.is-1 in
     again_fault c.args.code.now c.requires.valid m c.requires.stands c.requires.at m1 c.in-Some.x c.pop.new.self.items c.in-Some.ensures.items refl refl
     c.in-Some-Some.info.now c.in-Some-Some.body.now has body input (g.V.View.content c.args.view.now)
-    (g.V.View.content c.trip.new.view) c.trip.new.self c.in-Err.e c.in-Err.ensures
+    (g.V.View.content c.trip.new.view) c.trip.new.self c.in-Err.e c.in-Err.ensures.trips
 
-pub returns-in_default-2 : goal.returns-in_default-2
-returns-in_default-2 g c input =
+pub returns-in_default-2-clause-moves : goal.returns-in_default-2-clause-moves
+returns-in_default-2-clause-moves g c input =
     let m : Machine = c.args.self.now in
     let m1 : Machine = record m { inner = c.pop.new.self } in
     let has : slice_get c.args.code.now.loops c.in-Some.x.loop ≡ Some c.in_default-2.field-0-0.now =
@@ -49,8 +49,8 @@ returns-in_default-2 g c input =
     no_body c.args.code.now c.requires.valid m c.requires.stands c.requires.at m1 c.in-Some.x c.pop.new.self.items
     c.in-Some.ensures.items refl refl input (g.V.View.content c.args.view.now) c.in_default-2.field-0-0.now has none
 
-pub returns-in_default-2-2 : goal.returns-in_default-2-2
-returns-in_default-2-2 g c input =
+pub returns-in_default-2-2-clause-moves : goal.returns-in_default-2-2-clause-moves
+returns-in_default-2-2-clause-moves g c input =
     let m : Machine = c.args.self.now in
     let m1 : Machine = record m { inner = c.pop.new.self } in
     let none : slice_get c.args.code.now.loops c.in-Some.x.loop ≡ None =

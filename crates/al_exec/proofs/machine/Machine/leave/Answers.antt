@@ -8,8 +8,8 @@ pub peek-v-requires : goal.peek-v-requires
 peek-v-requires c =
     (c.requires.valid.instrs c.args.self.now.active.place i.Return c.args.self.now.active.height c.requires.at c.requires.stands.fits.height).operands
 
-pub returns-in-None : goal.returns-in-None
-returns-in-None c input w =
+pub returns-in-None-clause-moves : goal.returns-in-None-clause-moves
+returns-in-None-clause-moves c input w =
     let m = c.args.self.now in
     let none : m.callers.items ≡ [] =
     c.in-None.ensures.items ∙ append-nil c.pop.new.self.items ∙ c.in-None.ensures.rest
@@ -17,8 +17,8 @@ returns-in-None c input w =
     let m' : Machine = record m { callers = c.pop.new.self } in
     ended c.args.code.now m m' c.unpack.result none (c.unpack.ensures ∙ c.peek-v.ensures) refl refl input w
 
-pub returns-in-Some : goal.returns-in-Some
-returns-in-Some c input w =
+pub returns-in-Some-clause-moves : goal.returns-in-Some-clause-moves
+returns-in-Some-clause-moves c input w =
     let m = c.args.self.now in
     let waits : m.callers.items ≡ c.pop.new.self.items ++ c.in-Some.field-0 ∷ [] = c.in-Some.ensures.items in
     let m' : Machine = record m { active = c.push.new.self; inner = c.in-Some.field-0.inner; callers = c.pop.new.self; room = m.room + 1 } in

@@ -1,7 +1,7 @@
 use Rattle.std.proofs.Common.{◌+◌, ◌*◌}
 use Rattle.al_exec.specs.Running.{weight}
 use Rattle.al_exec.proofs.Going.{InRun}
-use Rattle.al_exec.proofs.active.Active.run.Given as goal
+use Rattle.al_exec.proofs.active.Active.run_here.Given as goal
 
 abbrev pub invariant-run : goal.invariant-run
 invariant-run g l = InRun l.input l.code l.initial.self (g.V.View.content l.initial.view) l.self (g.V.View.content l.view)

@@ -4,7 +4,7 @@ use Rattle.al_code.specs.Runs.{or_no_line}
 use Rattle.al_exec.specs.Meets.{Did}
 use Rattle.al_exec.specs.Pauses.{instr_of, Acted}
 use Rattle.al_exec.proofs.Going.{has_room, is_within, is_low, sound, begun, falls_next, went_on, trapped_there, paused_there}
-use Rattle.al_exec.proofs.active.Active.run.Goals as goal
+use Rattle.al_exec.proofs.active.Active.run_here.Goals as goal
 
 pub run-init : goal.run-init
 run-init g c = begun c.args.input.now c.args.code.now c.args.self.now (g.V.View.content c.args.view.now) c.requires.fits
@@ -44,8 +44,8 @@ run-preserved g c =
     (subst (λ r. Acted c.args.input.now c.args.code.now c.instr-x.result c.run.self (g.V.View.content c.run.view) r
     c.act.new.self (g.V.View.content c.act.new.view)) (c.in-Ok-None.is ∙ ap Ok c.in-Ok-None.field-0-is) c.act.ensures)
 
-pub returns-in-Ok-Some : goal.returns-in-Ok-Some
-returns-in-Ok-Some g c =
+pub returns-in-Ok-Some-clause-ran : goal.returns-in-Ok-Some-clause-ran
+returns-in-Ok-Some-clause-ran g c =
     let at : (c.instr-x.result ≡ instr_of c.in-Ok-Some.pause) × (c.act.new.self ≡ c.run.self)
     × (g.V.View.content c.act.new.view ≡ g.V.View.content c.run.view) =
     subst (λ r. Acted c.args.input.now c.args.code.now c.instr-x.result c.run.self (g.V.View.content c.run.view) r
@@ -54,8 +54,8 @@ returns-in-Ok-Some g c =
     (g.V.View.content c.args.view.now) (g.V.View.content c.run.view) (g.V.View.content c.act.new.view)
     c.run.invariant c.instr-x.result c.in-Ok-Some.pause c.instr-x.ensures.at at.0 at.1 at.2
 
-pub returns-in-Err-Trap : goal.returns-in-Err-Trap
-returns-in-Err-Trap g c =
+pub returns-in-Err-Trap-clause-ran : goal.returns-in-Err-Trap-clause-ran
+returns-in-Err-Trap-clause-ran g c =
     trapped_there c.args.input.now c.args.code.now c.args.self.now c.run.self c.act.new.self
     (g.V.View.content c.args.view.now) (g.V.View.content c.run.view) (g.V.View.content c.act.new.view)
     c.run.invariant c.instr-x.result c.in-Err-Trap.t c.line_at.result c.instr-x.ensures.at
