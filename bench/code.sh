@@ -1,8 +1,8 @@
 #!/bin/sh
 # Measures how many steps a second the machine of lowered code makes on the nine programs of bench/nine, beside
-# `alter plain`, Lua 5.4 and Python 3 on the same work: millions of steps by the least seconds of the user in five
-# runs, one after the other in turn, and the machine's rate by each of the others'. In a first run all must print the
-# same. It needs rt and python3; without lua5.4 its column is left out.
+# `alter plain`, Lua 5.4 and Python 3 on the same work. It prints millions of steps by the least seconds of the user
+# in five runs, one after the other in turn, the machine's rate by each of the others', and its peak of memory. All
+# must print the same. It needs rt and python3; without lua5.4 that column is left out.
 # bench/code.sh, or bench/code.sh NAME.. for some of the nine.
 for tool in rt python3; do
     command -v "$tool" >/dev/null || {
@@ -14,16 +14,21 @@ top=$(cd "$(dirname "$0")/.." && pwd) || exit 1
 (cd "$top/crates/code_speed" && rt run -- data/p1.c) >&2 || exit $?
 "$top/alter" check "$top/examples/p1.c" >/dev/null || exit $?
 exec python3 - "$top" "$@" <<'PY'
-import math, os, resource, shutil, subprocess, sys
+import math, os, shutil, subprocess, sys
 top, names = sys.argv[1], sys.argv[2:]
 nine = f"{top}/bench/nine"
 names = names or sorted(it[:-2] for it in os.listdir(nine) if it.endswith(".c"))
 lua = shutil.which("lua5.4")
 
 def run(words):
-    before = resource.getrusage(resource.RUSAGE_CHILDREN).ru_utime
-    done = subprocess.run(words, stdout=subprocess.PIPE, check=True)
-    return resource.getrusage(resource.RUSAGE_CHILDREN).ru_utime - before, done.stdout
+    """Its seconds of the user, its peak of memory in MiB, and what it prints."""
+    child = subprocess.Popen(words, stdout=subprocess.PIPE)
+    out = child.stdout.read()
+    _, status, used = os.wait4(child.pid, 0)
+    child.returncode = status
+    if status:
+        sys.exit(f"bench/code.sh: {words} failed")
+    return used.ru_utime, used.ru_maxrss / 1024, out
 
 def ways(name):
     source = f"{nine}/{name}.c"
@@ -35,11 +40,12 @@ def ways(name):
 
 logs = {}
 for name in names:
-    least, printed, steps = {}, {}, 0
+    least, printed, steps, peak = {}, {}, 0, 0
     for _ in range(5):
         for way, words in ways(name):
-            seconds, out = run(words)
+            seconds, memory, out = run(words)
             if way == "code":
+                peak = max(peak, memory)
                 out, _, last = out.rstrip(b"\n").rpartition(b"done after ")
                 steps = int(last.split()[0])
             printed[way] = out
@@ -53,7 +59,7 @@ for name in names:
             ratio = rates["code"] / rates[way]
             told.append(f"by {way} {ratio:.2f}")
             logs.setdefault(way, []).append(math.log(ratio))
-    print(f"{name}: {steps} steps; " + ", ".join(told), flush=True)
+    print(f"{name}: {steps} steps in {peak:.0f} MiB; " + ", ".join(told), flush=True)
 for way, some in logs.items():
     print(f"mean by {way}: {math.exp(sum(some) / len(some)):.2f}")
 PY
