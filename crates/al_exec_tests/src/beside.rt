@@ -149,16 +149,40 @@ int main(void) {
 
 #[test]
 fn samples_agree(rt: HostRuntime) -> Result<(), Fail> {
-    assert!(rt; agree(rt.alloc(), &[sample::P1, sample::P2, sample::P3, sample::P4, sample::P5])?);
-    assert!(rt; agree(rt.alloc(), &[sample::P6, sample::P7, sample::P8, sample::P9, sample::P10])?);
-    assert!(rt; agree(rt.alloc(), &[sample::P11, sample::P12, sample::P13, sample::P15])?);
+    assert!(rt;
+        agree(
+            rt.alloc(),
+            &[sample::P1, sample::P2, sample::P3, sample::P4, sample::P5]
+        )?
+    );
+    assert!(rt;
+        agree(
+            rt.alloc(),
+            &[sample::P6, sample::P7, sample::P8, sample::P9, sample::P10]
+        )?
+    );
+    assert!(rt;
+        agree(
+            rt.alloc(),
+            &[sample::P11, sample::P12, sample::P13, sample::P15]
+        )?
+    );
     Ok(())
 }
 
 #[test]
 fn frees_agree(rt: HostRuntime) -> Result<(), Fail> {
     assert!(rt; agree(rt.alloc(), &[sample::FREES_TWICE, sample::FREES_IN_A_LOOP])?);
-    assert!(rt; agree(rt.alloc(), &[FREES_NULL_AND_TWICE, FREES_A_GLOBAL_S_OBJECT, FREES_A_MIDDLE])?);
+    assert!(rt;
+        agree(
+            rt.alloc(),
+            &[
+                FREES_NULL_AND_TWICE,
+                FREES_A_GLOBAL_S_OBJECT,
+                FREES_A_MIDDLE
+            ]
+        )?
+    );
     Ok(())
 }
 

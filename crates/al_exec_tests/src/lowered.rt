@@ -25,11 +25,7 @@ pub fn lowered(alloc: Global, source: &[u8]) -> Result<Option<Code>, AllocError>
 }
 
 /// Puts the globals of a program into a store.
-pub fn put_globals<S: Store>(
-    alloc: Global,
-    code: &Code,
-    store: &mut S,
-) -> Result<(), AllocError> {
+pub fn put_globals<S: Store>(alloc: Global, code: &Code, store: &mut S) -> Result<(), AllocError> {
     let mut k = 0u32;
     for global in code.globals.as_slice() {
         let obj = Obj::Global(k);

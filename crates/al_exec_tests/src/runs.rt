@@ -45,7 +45,10 @@ fn a_sum_is_printed(rt: HostRuntime) -> Result<(), Fail> {
 #[test]
 fn null_traps_at_its_line(rt: HostRuntime) -> Result<(), Fail> {
     let source = "int main(void) {\n  long *p = NULL;\n  printf(\"%ld\\n\", *p);\n}\n";
-    assert_eq!(rt; end(rt.alloc(), source)?, Some((Ending::Trap(Trap::Null, 3), 3)));
+    assert_eq!(rt;
+        end(rt.alloc(), source)?,
+        Some((Ending::Trap(Trap::Null, 3), 3))
+    );
     assert!(rt; prints(rt.alloc(), source, "")?);
     Ok(())
 }
