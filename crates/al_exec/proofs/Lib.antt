@@ -1,0 +1,17 @@
+pub mod Cells
+pub mod Printed
+pub mod Acting
+pub mod Weights
+pub mod Going
+pub mod Calling
+pub mod Filling
+pub mod Called
+pub mod Returned
+pub mod Looping
+pub mod LoopMoves
+pub mod Ongoing
+pub mod Beginning
+pub mod Starting
+pub mod Beginnings
+pub mod Answering
+pub mod Copied

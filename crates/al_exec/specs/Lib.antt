@@ -1,0 +1,12 @@
+pub mod Active
+pub mod Meets
+pub mod Printing
+pub mod Pauses
+pub mod Faults
+pub mod Running
+pub mod Frames
+pub mod Machines
+pub mod Tripping
+pub mod Going
+pub mod Starts
+pub mod Answered

@@ -1,0 +1,111 @@
+ghost use Rattle.std.specs.Prelude.{◌≡◌, ◌+◌, ◌<◌, ◌≤◌, ◌^◌, List, ℤ};
+ghost use Rattle.al_code.specs.declared.lowered.Code.{Code};
+ghost use Rattle.al_code.specs.declared.instructions.Instr.TheVariants as i;
+ghost use Rattle.al_exec.specs.Meets.{Did};
+
+use crate::active::Active;
+use crate::values::{object_words, packed, pointer};
+use al_core::{Addr, Kind, Val, View, ViewFault};
+use al_values::PackedValue;
+
+/// Instructions that go through what the code sees.
+#[tactic(auto, unfolding(al_core::specs::Action::bind, al_core::specs::Action::pure, al_core::specs::Action::lift, al_core::specs::Action::asks, al_core::specs::Action::get_frame, al_core::specs::Action::set_frame))]
+impl Active {
+    #[inline(always)]
+    pub fn get_local<V: View>(&mut self, k: u32, view: &mut V) -> Result<(), ViewFault>
+        requires place { self.old.place + 1 < 2 ^ 64 }
+        requires room { self.old.height < self.old.room }
+        ensures { (input : List ℤ) (code : Code)
+            → Did input code (i.GetLocal k) self.old (V.content view.old) result self.new (V.content view.new) }
+    {
+        let v = if self.is_private(k) {
+            self.local(k)
+        } else {
+            packed(view.load(Addr::Local(k), Kind::Int)?)?
+        };
+        self.push(v);
+        self.advance();
+        Ok(())
+    }
+
+    #[inline(always)]
+    pub fn put_local<V: View>(&mut self, k: u32, view: &mut V) -> Result<(), ViewFault>
+        requires place { self.old.place + 1 < 2 ^ 64 }
+        requires operands { 1 ≤ self.old.height }
+        ensures { (input : List ℤ) (code : Code)
+            → Did input code (i.SetLocal k) self.old (V.content view.old) result self.new (V.content view.new) }
+    {
+        let v = self.pop();
+        if self.is_private(k) {
+            self.set_local(k, v);
+        } else {
+            view.store(Addr::Local(k), v.unpack())?;
+        }
+        self.advance();
+        Ok(())
+    }
+
+    #[inline(always)]
+    pub fn load<V: View>(&mut self, want: Kind, view: &mut V) -> Result<(), ViewFault>
+        requires place { self.old.place + 1 < 2 ^ 64 }
+        requires operands { 1 ≤ self.old.height }
+        requires room { self.old.height ≤ self.old.room }
+        ensures { (input : List ℤ) (code : Code)
+            → Did input code (i.Load want) self.old (V.content view.old) result self.new (V.content view.new) }
+    {
+        let (obj, at) = pointer(self.pop());
+        let v = view.load(Addr::Word(obj, at), want)?;
+        self.push(packed(v)?);
+        self.advance();
+        Ok(())
+    }
+
+    #[inline(always)]
+    pub fn store<V: View>(&mut self, view: &mut V) -> Result<(), ViewFault>
+        requires place { self.old.place + 1 < 2 ^ 64 }
+        requires operands { 2 ≤ self.old.height }
+        ensures { (input : List ℤ) (code : Code)
+            → Did input code i.Store self.old (V.content view.old) result self.new (V.content view.new) }
+    {
+        let v = self.pop();
+        let (obj, at) = pointer(self.pop());
+        view.store(Addr::Word(obj, at), v.unpack())?;
+        self.advance();
+        Ok(())
+    }
+
+    #[inline(always)]
+    pub fn calloc<V: View>(&mut self, size: u32, view: &mut V) -> Result<(), ViewFault>
+        requires place { self.old.place + 1 < 2 ^ 64 }
+        requires operands { 1 ≤ self.old.height }
+        requires room { self.old.height ≤ self.old.room }
+        ensures { (input : List ℤ) (code : Code)
+            → Did input code (i.Calloc size) self.old (V.content view.old) result self.new (V.content view.new) }
+    {
+        match object_words(self.pop().unpack(), size) {
+            Ok(words) => {
+                let obj = view.make(words)?;
+                self.push(packed(Val::Ptr(obj, 0))?);
+                self.advance();
+                Ok(())
+            }
+            Err(t) => Err(ViewFault::Trap(t)),
+        }
+    }
+
+    #[inline(always)]
+    pub fn free<V: View>(&mut self, view: &mut V) -> Result<(), ViewFault>
+        requires place { self.old.place + 1 < 2 ^ 64 }
+        requires operands { 1 ≤ self.old.height }
+        requires room { self.old.height ≤ self.old.room }
+        ensures { (input : List ℤ) (code : Code)
+            → Did input code i.Free self.old (V.content view.old) result self.new (V.content view.new) }
+    {
+        if let Val::Ptr(obj, at) = self.pop().unpack() {
+            view.free(obj, at)?;
+        }
+        self.push(PackedValue::zero());
+        self.advance();
+        Ok(())
+    }
+}

@@ -1,0 +1,81 @@
+ghost use Rattle.std.specs.Prelude.{◌≡◌, ◌+◌, ◌<◌, ◌^◌, Some, length, slice_get};
+ghost use Rattle.al_code.specs.Runs.{or_no_line};
+ghost use Rattle.al_code.specs.Valid.{IsValid};
+ghost use Rattle.al_exec.specs.Running.{Fits, Ran};
+
+use crate::active::Active;
+use crate::fault::Fault;
+use crate::pause::Pause;
+use al_code::{Code, Instr};
+use al_core::{View, ViewFault};
+use std::alloc::Global;
+use std::mem;
+
+/// The line of the instruction at a place.
+pub fn line_at(code: &Code, place: usize) -> u32
+    ensures { result ≡ or_no_line (slice_get code.now.lines place) }
+{
+    match code.lines.get(place) {
+        Some(line) => *line,
+        None => 0,
+    }
+}
+
+impl Active {
+    /// The next instruction.
+    #[inline(always)]
+    fn instr(&self, code: &Code) -> Instr
+        requires { self.now.place < length code.now.instrs }
+        ensures at { slice_get code.now.instrs self.now.place ≡ Some result }
+        ensures next { self.now.place + 1 < 2 ^ 64 }
+    {
+        let instrs = code.instrs.as_slice();
+        instrs[self.place()]
+    }
+
+    /// Runs to the next call, return, loop or end of an iteration.
+    pub fn run<V: View>(
+        &mut self,
+        alloc: Global,
+        code: &Code,
+        input: &[i64],
+        bytes: &mut Vec<u8>,
+        view: &mut V,
+    ) -> Result<Pause, Fault>
+        requires valid { IsValid code.now }
+        requires fits { Fits code.now self.old }
+        ensures ran { Ran input.now code.now self.old (V.content view.old) result self.new (V.content view.new) }
+        ensures size { self.new.size ≡ self.old.size }
+    {
+        // A copy of its own, which nothing else points to, can stay in registers.
+        let mut active = mem::replace(self, Active::empty(alloc));
+        let ran = active.run_here(code, input, bytes, view);
+        *self = active;
+        ran
+    }
+
+    #[inline(always)]
+    fn run_here<V: View>(
+        &mut self,
+        code: &Code,
+        input: &[i64],
+        bytes: &mut Vec<u8>,
+        view: &mut V,
+    ) -> Result<Pause, Fault>
+        requires valid { IsValid code.now }
+        requires fits { Fits code.now self.old }
+        ensures ran { Ran input.now code.now self.old (V.content view.old) result self.new (V.content view.new) }
+        ensures size { self.new.size ≡ self.old.size }
+    {
+        'run: loop {
+            let place = self.place();
+            let x = self.instr(code);
+            match self.act(code, input, x, bytes, view) {
+                Ok(None) => {}
+                Ok(Some(pause)) => return Ok(pause),
+                Err(ViewFault::Trap(t)) => return Err(Fault::Trap(t, line_at(code, place))),
+                Err(ViewFault::Memory) => return Err(Fault::Memory),
+            }
+        }
+    }
+}

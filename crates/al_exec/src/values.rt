@@ -1,0 +1,233 @@
+ghost use Rattle.std.specs.Prelude.{◌≡◌, ◌+◌, ◌<◌, ◌≤◌, ◌^◌, MatchResult};
+ghost use Rattle.al_core.specs.declared.view.ViewFault.TheVariants as fault;
+ghost use Rattle.al_source.specs.Steps.{and_then};
+ghost use Rattle.al_core.specs.Values as spec;
+ghost use Rattle.al_code.specs.Machine.{pointer_in};
+ghost use Rattle.al_code.specs.declared.instructions.Instr.TheVariants as i;
+ghost use Rattle.al_exec.specs.Meets.{DidAlone};
+
+use crate::active::Active;
+use al_core::{
+    BinOp, Obj, RedOp, Trap, UnOp, Val, ViewFault, choose, compare, element, input_at, number,
+    of_test, operate, operate_one, point, shift, truth, words_of,
+};
+use al_values::PackedValue;
+
+/// A value packed. There is no room for a name that no run makes.
+#[inline(always)]
+pub fn packed(v: Val) -> Result<PackedValue, ViewFault>
+    ensures { MatchResult result (λ c. c ≡ v) (λ e. e ≡ fault.Memory) }
+{
+    match PackedValue::pack(v) {
+        Some(c) => Ok(c),
+        None => Err(ViewFault::Memory),
+    }
+}
+
+/// Where a pointer leads.
+#[inline(always)]
+pub fn pointer(v: PackedValue) -> (Obj, u32)
+    ensures { result ≡ pointer_in v }
+{
+    match v.unpack() {
+        Val::Ptr(obj, at) => (obj, at),
+        Val::Int(_) => (Obj::Global(0), 0),
+    }
+}
+
+#[inline(always)]
+pub fn input_value(input: &[i64], index: Val) -> Result<Val, Trap>
+    ensures { result ≡ and_then (spec.number index) (spec.input_at input.now) }
+{
+    input_at(input, number(index)?)
+}
+
+pub fn object_words(count: Val, size: u32) -> Result<u32, Trap>
+    ensures { result ≡ and_then (spec.number count) (λ n. spec.words_of n size) }
+{
+    words_of(number(count)?, size)
+}
+
+/// Instructions that work on the stack alone.
+#[tactic(auto, unfolding(al_core::specs::Action::bind, al_core::specs::Action::pure, al_core::specs::Action::lift))]
+impl Active {
+    #[inline(always)]
+    pub fn push_number(&mut self, n: i64) -> Result<(), ViewFault>
+        requires place { self.old.place + 1 < 2 ^ 64 }
+        requires room { self.old.height < self.old.room }
+        ensures { DidAlone (i.Push n) self.old result self.new }
+    {
+        self.push(PackedValue::from_int(n));
+        self.advance();
+        Ok(())
+    }
+
+    #[inline(always)]
+    pub fn push_global(&mut self, k: u32) -> Result<(), ViewFault>
+        requires place { self.old.place + 1 < 2 ^ 64 }
+        requires room { self.old.height < self.old.room }
+        ensures { DidAlone (i.Global k) self.old result self.new }
+    {
+        self.push(packed(Val::Ptr(Obj::Global(k), 0))?);
+        self.advance();
+        Ok(())
+    }
+
+    #[inline(always)]
+    pub fn not_null(&mut self) -> Result<(), ViewFault>
+        requires place { self.old.place + 1 < 2 ^ 64 }
+        requires operands { 1 ≤ self.old.height }
+        requires room { self.old.height ≤ self.old.room }
+        ensures { DidAlone i.NotNull self.old result self.new }
+    {
+        match point(self.pop().unpack()) {
+            Ok((obj, at)) => {
+                self.push(packed(Val::Ptr(obj, at))?);
+                self.advance();
+                Ok(())
+            }
+            Err(t) => Err(ViewFault::Trap(t)),
+        }
+    }
+
+    #[inline(always)]
+    pub fn plus(&mut self, words: u32) -> Result<(), ViewFault>
+        requires place { self.old.place + 1 < 2 ^ 64 }
+        requires operands { 1 ≤ self.old.height }
+        requires room { self.old.height ≤ self.old.room }
+        ensures { DidAlone (i.Plus words) self.old result self.new }
+    {
+        match shift(pointer(self.pop()), words) {
+            Ok((obj, at)) => {
+                self.push(packed(Val::Ptr(obj, at))?);
+                self.advance();
+                Ok(())
+            }
+            Err(t) => Err(ViewFault::Trap(t)),
+        }
+    }
+
+    #[inline(always)]
+    pub fn elem(&mut self, size: u32) -> Result<(), ViewFault>
+        requires place { self.old.place + 1 < 2 ^ 64 }
+        requires operands { 2 ≤ self.old.height }
+        requires room { self.old.height ≤ self.old.room }
+        ensures { DidAlone (i.Elem size) self.old result self.new }
+    {
+        let index = self.pop();
+        match element(pointer(self.pop()), index.unpack(), size) {
+            Ok((obj, at)) => {
+                self.push(packed(Val::Ptr(obj, at))?);
+                self.advance();
+                Ok(())
+            }
+            Err(t) => Err(ViewFault::Trap(t)),
+        }
+    }
+
+    #[inline(always)]
+    pub fn dup(&mut self) -> Result<(), ViewFault>
+        requires place { self.old.place + 1 < 2 ^ 64 }
+        requires operands { 1 ≤ self.old.height }
+        requires room { self.old.height < self.old.room }
+        ensures { DidAlone i.Dup self.old result self.new }
+    {
+        let v = self.peek();
+        self.push(v);
+        self.advance();
+        Ok(())
+    }
+
+    #[inline(always)]
+    pub fn drop_top(&mut self) -> Result<(), ViewFault>
+        requires place { self.old.place + 1 < 2 ^ 64 }
+        requires operands { 1 ≤ self.old.height }
+        ensures { DidAlone i.Drop self.old result self.new }
+    {
+        self.pop();
+        self.advance();
+        Ok(())
+    }
+
+    #[inline(always)]
+    pub fn unary(&mut self, op: UnOp) -> Result<(), ViewFault>
+        requires place { self.old.place + 1 < 2 ^ 64 }
+        requires operands { 1 ≤ self.old.height }
+        requires room { self.old.height ≤ self.old.room }
+        ensures { DidAlone (i.Unary op) self.old result self.new }
+    {
+        match operate_one(op, self.pop().unpack()) {
+            Ok(v) => {
+                self.push(packed(v)?);
+                self.advance();
+                Ok(())
+            }
+            Err(t) => Err(ViewFault::Trap(t)),
+        }
+    }
+
+    #[inline(always)]
+    pub fn test(&mut self) -> Result<(), ViewFault>
+        requires place { self.old.place + 1 < 2 ^ 64 }
+        requires operands { 1 ≤ self.old.height }
+        requires room { self.old.height ≤ self.old.room }
+        ensures { DidAlone i.Truth self.old result self.new }
+    {
+        let holds = truth(self.pop().unpack());
+        self.push(packed(of_test(holds))?);
+        self.advance();
+        Ok(())
+    }
+
+    #[inline(always)]
+    pub fn binary(&mut self, op: BinOp) -> Result<(), ViewFault>
+        requires place { self.old.place + 1 < 2 ^ 64 }
+        requires operands { 2 ≤ self.old.height }
+        requires room { self.old.height ≤ self.old.room }
+        ensures { DidAlone (i.Binary op) self.old result self.new }
+    {
+        let b = self.pop();
+        let a = self.pop();
+        match operate(op, a.unpack(), b.unpack()) {
+            Ok(v) => {
+                self.push(packed(v)?);
+                self.advance();
+                Ok(())
+            }
+            Err(t) => Err(ViewFault::Trap(t)),
+        }
+    }
+
+    #[inline(always)]
+    pub fn same(&mut self, equal: bool) -> Result<(), ViewFault>
+        requires place { self.old.place + 1 < 2 ^ 64 }
+        requires operands { 2 ≤ self.old.height }
+        requires room { self.old.height ≤ self.old.room }
+        ensures { DidAlone (i.Same equal) self.old result self.new }
+    {
+        let b = self.pop();
+        let a = self.pop();
+        self.push(packed(compare(equal, a.unpack(), b.unpack()))?);
+        self.advance();
+        Ok(())
+    }
+
+    #[inline(always)]
+    pub fn choose(&mut self, op: RedOp) -> Result<(), ViewFault>
+        requires place { self.old.place + 1 < 2 ^ 64 }
+        requires operands { 2 ≤ self.old.height }
+        requires room { self.old.height ≤ self.old.room }
+        ensures { DidAlone (i.Choose op) self.old result self.new }
+    {
+        let b = self.pop();
+        let a = self.pop();
+        match choose(op, a.unpack(), b.unpack()) {
+            Ok(v) => {
+                self.push(packed(v)?);
+                self.advance();
+                Ok(())
+            }
+            Err(t) => Err(ViewFault::Trap(t)),
+        }
+    }
+}
