@@ -1,0 +1,4 @@
+pub mod Once
+pub mod Starting
+pub mod Turning
+pub mod InTurn
