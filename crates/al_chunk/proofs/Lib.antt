@@ -2,3 +2,4 @@ pub mod Once
 pub mod Starting
 pub mod Turning
 pub mod InTurn
+pub mod Chunks

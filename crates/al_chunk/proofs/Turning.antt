@@ -2,6 +2,7 @@
 use Rattle.std.proofs.Common.{◌≡◌, ℕ, ◌-◌, List, Option, Some, Ok, Err, refl, sym, ap, ◌∙◌, subst}
 use Rattle.std.specs.Prelude.{slice_get, replicate, ℤ, pos, ◌+ℤ◌}
 use Rattle.al_core.specs.declared.choices.LoopInfo.{LoopInfo}
+use Rattle.al_core.specs.declared.reports.Ending.{Ending}
 use Rattle.al_core.specs.declared.reports.Ending.TheVariants as ending
 use Rattle.al_core.specs.declared.typed_tree.Typed.{Typed}
 use Rattle.al_core.specs.declared.values.Trap.{Trap}
@@ -23,7 +24,9 @@ use Rattle.al_code_laws.specs.Stops.{IsOver, EndsOnce, resumed}
 use Rattle.al_code_laws.proofs.Ends.{runs_end_once}
 use Rattle.al_code_laws.proofs.Resumed.{stops_go_on}
 use Rattle.al_exec.specs.declared.machine.Machine.{Machine}
-use Rattle.al_exec.specs.Going.{begin_with, run_of, state_with}
+use Rattle.al_exec.specs.declared.stop.Stop.{Stop as Stopped}
+use Rattle.al_exec.specs.declared.stop.Stop.TheVariants as stopped
+use Rattle.al_exec.specs.Going.{begin_with, run_of, state_with, StopsAs}
 use Rattle.al_exec.specs.Machines.{where_of}
 use Rattle.al_exec.specs.Starts.{StartsIteration}
 use Rattle.al_chunk.specs.declared.env.LoopEnv.{LoopEnv}
@@ -35,6 +38,12 @@ use Rattle.al_chunk.proofs.Starting.{Place, same_info, same_locals}
 pub renamed : (x : Execution) (j : ℕ) (w v : Content) → v ≡ record w { allocations = nothing_made x.number j } → iteration x j v ≡ iteration x j w
 unfolding iteration
 renamed x j w v e = ap (λ c. iteration x j c) e
+
+-- how a run that stops so ends
+abbrev pub EndsAs : Stopped → Ending → Type 0
+EndsAs (stopped.Ended v) e = e ≡ ending.Done
+EndsAs (stopped.AtLoop k lo hi) e = ⊥
+EndsAs (stopped.Trapped t line) e = e ≡ ending.Trap t line
 
 module _ (code : Code) (valid : IsValid code) (info : LoopInfo) (one : slice_get code.loops info.number ≡ Some info) (p : Place code info)
     (typed : Typed) (l : Loop) (stands : StandsForLoop code info.number typed l) (input : List ℤ) (env : LoopEnv) (j : ℕ) (counter : ℤ)
@@ -129,3 +138,12 @@ module _ (code : Code) (valid : IsValid code) (info : LoopInfo) (one : slice_get
       → ComesTo (run_of input code m) (state_with m env.iter_steps w) (Err (t, line), state_with m' n w')
       → iteration x j w ≡ record { ending = ending.Trap t line; steps = env.iter_steps - n; content = w' }
   by_trap t line m' n w' h = ended_so ∙ ap (ended env.iter_steps) (over_so (Err (t, line), state_with m' n w') h tt tt)
+
+  pub by_stop : (stop : Stopped) (e : Ending) (m' : Machine) (n steps : ℕ) (w' : Content)
+      → StopsAs code m.inside (run_of input code m) (state_with m env.iter_steps w) stop m' n w' → steps ≡ env.iter_steps - n → EndsAs stop e
+      → iteration x j w ≡ record { ending = e; steps = steps; content = w' }
+  by_stop (stopped.Ended v) e m' n steps w' h k is =
+      by_end v m' n w' h ∙ (λ t. record { ending = sym is t; steps = sym k t; content = w' })
+  by_stop (stopped.AtLoop loop lo hi) e m' n steps w' h k is = absurd is
+  by_stop (stopped.Trapped trap line) e m' n steps w' h k is =
+      by_trap trap line m' n w' h ∙ (λ t. record { ending = sym is t; steps = sym k t; content = w' })

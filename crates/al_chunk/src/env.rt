@@ -1,4 +1,5 @@
-ghost use Rattle.std.specs.Prelude.{◌≡◌, ◌+ℤ◌, ◌<◌, pos};
+ghost use Rattle.std.specs.Prelude.{◌≡◌, ◌+ℤ◌, ◌<◌, pos, FitsSigned};
+ghost use Rattle.std.specs.Int.{w64};
 ghost use Rattle.al_chunk.specs.Loops.{IsBounded};
 
 use al_core::Ending;
@@ -30,7 +31,8 @@ impl LoopEnv {
     pub(crate) fn counter(&self, j: u64) -> i64
         requires bounded { IsBounded self.now }
         requires within { j < self.now.trips }
-        ensures { result ≡ self.now.lo +ℤ pos j }
+        ensures value { result ≡ self.now.lo +ℤ pos j }
+        ensures fits { FitsSigned w64 result }
     {
         self.lo + j as i64
     }

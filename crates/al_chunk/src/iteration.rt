@@ -1,4 +1,4 @@
-ghost use Rattle.std.specs.Prelude.{◌≡◌, ◌<◌, Some, IfOk, OnOk, slice_get};
+ghost use Rattle.std.specs.Prelude.{◌≡◌, ◌<◌, ◌≤◌, Some, IfOk, OnOk, slice_get};
 ghost use Rattle.al_core.specs.Access.{nothing_made};
 ghost use Rattle.al_core.specs.Iteration.{iteration};
 ghost use Rattle.al_code.specs.Valid.{IsValid};
