@@ -41,8 +41,10 @@ fn is_same_set(
     others: &[Addr],
 ) -> Result<bool, AllocError> {
     let all = plain.items(alloc)?;
-    Ok(all.as_slice().iter().all(|a| set.has(a))
-        && others.iter().all(|a| set.has(a) == plain.contains(*a)))
+    Ok(
+        all.as_slice().iter().all(|a| set.has(a))
+            && others.iter().all(|a| set.has(a) == plain.contains(*a)),
+    )
 }
 
 fn is_same_words(words: Option<&Words>, plain: Option<&Items<Val>>) -> bool {
@@ -125,13 +127,15 @@ pub(crate) fn is_same(
     others: &[Addr],
 ) -> Result<bool, AllocError> {
     let accesses = &plain.accesses;
-    Ok(change.ending == plain.ending
-        && u128::from(change.steps) == plain.steps
-        && change.printed.as_slice() == plain.printed.as_slice()
-        && change.freed.as_slice() == accesses.freed.as_slice()
-        && is_same_sums(&change.accumulators, &accesses.accumulators)
-        && is_same_set(alloc, &change.reads, &accesses.reads, others)?
-        && is_same_set(alloc, &change.touched, &accesses.touched, others)?
-        && is_same_made(alloc, &change.made, accesses, &plain.memory)?
-        && is_same_writes(alloc, change.writes, accesses, &plain.memory)?)
+    Ok(
+        change.ending == plain.ending
+            && u128::from(change.steps) == plain.steps
+            && change.printed.as_slice() == plain.printed.as_slice()
+            && change.freed.as_slice() == accesses.freed.as_slice()
+            && is_same_sums(&change.accumulators, &accesses.accumulators)
+            && is_same_set(alloc, &change.reads, &accesses.reads, others)?
+            && is_same_set(alloc, &change.touched, &accesses.touched, others)?
+            && is_same_made(alloc, &change.made, accesses, &plain.memory)?
+            && is_same_writes(alloc, change.writes, accesses, &plain.memory)?,
+    )
 }

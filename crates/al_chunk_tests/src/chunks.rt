@@ -7,29 +7,19 @@ use crate::beside::{addresses, is_same};
 use crate::starts::{AtLoop, Lowered, lowered, plain_memory, run_to_loop};
 use al_chunk::{LoopEnv, run_chunk, run_plain_loop};
 use al_code::Code;
-use al_core::{Addr, Ending, Knobs, LoopInfo, Val, trips};
+use al_core::{Addr, Ending, Knobs, LoopInfo, Obj, Val, trips};
 use al_heap::{MapStore, Store};
 use al_interpreter::{Program, Setting};
 use al_pages::PageStore;
 use al_plain::{Execution, Memory, Outcome, loop_at, plain_loop};
 use al_samples::*;
+use al_snap::Change;
 use al_source::limits::LOOP_TRIPS;
 use std::alloc::AllocError;
 use std::process::Abort;
 use std::test::Fail;
 
-const SOURCES: [&str; 10] = [
-    P3,
-    P4,
-    P5,
-    P6,
-    P7,
-    P8,
-    P9,
-    P10,
-    P13,
-    FREES_IN_A_LOOP,
-];
+const SOURCES: [&str; 10] = [P3, P4, P5, P6, P7, P8, P9, P10, P13, FREES_IN_A_LOOP];
 
 const STEPS: u64 = 10_000;
 
@@ -210,5 +200,35 @@ fn larger_sample(rt: HostRuntime) -> Result<(), Fail> {
     let program = lowered(rt.alloc(), P15)?.ok_or("refused")?;
     let store = PageStore::new(rt.alloc());
     first_loop(&rt, &program, 250, store)?.ok_or("no loop")?;
+    Ok(())
+}
+
+const X: Obj = Obj::Global(0);
+
+const Y: Obj = Obj::Global(1);
+
+/// What the first of two iterations did, which sets x to y and one.
+fn is_first_of_two(change: &Change) -> bool {
+    let read = [Addr::Word(Y, 0), Addr::Head(X), Addr::Head(Y)];
+    read.iter().all(|at| change.reads.has(at))
+        && !change.reads.has(&Addr::Word(X, 0))
+        && change.touched.has(&Addr::Word(X, 0))
+        && !change.touched.has(&Addr::Head(X))
+        && !change.touched.has(&Addr::Word(Y, 0))
+        && (change.ending, change.steps) == (Ending::Done, 4)
+}
+
+#[test]
+fn first_of_two_iterations(rt: HostRuntime) -> Result<(), Fail> {
+    let program = lowered(rt.alloc(), P4)?.ok_or("refused")?;
+    let code = &program.code;
+    let (there, store) = run_to_loop(rt.alloc(), code, MapStore::new(rt.alloc()))?;
+    let env = env_at(&there.ok_or("no loop")?, 1).ok_or("too many trips")?;
+    let info = code.loops.get(0).ok_or("no loop")?;
+    if info.number != 0 || env.trips != 2 {
+        return Err(Fail::from("another loop"));
+    }
+    let change = run_chunk(rt.alloc(), code, info, &info.own, &env, &[], 0, &store)?;
+    assert!(rt; is_first_of_two(&change));
     Ok(())
 }

@@ -7,11 +7,6 @@ use Rattle.al_chunk.proofs.Turning.{EndsAs, by_stop}
 use Rattle.al_chunk.proofs.iteration.run_iteration.Goals as goal
 use Rattle.al_chunk.proofs.iteration.run_iteration.Goals.{in-Ended, in-Trapped}
 
-pub go-requires-clause-stands : goal.go-requires-clause-stands
-go-requires-clause-stands g c =
-    let p = placed c.args.code.now c.requires.valid c.args.info.now c.requires.one in
-    (c.in_ok-again.ensures p.entry p.body p.has_entry p.has_body).stands
-
 pub returns-clause-exact : goal.returns-clause-exact
 returns-clause-exact g c typed l s =
     let code = c.args.code.now in
@@ -22,7 +17,7 @@ returns-clause-exact g c typed l s =
     let w' = g.V.View.content c.go.new.view in
     let m = c.again.new.self in
     let p = placed code c.requires.valid info c.requires.one in
-    let starts = c.in_ok-again.ensures p.entry p.body p.has_entry p.has_body in
+    let starts = c.again.ensures.starts p.entry p.body p.has_entry p.has_body in
     let counts = to_z-of_z w64 c.counter.result c.counter.ensures.fits ∙ c.counter.ensures.value in
     let e = c.match-branch-3.ending in
     let ends : EndsAs c.in_ok-go.field-0 e =
@@ -36,8 +31,3 @@ returns-clause-exact g c typed l s =
     by_stop code c.requires.valid info c.requires.one p typed l s input env c.args.j _ counts m starts w c.requires.names
     c.in_ok-go.field-0 e c.go.new.self c.go.new.budget c.saturating_sub.result w' stopped
     (c.saturating_sub.ensures ∙ ap (λ n. env.iter_steps - n) c.left.ensures) ends
-
-pub returns-clause-tall : goal.returns-clause-tall
-returns-clause-tall g c q h e =
-    let p = placed c.args.code.now c.requires.valid c.args.info.now c.requires.one in
-    subst (λ n. h ≤ n) (sym c.in_ok-go.ensures.tallest) ((c.in_ok-again.ensures p.entry p.body p.has_entry p.has_body).stands.tall q h e)

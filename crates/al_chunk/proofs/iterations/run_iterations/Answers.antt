@@ -3,20 +3,18 @@ use Rattle.al_core.specs.Iteration.{Finished, iterations}
 use Rattle.al_laws.proofs.Splits.{no_steps}
 use Rattle.al_chunk.specs.Loops.{execution_of, finished}
 use Rattle.al_chunk.proofs.InTurn.{goes_on, stops}
-use Rattle.al_chunk.proofs.Starting.{placed}
 use Rattle.al_chunk.proofs.Turning.{renamed}
 use Rattle.al_chunk.proofs.iterations.run_iterations.Goals as goal
 
 pub loop-j-init : goal.loop-j-init
 loop-j-init g c =
-    let p = placed c.args.code.now c.requires.valid c.args.info.now c.requires.one in
     record {
       exact = λ typed l s.
           let x = execution_of typed l c.args.input.now c.args.env.now in
           let all : c.args.first + c.args.count - c.args.first ≡ c.args.count = omega arith in
           no_steps _ ∙ ap (λ k. iterations x k c.args.first (g.V.View.content c.args.view.now)) all;
       few = omega arith;
-      tall = (c.in_ok-machine.ensures p.entry p.body p.has_entry p.has_body).stands.tall;
+      room = c.in_ok-machine.ensures.room;
     }
 
 pub returns-in-Trap-clause-exact : goal.returns-in-Trap-clause-exact
@@ -53,5 +51,5 @@ loop-j-preserved g c =
           sym (goes_on x (end - j) (end - (j + 1)) j (j + 1) c.loop-j.steps w r more next (sym (c.in_ok-turn.ensures.exact typed l s) ∙ is) c.in-Done.is)
           ∙ c.loop-j.invariant.exact typed l s;
       few = few_more c.loop-j.steps turn.steps (j - first) (j + 1 - first) c.args.env.now.iter_steps c.loop-j.invariant.few c.in_ok-turn.ensures.few past;
-      tall = c.in_ok-turn.ensures.tall;
+      room = c.in_ok-turn.ensures.room;
     }

@@ -1,6 +1,6 @@
 use Rattle.std.proofs.Common.{◌≡◌, ◌-◌, ◌*◌, ◌≤◌}
 use Rattle.al_core.specs.Iteration.{iterations, add_steps}
-use Rattle.al_exec.specs.Starts.{IsTall}
+use Rattle.al_exec.specs.Starts.{HasRoom}
 use Rattle.al_chunk.specs.Loops.{InEachTree}
 use Rattle.al_chunk.proofs.iterations.run_iterations.Given as goal
 
@@ -11,5 +11,5 @@ invariant-loop-j g l =
       exact : InEachTree l.code l.info l.input l.env (λ x.
       add_steps l.steps (iterations x (l.j-end - l.j) l.j (content l.view)) ≡ iterations x l.count l.first (content l.fn.view));
       few : l.steps ≤ (l.j - l.first) * l.env.iter_steps;
-      tall : IsTall l.code l.machine.tallest;
+      room : HasRoom l.code l.info l.machine;
     }
