@@ -19,9 +19,9 @@ returns-clause-exact g c typed l s =
     let p = placed code c.requires.valid info c.requires.one in
     let starts = c.again.ensures.starts p.entry p.body p.has_entry p.has_body in
     let counts = to_z-of_z w64 c.counter.result c.counter.ensures.fits ∙ c.counter.ensures.value in
-    let e = c.match-branch-3.ending in
+    let e = c.match-branch-2.ending in
     let ends : EndsAs c.in_ok-go.field-0 e =
-    elim c.match-branch-3.branch [
+    elim c.match-branch-2.branch [
       in-Ended v ↦ subst (λ s. EndsAs s e) (sym v.in-Ended.is) v.ending-is
     | in-Trapped v ↦ subst (λ s. EndsAs s e) (sym v.in-Trapped.is) v.ending-is
     ] in
@@ -31,3 +31,6 @@ returns-clause-exact g c typed l s =
     by_stop code c.requires.valid info c.requires.one p typed l s input env c.args.j _ counts m starts w c.requires.names
     c.in_ok-go.field-0 e c.go.new.self c.go.new.budget c.saturating_sub.result w' stopped
     (c.saturating_sub.ensures ∙ ap (λ n. env.iter_steps - n) c.left.ensures) ends
+
+pub returns-clause-room : goal.returns-clause-room
+returns-clause-room g c = c.in_ok-go.ensures.room c.args.info.now c.again.ensures.room
