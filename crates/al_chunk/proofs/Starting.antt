@@ -4,12 +4,12 @@ use Rattle.std.specs.Prelude.{slice_get, option_map}
 use Rattle.al_core.specs.declared.choices.LoopInfo.{LoopInfo}
 use Rattle.al_core.specs.declared.typed_tree.TFunc.{TFunc}
 use Rattle.al_core.specs.declared.typed_tree.Typed.{Typed}
-use Rattle.al_core.specs.Loops.{Loop, loop_at}
+use Rattle.al_core.specs.Loops.{Loop}
 use Rattle.al_laws.proofs.Words.{some_none, same_some}
 use Rattle.al_code.specs.declared.lowered.Body.{Body}
 use Rattle.al_code.specs.declared.lowered.Code.{Code}
 use Rattle.al_code.specs.declared.lowered.Entry.{Entry}
-use Rattle.al_code.specs.Stands.{IsEntryOf, AreEntryOf}
+use Rattle.al_code.specs.Stands.{AreEntryOf}
 use Rattle.al_code.specs.Valid.{IsValid}
 use Rattle.al_exec.proofs.Beginnings.{body_number}
 use Rattle.al_chunk.specs.Loops.{StandsForLoop}

@@ -1,5 +1,5 @@
 -- A machine's run of an iteration is the tree's iteration.
-use Rattle.std.proofs.Common.{◌≡◌, ℕ, ◌-◌, List, Option, Some, Ok, Err, refl, sym, ap, ◌∙◌, subst}
+use Rattle.std.proofs.Common.{◌≡◌, ℕ, ◌-◌, List, Option, Some, Ok, Err, sym, ap, ◌∙◌, subst}
 use Rattle.std.specs.Prelude.{slice_get, replicate, ℤ, pos, ◌+ℤ◌}
 use Rattle.al_core.specs.declared.choices.LoopInfo.{LoopInfo}
 use Rattle.al_core.specs.declared.reports.Ending.{Ending}
@@ -14,7 +14,6 @@ use Rattle.al_core.specs.Iteration.{Execution, calls_within, body_does, iteratio
 use Rattle.al_core.specs.Loops.{Loop}
 use Rattle.al_core.specs.Meaning.{Inside, returned}
 use Rattle.al_laws.proofs.Words.{same_some}
-use Rattle.al_code.specs.declared.lowered.Body.{Body}
 use Rattle.al_code.specs.declared.lowered.Code.{Code}
 use Rattle.al_code.specs.Machine.{at_start}
 use Rattle.al_code.specs.Runs.{Stop, Ended, exec, exec_to_stop, from_iteration, ComesTo}

@@ -1,4 +1,4 @@
-use Rattle.std.proofs.Common.{◌≤◌, sym, ap, ◌∙◌, ◌-◌, subst}
+use Rattle.std.proofs.Common.{sym, ap, ◌∙◌, ◌-◌, subst}
 use Rattle.std.specs.Int.{w64}
 use Rattle.std.proofs.lemmas.Int.{to_z-of_z}
 use Rattle.al_exec.specs.Going.{run_of, state_with, StopsAs}
@@ -22,8 +22,8 @@ returns-clause-exact g c typed l s =
     let e = c.match-branch-2.ending in
     let ends : EndsAs c.in_ok-go.field-0 e =
     elim c.match-branch-2.branch [
-      in-Ended v ↦ subst (λ s. EndsAs s e) (sym v.in-Ended.is) v.ending-is
-    | in-Trapped v ↦ subst (λ s. EndsAs s e) (sym v.in-Trapped.is) v.ending-is
+      | in-Ended v ↦ subst (λ s. EndsAs s e) (sym v.in-Ended.is) v.ending-is
+      | in-Trapped v ↦ subst (λ s. EndsAs s e) (sym v.in-Trapped.is) v.ending-is
     ] in
     let stopped : StopsAs code m.inside (run_of input code m) (state_with m env.iter_steps w) c.in_ok-go.field-0 c.go.new.self c.go.new.budget w' =
     subst (λ n. StopsAs code m.inside (run_of input code m) (state_with m n w) c.in_ok-go.field-0 c.go.new.self c.go.new.budget w')

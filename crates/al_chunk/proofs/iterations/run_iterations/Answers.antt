@@ -1,5 +1,5 @@
 use Rattle.std.proofs.Common.{◌≡◌, ◌+◌, ◌-◌, ◌*◌, ◌≤◌, ℕ, suc, sym, ap, ◌∙◌, subst, arith}
-use Rattle.al_core.specs.Iteration.{Finished, iterations}
+use Rattle.al_core.specs.Iteration.{iterations}
 use Rattle.al_laws.proofs.Splits.{no_steps}
 use Rattle.al_chunk.specs.Loops.{execution_of, finished}
 use Rattle.al_chunk.proofs.InTurn.{goes_on, stops}

@@ -9,7 +9,7 @@ invariant-loop-j g l =
     let content = g.V.View.content in
     record {
       exact : InEachTree l.code l.info l.input l.env (λ x.
-      add_steps l.steps (iterations x (l.j-end - l.j) l.j (content l.view)) ≡ iterations x l.count l.first (content l.fn.view));
+          add_steps l.steps (iterations x (l.j-end - l.j) l.j (content l.view)) ≡ iterations x l.count l.first (content l.fn.view));
       few : l.steps ≤ (l.j - l.first) * l.env.iter_steps;
       room : HasRoom l.code l.info l.machine;
     }
