@@ -1,0 +1,5 @@
+pub mod Once
+pub mod Starting
+pub mod Turning
+pub mod InTurn
+pub mod Chunks
