@@ -1,0 +1,6 @@
+//! Laying what a chunk did over a store.
+#![tactic(auto)]
+
+mod commits;
+
+pub use commits::commit;
