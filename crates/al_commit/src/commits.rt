@@ -43,7 +43,7 @@ fn lay<S: Store>(store: &mut S, mut writes: AddrMap)
     ensures memory { S.memory store.new ≡ spec.with_writes (map.entries writes) (S.memory store.old) }
     ensures kept { KeepsReady (S.is_ready store.old) (S.is_ready store.new) }
 {
-    while let Some((at, v)) = writes.pop() {
+    'writes: while let Some((at, v)) = writes.pop() {
         put(store, at, v);
     }
 }
@@ -53,7 +53,7 @@ fn add_made<S: Store>(store: &mut S, mut made: Slots)
     requires { AreReady (S.is_ready store.old) made }
     ensures { S.memory store.new ≡ spec.with_made (map.entries (objects_in made)) (S.memory store.old) }
 {
-    while let Some((obj, words)) = made.pop() {
+    'made: while let Some((obj, words)) = made.pop() {
         store.add(obj, words);
     }
 }
@@ -86,12 +86,18 @@ fn join<S: Store>(store: &mut S, r: &Red, n: i64)
 }
 
 /// Changes each reduction variable.
+#[tactic(auto, using(crate::proofs::Taken::none_gathered))]
 fn reduce<S: Store>(store: &mut S, reds: &[Red], accumulators: &[PackedValue])
     ensures { S.memory store.new
         ≡ spec.with_sums reds.now (prelude.map sum_in accumulators.now) (S.memory store.old) }
 {
-    for (r, v) in reds.iter().zip(accumulators) {
-        join(store, r, sum_of(*v));
+    match (reds, accumulators) {
+        ([r, reds @ ..], [v, accumulators @ ..]) => {
+            join(store, r, sum_of(*v));
+            reduce(store, reds, accumulators);
+        }
+        ([], _) => {}
+        (_, []) => {}
     }
 }
 

@@ -1,5 +1,6 @@
 -- The objects that are in their slots.
 use Rattle.std.proofs.Common.{◌≡◌, Bool, true, false, ◌&&◌, cond, T, List, [], ◌∷◌, Option, Some, None, is_some, refl, sym, ap, ◌∙◌}
+use Rattle.std.specs.Prelude.{IfSome, OnOk, Result, Ok, Err}
 use Rattle.std.specs.declared.cmp.Ordering.TheVariants.{Less, Equal, Greater}
 use Rattle.std.specs.Ordering.{is_lt, is_eq}
 use Rattle.std.specs.Cmp.{Equal-is, tied_itself}
@@ -292,3 +293,18 @@ all_ready ready es slots e h o t =
     (ap (option_and_then (λ s. s)) (sym (map.get-from_entries obj_total es o) ∙ ap (λ s. map.get s o) e)
     ∙ sym (get_objects slots o))
     ∙ t)
+
+pub ready_or : (ready : Obj → Bool) (o : Obj) (s : Option (List Val)) → ready o ≡ true → IsReadyFor ready o s
+ready_or ready o None h = tt
+ready_or ready o (Some ws) h = h
+
+pub slot_out : (m n : BTreeMap Obj (Option (List Val))) (slots : FinMap obj_cmp (Option (List Val))) (r : Option (Obj × Option (List Val)))
+    → map.from_entries m.entries ≡ slots → IfSome r (λ p. tree.get obj_derived m p.0 ≡ Some p.1)
+    → IfSome r (λ p. tree.Updates obj_derived m n p.0 None)
+    → IfSome r (λ e. (map.get slots e.0 ≡ Some e.1) × (map.from_entries n.entries ≡ map.remove slots e.0))
+slot_out m n slots None e f g = tt
+slot_out m n slots (Some p) e f g = (slot_found m slots p.0 p.1 e f, slot_popped m n slots p.0 e g.0)
+
+pub on_ok : {A E : Type 0} (r : Result A E) (P Q : Type 0) → (P → Q) → OnOk r P → OnOk r Q
+on_ok (Ok a) P Q f h = f h
+on_ok (Err e) P Q f h = tt
