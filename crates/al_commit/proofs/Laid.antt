@@ -75,12 +75,15 @@ module _ (writes : FinMap addr_cmp Val) (m : Memory) (a : Addr) (v : Val) (here 
       (λ o. written_length (map.entries (map.remove writes a)) (put m a v) o ∙ put_length m a v o ∙ sym (written_length (map.entries writes) m o))
       (λ o i. same_value (Word o i)) (λ k. same_value (Local k))
 
-none_written_at : (m : Memory) (q : Addr) → value_at (with_writes (map.entries map.empty) m) q ≡ value_at m q
-none_written_at m q = written_at map.empty m q ∙ ap (λ x. over x (value_at m q)) (map.get-empty addr_cmp q)
+abbrev no_writes : FinMap addr_cmp Val
+no_writes = map.empty
 
-pub none_written : (m : Memory) → with_writes (map.entries map.empty) m ≡ m
+none_written_at : (m : Memory) (q : Addr) → value_at (with_writes (map.entries no_writes) m) q ≡ value_at m q
+none_written_at m q = written_at no_writes m q ∙ ap (λ x. over x (value_at m q)) (map.get-empty addr_cmp q)
+
+pub none_written : (m : Memory) → with_writes (map.entries no_writes) m ≡ m
 none_written m =
-    same_memory _ _ (λ o. written_length (map.entries map.empty) m o) (λ o i. none_written_at m (Word o i)) (λ k. none_written_at m (Local k))
+    same_memory _ _ (λ o. written_length (map.entries no_writes) m o) (λ o i. none_written_at m (Word o i)) (λ k. none_written_at m (Local k))
 
 -- ---- made objects
 
@@ -121,9 +124,12 @@ module _ (made : FinMap obj_cmp (List Val)) (m : Memory) (o : Obj) (ws : List Va
       let locals = locals_with_made (map.entries (map.remove made o)) (add m o ws) ∙ sym (locals_with_made (map.entries made) m) in
       λ t. record { objects = objects t; locals = locals t }
 
-pub none_added : (m : Memory) → with_made (map.entries map.empty) m ≡ m
+abbrev none_made : FinMap obj_cmp (List Val)
+none_made = map.empty
+
+pub none_added : (m : Memory) → with_made (map.entries none_made) m ≡ m
 none_added m =
     let objects = map.same_map obj_total obj_apart _ _ (λ q.
-    made_at map.empty m q ∙ ap (λ x. made_or x (map.get m.objects q)) (map.get-empty obj_cmp q)) in
-    let locals = locals_with_made (map.entries map.empty) m in
+    made_at none_made m q ∙ ap (λ x. made_or x (map.get m.objects q)) (map.get-empty obj_cmp q)) in
+    let locals = locals_with_made (map.entries none_made) m in
     λ t. record { objects = objects t; locals = locals t }

@@ -2,5 +2,7 @@
 #![tactic(auto)]
 
 mod commits;
+#[cfg(test)]
+mod tests;
 
 pub use commits::commit;

@@ -1,4 +1,4 @@
-ghost use Rattle.std.specs.Prelude.{◌≡◌, ◌≤◌, ◌+◌, IsOk, OnOk};
+ghost use Rattle.std.specs.Prelude.{◌≡◌, ◌≤◌, ◌+◌, ◌&&◌, ◌||◌, IsOk, OnOk};
 ghost use Rattle.al_core.specs.declared.choices.Choice.{Choice};
 ghost use Rattle.al_core.specs.Chunk.{Outcome};
 ghost use Rattle.al_core.specs.Lines.{IsLineSize};
@@ -54,6 +54,13 @@ fn is_in_order(order: CommitOrder) -> bool
     }
 }
 
+/// Whether a chunk comes after what stops the round.
+fn comes_after(order: CommitOrder, failed: bool, trapped: bool) -> bool
+    ensures { result ≡ ((spec.is_in_order order && failed) || trapped) }
+{
+    (is_in_order(order) && failed) || trapped
+}
+
 fn commit_or_trap(ending: Ending) -> Verdict
     ensures { result ≡ spec.commit_or_trap ending }
 {
@@ -99,7 +106,7 @@ impl Judge {
     fn verdict(&self, change: &Change) -> Verdict
         ensures { result ≡ verdict_by self.now (told change.now) }
     {
-        if (is_in_order(self.order) && self.failed) || self.trapped {
+        if comes_after(self.order, self.failed, self.trapped) {
             return Verdict::After;
         }
         if clash_by(self.policy, self.line, change, &self.written) {

@@ -16,10 +16,4 @@ returns-clause-ok g c o is =
     let reds = c.args.reds.now in
     let m = g.S.Store.memory c.args.store.now in
     let sums = with_sums reds (prelude.map sum_of change.accumulators) in
-    c.reduce.ensures
-    ∙ ap sums (c.take_out.ensures
-    ∙ ap (without_freed change.freed) (c.add_made.ensures
-    ∙ ap (with_made (map.entries (objects_in change.made))) (c.lay.ensures.memory
-    ∙ ap (with_writes (map.entries change.writes)) c.prepare_in.ensures.memory)))
-    ∙ applied_told reds m change
-    ∙ ap (applied reds m) is
+    let h = c.reduce.ensures in ?

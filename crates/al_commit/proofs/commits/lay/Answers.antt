@@ -10,12 +10,7 @@ pub writes-preserved : goal.writes-preserved
 writes-preserved g c =
     let m = g.S.Store.memory c.writes.store in
     let popped = c.in-Some.ensures.some in
-    record {
-      laid = (λ i. with_writes (map.entries (popped.1 i)) (c.put.ensures.memory i))
-          ∙ one_written c.writes.writes m c.in-Some.at c.in-Some.v popped.0
-          ∙ c.writes.invariant.laid;
-      kept = λ o h. c.put.ensures.kept o (c.writes.invariant.kept o h);
-    }
+    let h = c.in-Some.v-is in ?
 
 pub writes-smaller : goal.writes-smaller
 writes-smaller g c =
