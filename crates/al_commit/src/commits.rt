@@ -43,8 +43,8 @@ fn lay<S: Store>(store: &mut S, mut writes: AddrMap)
     ensures memory { S.memory store.new ≡ spec.with_writes (map.entries writes) (S.memory store.old) }
     ensures kept { KeepsReady (S.is_ready store.old) (S.is_ready store.new) }
 {
-    'writes: while let Some((at, v)) = writes.pop() {
-        put(store, at, v);
+    'writes: while let Some(write) = writes.pop() {
+        put(store, write.0, write.1);
     }
 }
 

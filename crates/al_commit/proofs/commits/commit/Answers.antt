@@ -14,6 +14,10 @@ pub returns-clause-ok : goal.returns-clause-ok
 returns-clause-ok g c o is =
     let change = c.args.change in
     let reds = c.args.reds.now in
-    let m = g.S.Store.memory c.args.store.now in
-    let sums = with_sums reds (prelude.map sum_of change.accumulators) in
-    let h = c.reduce.ensures in ?
+    let laid = c.lay.ensures.memory ∙ ap (with_writes (map.entries change.writes)) c.prepare_in.ensures.memory in
+    let added = c.add_made.ensures ∙ ap (with_made (map.entries (objects_in change.made))) laid in
+    let out = c.take_out.ensures ∙ (λ t. without_freed (c.as_slice.ensures t) (added t)) in
+    c.reduce.ensures
+    ∙ (λ t. with_sums reds (prelude.map sum_of (c.as_slice-2.ensures t)) (out t))
+    ∙ applied_told reds (g.S.Store.memory c.args.store.now) change
+    ∙ ap (applied reds (g.S.Store.memory c.args.store.now)) is

@@ -8,15 +8,19 @@ use Rattle.al_commit.proofs.commits.lay.Goals as goal
 
 pub writes-preserved : goal.writes-preserved
 writes-preserved g c =
-    let m = g.S.Store.memory c.writes.store in
     let popped = c.in-Some.ensures.some in
-    let h = c.in-Some.v-is in ?
+    record {
+      laid = (λ t. with_writes (map.entries (popped.1 t)) (c.put.ensures.memory t))
+          ∙ one_written c.writes.writes (g.S.Store.memory c.writes.store) c.in-Some.write.0 c.in-Some.write.1 popped.0
+          ∙ c.writes.invariant.laid;
+      kept = λ o h. c.put.ensures.kept o (c.writes.invariant.kept o h);
+    }
 
 pub writes-smaller : goal.writes-smaller
 writes-smaller g c =
     let popped = c.in-Some.ensures.some in
     subst (λ w. map.len w < map.len c.writes.writes) (sym popped.1)
-    (fewer addr_total c.writes.writes c.in-Some.at c.in-Some.v popped.0)
+    (fewer addr_total c.writes.writes c.in-Some.write.0 c.in-Some.write.1 popped.0)
 
 pub returns-clause-memory : goal.returns-clause-memory
 returns-clause-memory g c =
