@@ -1,5 +1,5 @@
 -- The words of an object that is freed later leave no trace, and so a change lays what its outcome does.
-use Rattle.std.proofs.Common.{◌≡◌, ℕ, List, Option, Some, None, Bool, true, false, cond, refl, sym, ap, ◌∙◌}
+use Rattle.std.proofs.Common.{◌≡◌, List, None, Bool, true, false, cond, refl, sym, ap, ◌∙◌}
 use Rattle.std.specs.Prelude.{if◌then◌else◌, not, slice_get}
 use Rattle.std.specs.Prelude as prelude
 use Rattle.std.specs.FinMap as map

@@ -1,5 +1,5 @@
 -- Entries that are taken out one by one.
-use Rattle.std.proofs.Common.{◌≡◌, ℕ, zero, suc, ◌-◌, ◌<◌, Bool, true, false, Option, Some, None, is_some, cond, List, [], ◌∷◌, length, refl, sym, ap, ◌∙◌, arith}
+use Rattle.std.proofs.Common.{◌≡◌, Bool, true, false, Option, None, is_some, cond, List, [], ◌∷◌, length, refl, sym, ap, ◌∙◌, arith}
 use Rattle.std.specs.Prelude.{map}
 use Rattle.std.specs.FinMap as fin
 use Rattle.std.specs.FinMap.{FinMap}
@@ -12,7 +12,6 @@ use Rattle.al_core.specs.Memory.{Memory}
 use Rattle.al_core.specs.Chunk.{sum_of}
 use Rattle.al_core.specs.Applied.{with_sums}
 use Rattle.al_laws.proofs.Orders.{obj_total}
-use Rattle.al_heap.specs.Stores.{AreReady, KeepsReady, objects_in}
 
 some_left : {X : Type 0} (b : Bool) (x : Option X) → is_some (cond b None x) ≡ true → is_some x ≡ true
 some_left true x h = absurd (true≢false (sym h))

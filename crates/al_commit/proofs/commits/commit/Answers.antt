@@ -1,4 +1,4 @@
-use Rattle.std.proofs.Common.{◌≡◌, ap, ◌∙◌}
+use Rattle.std.proofs.Common.{ap, ◌∙◌}
 use Rattle.std.specs.Prelude as prelude
 use Rattle.std.specs.FinMap as map
 use Rattle.al_core.specs.Chunk.{sum_of}

@@ -1,4 +1,4 @@
-use Rattle.std.proofs.Common.{◌≡◌, ◌<◌, sym, ap, subst, ◌∙◌}
+use Rattle.std.proofs.Common.{◌<◌, sym, ap, subst, ◌∙◌}
 use Rattle.std.specs.FinMap as map
 use Rattle.al_core.specs.Applied.{with_writes}
 use Rattle.al_laws.proofs.Orders.{addr_total}

@@ -9,10 +9,9 @@ use Rattle.al_heap.proofs.slots.Slots.pop.Goals as goal
 pub returns-in-Some-slot-clause-some : goal.returns-in-Some-slot-clause-some
 returns-in-Some-slot-clause-some c =
     let o = c.in-Some.obj in
-    let same : objects_in c.slots.self ≡ objects_in c.args.self.now = c.slots.invariant in
-    (
+    let same : objects_in c.slots.self ≡ objects_in c.args.self.now = c.slots.invariant in (
       ap (λ m. map.get m o) (sym same)
-      ∙ object_there c.slots.self o c.in-Some-slot.words (c.in-Some.ensures.some.0 ∙ ap (λ s. Some s) c.in-Some-slot.is),
+          ∙ object_there c.slots.self o c.in-Some-slot.words (c.in-Some.ensures.some.0 ∙ ap (λ s. Some s) c.in-Some-slot.is),
       ap objects_in c.in-Some.ensures.some.1 ∙ objects_popped c.slots.self o ∙ ap (λ m. map.remove m o) same,
     )
 
