@@ -1,5 +1,6 @@
 -- The objects that are in their slots.
 use Rattle.std.proofs.Common.{◌≡◌, Bool, true, false, ◌&&◌, cond, T, List, [], ◌∷◌, Option, Some, None, is_some, refl, sym, ap, ◌∙◌}
+use Rattle.std.specs.Prelude.{IfSome, OnOk, Result, Ok, Err}
 use Rattle.std.specs.declared.cmp.Ordering.TheVariants.{Less, Equal, Greater}
 use Rattle.std.specs.Ordering.{is_lt, is_eq}
 use Rattle.std.specs.Cmp.{Equal-is, tied_itself}
@@ -15,8 +16,8 @@ use Rattle.std.specs.BTreeMap.{BTreeMap, is_at}
 use Rattle.std.specs.BTreeMap as tree
 use Rattle.std.proofs.Math.Bool.{true≢false}
 use Rattle.al_heap.proofs.DerivedOrders.{obj_derived, obj_order}
-use Rattle.al_heap.proofs.Kept.{map_get, map_insert}
-use Rattle.al_heap.specs.Stores.{slot_in, with_slot, present, objects_in, with_name}
+use Rattle.al_heap.proofs.Kept.{map_get, map_insert, map_remove}
+use Rattle.al_heap.specs.Stores.{slot_in, with_slot, present, objects_in, with_name, AreReady, IsReadyFor, IsReadyForEach}
 
 first_true : (a b : Bool) → T (a && b) → T a
 first_true true b h = tt
@@ -180,13 +181,16 @@ module _ (slots : FinMap obj_cmp (Option (List Val))) (o : Obj) where
       ∙ ap (λ b. cond b None (map.get (objects_in slots) o)) (ap is_eq (tied_itself obj_total o))
 
   -- what is not there is taken out of its place without a change
-  pub objects_without : map.contains_key slots o ≡ false → objects_in slots ≡ map.remove (objects_in slots) o
-  objects_without h = map.same_map obj_total obj_apart _ _ (λ q.
+  without_none : slot_in slots o ≡ None → objects_in slots ≡ map.remove (objects_in slots) o
+  without_none none = map.same_map obj_total obj_apart _ _ (λ q.
       elim (obj_eq q o) as (λ b. obj_eq q o ≡ b → map.get (objects_in slots) q ≡ cond b None (map.get (objects_in slots) q)) [
-        | true ↦ λ t. ap (map.get (objects_in slots)) (tied q o t) ∙ get_objects slots o ∙ no_slot h
+        | true ↦ λ t. ap (map.get (objects_in slots)) (tied q o t) ∙ get_objects slots o ∙ none
         | false ↦ λ _. refl
       ] refl
       ∙ sym (map.get-remove obj_total (objects_in slots) o q))
+
+  pub objects_without : map.contains_key slots o ≡ false → objects_in slots ≡ map.remove (objects_in slots) o
+  objects_without h = without_none (no_slot h)
 
   pub taken_none : map.contains_key slots o ≡ false → None ≡ map.get (objects_in slots) o
   taken_none h = sym (get_objects slots o ∙ no_slot h)
@@ -216,3 +220,91 @@ objects_empty = map.same_map obj_total obj_apart _ _ (λ q.
     get_objects map.empty q
     ∙ ap (option_and_then (λ s. s)) (map.get-empty obj_cmp q)
     ∙ sym (map.get-empty obj_cmp q))
+
+-- ---- slots that are taken out
+
+slot_remove : (slots : FinMap obj_cmp (Option (List Val))) (o q : Obj)
+    → slot_in (map.remove slots o) q ≡ cond (obj_eq q o) None (slot_in slots q)
+slot_remove slots o q =
+    ap (option_and_then (λ s. s)) (map.get-remove obj_total slots o q)
+    ∙ elim (obj_eq q o) as (λ b. option_and_then (λ s. s) (cond b None (map.get slots q)) ≡ cond b None (slot_in slots q)) [
+      | true ↦ refl
+      | false ↦ refl
+    ]
+
+pub objects_popped : (slots : FinMap obj_cmp (Option (List Val))) (o : Obj)
+    → objects_in (map.remove slots o) ≡ map.remove (objects_in slots) o
+objects_popped slots o = map.same_map obj_total obj_apart _ _ (λ q.
+    get_objects (map.remove slots o) q
+    ∙ slot_remove slots o q
+    ∙ ap (cond (obj_eq q o) None) (sym (get_objects slots q))
+    ∙ sym (map.get-remove obj_total (objects_in slots) o q))
+
+-- a slot with no object in it
+pub objects_passed : (slots : FinMap obj_cmp (Option (List Val))) (o : Obj) → map.get slots o ≡ Some None
+    → objects_in (map.remove slots o) ≡ objects_in slots
+objects_passed slots o e =
+    objects_popped slots o ∙ sym (without_none slots o (ap (option_and_then (λ s. s)) e))
+
+pub object_there : (slots : FinMap obj_cmp (Option (List Val))) (o : Obj) (ws : List Val) → map.get slots o ≡ Some (Some ws)
+    → map.get (objects_in slots) o ≡ Some ws
+object_there slots o ws e = get_objects slots o ∙ ap (option_and_then (λ s. s)) e
+
+pub slot_found : (m : BTreeMap Obj (Option (List Val))) (slots : FinMap obj_cmp (Option (List Val))) (o : Obj) (s : Option (List Val))
+    → map.from_entries m.entries ≡ slots → tree.get obj_derived m o ≡ Some s → map.get slots o ≡ Some s
+slot_found m slots o s e h =
+    ap (λ s. map.get s o) (sym e) ∙ sym (map_get obj_derived obj_cmp obj_order obj_total obj_apart m o) ∙ h
+
+pub slot_popped : (m n : BTreeMap Obj (Option (List Val))) (slots : FinMap obj_cmp (Option (List Val))) (o : Obj)
+    → map.from_entries m.entries ≡ slots
+    → ((q : Obj) → tree.get obj_derived n q ≡ cond (is_at (obj_derived o) q) None (tree.get obj_derived m q))
+    → map.from_entries n.entries ≡ map.remove slots o
+slot_popped m n slots o e updates =
+    map_remove obj_derived obj_cmp obj_order obj_total obj_apart m n o updates ∙ ap (λ s. map.remove s o) e
+
+pub no_slots : (es : List (Obj × Option (List Val))) (slots : FinMap obj_cmp (Option (List Val))) → map.from_entries es ≡ slots
+    → es ≡ [] → slots ≡ map.empty
+no_slots es slots e none =
+    sym e
+    ∙ ap map.from_entries none
+    ∙ map.same_map obj_total obj_apart _ _ (λ q. map.get-from_entries obj_total [] q ∙ sym (map.get-empty obj_cmp q))
+
+-- ---- stores that are ready for each object
+
+some_slot : (ready : Obj → Bool) (o : Obj) (s : Option (List Val)) → IsReadyFor ready o s → is_some s ≡ true → ready o ≡ true
+some_slot ready o None h t = absurd (true≢false (sym t))
+some_slot ready o (Some ws) h t = h
+
+ready_found : (ready : Obj → Bool) (es : List (Obj × Option (List Val))) (o : Obj) → IsReadyForEach ready es
+    → is_some (option_and_then (λ s. s) (find obj_cmp o es)) ≡ true → ready o ≡ true
+ready_found ready [] o h t = absurd (true≢false (sym t))
+ready_found ready (e ∷ es) o h t =
+    elim (obj_eq o e.0) as (λ b. obj_eq o e.0 ≡ b
+    → is_some (option_and_then (λ s. s) (cond b (Some e.1) (find obj_cmp o es))) ≡ true → ready o ≡ true) [
+      | true ↦ λ same t. ap ready (tied o e.0 same) ∙ some_slot ready e.0 e.1 h.0 t
+      | false ↦ λ _ t. ready_found ready es o h.1 t
+    ] refl t
+
+pub all_ready : (ready : Obj → Bool) (es : List (Obj × Option (List Val))) (slots : FinMap obj_cmp (Option (List Val)))
+    → map.from_entries es ≡ slots → IsReadyForEach ready es → AreReady ready slots
+all_ready ready es slots e h o t =
+    ready_found ready es o h
+    (ap is_some
+    (ap (option_and_then (λ s. s)) (sym (map.get-from_entries obj_total es o) ∙ ap (λ s. map.get s o) e)
+    ∙ sym (get_objects slots o))
+    ∙ t)
+
+pub ready_or : (ready : Obj → Bool) (o : Obj) (s : Option (List Val)) → ready o ≡ true → IsReadyFor ready o s
+ready_or ready o None h = tt
+ready_or ready o (Some ws) h = h
+
+pub slot_out : (m n : BTreeMap Obj (Option (List Val))) (slots : FinMap obj_cmp (Option (List Val))) (r : Option (Obj × Option (List Val)))
+    → map.from_entries m.entries ≡ slots → IfSome r (λ p. tree.get obj_derived m p.0 ≡ Some p.1)
+    → IfSome r (λ p. tree.Updates obj_derived m n p.0 None)
+    → IfSome r (λ e. (map.get slots e.0 ≡ Some e.1) × (map.from_entries n.entries ≡ map.remove slots e.0))
+slot_out m n slots None e f g = tt
+slot_out m n slots (Some p) e f g = (slot_found m slots p.0 p.1 e f, slot_popped m n slots p.0 e g.0)
+
+pub on_ok : {A E : Type 0} (r : Result A E) (P Q : Type 0) → (P → Q) → OnOk r P → OnOk r Q
+on_ok (Ok a) P Q f h = f h
+on_ok (Err e) P Q f h = tt

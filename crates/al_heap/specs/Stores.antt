@@ -71,3 +71,16 @@ slots_code = map.code obj.the_row.coded (coded_option (coded_list val.the_row.co
 -- the same slots, and one for that name
 abbrev pub with_name : FinMap obj_cmp (Option (List Val)) → Obj → FinMap obj_cmp (Option (List Val))
 with_name slots o = if map.contains_key slots o then slots else map.insert slots o None
+
+-- every object that is in its slot can be added without memory
+abbrev pub AreReady : (Obj → Bool) → FinMap obj_cmp (Option (List Val)) → Type 0
+AreReady ready slots = (o : Obj) → map.contains_key (objects_in slots) o ≡ true → ready o ≡ true
+
+abbrev pub IsReadyFor : (Obj → Bool) → Obj → Option (List Val) → Type 0
+IsReadyFor ready o None = Unit {0}
+IsReadyFor ready o (Some ws) = ready o ≡ true
+
+-- the same of slots in a list
+abbrev pub IsReadyForEach : (Obj → Bool) → List (Obj × Option (List Val)) → Type 0
+IsReadyForEach ready [] = Unit {0}
+IsReadyForEach ready (e ∷ es) = IsReadyFor ready e.0 e.1 × IsReadyForEach ready es

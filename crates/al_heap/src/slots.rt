@@ -1,8 +1,9 @@
-ghost use Rattle.std.specs.Prelude.{◌≡◌, true, None, Some, OnOk, OnErr, OnSome};
+ghost use Rattle.std.specs.Prelude.{◌≡◌, true, None, Some, OnOk, OnErr, OnSome, IfSome, IfNone};
 ghost use Rattle.std.specs.FinMap as map;
 ghost use Rattle.std.specs.Option.{option_copied};
-ghost use Rattle.al_heap.specs.Stores.{KeepsReady, slot_in, objects_in, with_name};
+ghost use Rattle.al_heap.specs.Stores.{KeepsReady, AreReady, IsReadyForEach, slot_in, objects_in, with_name};
 
+use crate::store::Store;
 use al_core::Obj;
 use al_values::Words;
 use std::alloc::{AllocError, Global};
@@ -27,6 +28,23 @@ impl Model for Slots {
     ghost coded = { slots_code };
 
     ghost view = { λ a. map.from_entries a.slots.entries };
+}
+
+/// Makes a store ready for each object that is in its slot.
+fn prepare_each<S: Store>(
+    slots: &BTreeMap<Obj, Option<Words>>,
+    store: &mut S,
+) -> Result<(), AllocError>
+    ensures memory { S.memory store.new ≡ S.memory store.old }
+    ensures ready { OnOk result (IsReadyForEach (S.is_ready store.new) slots.now.entries) }
+    ensures kept { KeepsReady (S.is_ready store.old) (S.is_ready store.new) }
+{
+    for (obj, slot) in slots {
+        if slot.is_some() {
+            store.prepare(*obj)?;
+        }
+    }
+    Ok(())
 }
 
 impl Slots {
@@ -112,6 +130,39 @@ impl Slots {
         } else {
             None
         }
+    }
+
+    /// Takes out a slot with its name, where there is one.
+    fn pop_slot(&mut self) -> Option<(Obj, Option<Words>)>
+        ensures some { IfSome result
+            (λ e. (map.get self.old e.0 ≡ Some e.1) × (self.new ≡ map.remove self.old e.0)) }
+        ensures none { IfNone result ((self.old ≡ map.empty) × (self.new ≡ map.empty)) }
+    {
+        self.slots.pop_first()
+    }
+
+    /// Takes out an object with its name, where there is one. It takes no memory.
+    pub fn pop(&mut self) -> Option<(Obj, Words)>
+        ensures some { IfSome result
+            (λ e. (map.get (objects_in self.old) e.0 ≡ Some e.1)
+            × (objects_in self.new ≡ map.remove (objects_in self.old) e.0)) }
+        ensures none { IfNone result ((objects_in self.old ≡ map.empty) × (objects_in self.new ≡ map.empty)) }
+    {
+        'slots: while let Some((obj, slot)) = self.pop_slot() {
+            if let Some(words) = slot {
+                return Some((obj, words));
+            }
+        }
+        None
+    }
+
+    /// Makes a store ready for each object. The store's memory stays, whatever the result.
+    pub fn prepare_in<S: Store>(&self, store: &mut S) -> Result<(), AllocError>
+        ensures memory { S.memory store.new ≡ S.memory store.old }
+        ensures ready { OnOk result (AreReady (S.is_ready store.new) self.now) }
+        ensures kept { KeepsReady (S.is_ready store.old) (S.is_ready store.new) }
+    {
+        prepare_each(&self.slots, store)
     }
 
     /// Whether a name has a slot.
