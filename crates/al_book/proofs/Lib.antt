@@ -1,0 +1,4 @@
+mod Sets
+mod Verdicts
+mod Shelves
+mod Books
