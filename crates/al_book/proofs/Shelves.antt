@@ -1,5 +1,5 @@
 -- A shelf stays sound.
-use Rattle.std.proofs.Common.{◌≡◌, ℕ, ◌≤◌, List, [], ◌∷◌, ◌++◌, Bool, false, length, refl, sym, ap, ◌∙◌, subst, arith, length-append}
+use Rattle.std.proofs.Common.{◌≡◌, ℕ, ◌≤◌, List, [], ◌∷◌, ◌++◌, Bool, false, length, refl, sym, ap, ◌∙◌, subst, ⊎_elim, arith, length-append}
 use Rattle.std.specs.Prelude.{map, vec_capacity}
 use mathlib.Core.Option.{some-ne-none}
 use mathlib.Core.List.{map-append}
@@ -8,10 +8,11 @@ use Rattle.al_core.specs.declared.reports.Verdict.{Verdict}
 use Rattle.al_core.specs.Chunk.{Outcome}
 use Rattle.al_core.specs.Lines.{is_line_size, IsLineSize}
 use Rattle.al_core.specs.Verdicts.{Judging, nothing_judged, verdict_of, verdicts, committed}
+use Rattle.al_count.proofs.Totals.{at_end}
 use Rattle.al_board.specs.Fits.{AreFit}
 use Rattle.al_book.specs.declared.shelf.Bookshelf.{Bookshelf}
 use Rattle.al_book.specs.Judging.{unreduced, ends_in_trap, judging_after, clashes_with_one, verdict_by, failed_after, trapped_after, verdicts_on}
-use Rattle.al_book.specs.Shelves.{pieces_on, IsMadeFor, IsSound, IsShelfFor}
+use Rattle.al_book.specs.Shelves.{pieces_on, IsMadeFor, IsMadeAs, IsSound, IsShelfFor}
 use Rattle.al_book.proofs.Verdicts.{judging_next, verdicts_more, failed_next, trapped_next, met_known, verdict_known}
 
 no_verdicts : (choice : Choice) → verdicts choice [] ≡ []
@@ -37,6 +38,20 @@ module _ {T : Type 0} (outcome : T → Outcome) where
     sound = sound;
     made = record { choice_is = for.choice_is ∙ ap unreduced e; lanes_are = for.lanes_are ∙ sym f };
     fit = λ lane piece at. absurd (some-ne-none piece (sym at ∙ ap (λ (z : List T). lib.ListN.get_elem? z lane) none));
+  }
+
+  -- a shelf for a task that grows by a piece that fits stays one
+  pub shelf_grows : (fits : ℕ → T → Type 0) (by : Choice) (lanes : ℕ) (s t : Bookshelf T) (piece : T)
+      → IsShelfFor fits outcome by lanes s → fits (length (pieces_on s)) piece → IsSound outcome t
+      → pieces_on t ≡ pieces_on s ++ piece ∷ [] → IsMadeAs s t → IsShelfFor fits outcome by lanes t
+  shelf_grows fits by lanes s t piece h one sound laid same = record {
+    sound = sound;
+    made = record { choice_is = same.choice_is ∙ h.made.choice_is; lanes_are = same.lanes_are ∙ h.made.lanes_are };
+    fit = subst (AreFit fits) (sym laid) (λ lane x e.
+        ⊎_elim
+        (λ was. h.fit lane x was)
+        (λ (z : (lane ≡ length (pieces_on s)) × (piece ≡ x)). subst (λ (w : ℕ × T). fits w.0 w.1) (λ i. (sym z.0 i, z.1 i)) one)
+        (at_end (pieces_on s) piece x lane e));
   }
 
   module _ (s : Bookshelf T) (piece : T) (sound : IsSound outcome s) where

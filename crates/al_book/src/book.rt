@@ -9,15 +9,15 @@ ghost use Rattle.al_book.specs.Books.{IsJudgedRound};
 ghost use Rattle.al_book.specs.Judging.{HistoriesAreJudged};
 
 use crate::shelf::Bookshelf;
-use crate::weigh::Weigh;
+use crate::weigh::BookPiece;
 use al_board::{Board, Helped, Maker, Pass, work_and_lay};
-use al_core::{Choice, Verdict};
+use al_core::Verdict;
 use sqlite_items::Items;
 use std::alloc::{AllocError, Global};
 
 /// A board of lanes whose shelf is a bookshelf. Threads share it by reference.
 #[derive(Drop)]
-pub struct Book<T: Weigh> {
+pub struct Book<T: BookPiece> {
     pub(crate) board: Board<T>,
     ghost shelved: { has_shelf board ≡ true },
 }
@@ -29,22 +29,21 @@ pub struct Settled<T> {
     pub verdicts: Items<Verdict>,
 }
 
-impl<T: Weigh> Book<T> {
+impl<T: BookPiece> Book<T> {
     /// A book of as many lanes as the task has, from 1 to 64, and its first pass. The pieces are judged by the task's
     /// choice. The error is want of memory.
     pub fn new(
         alloc: Global,
         lanes: u32,
         task: T::Task,
-        choice: &Choice,
     ) -> Result<(Book<T>, Pass<T>), AllocError>
         requires lanes { (1 ≤ lanes) × (lanes ≤ 64) × (T.lanes task ≡ lanes) }
-        requires choice { (choice.now ≡ T.choice task) × IsLineSize choice.now.line }
+        requires line { IsLineSize (T.choice task).line }
         ensures book { IfOk result (λ r. (lane_count r.0.board ≡ lanes) × (task_of r.0.board ≡ task)) }
         ensures pass { IfOk result (λ r. IsPassOf r.0.board r.1 × (view r.1 ≡ opener r.0.board.setting)) }
         ensures first { IfOk result (λ r. (pass_number r.1 ≡ 0) × (logs_of r.1 ≡ [])) }
     {
-        let shelf = Bookshelf::new(alloc, choice, lanes)?;
+        let shelf = Bookshelf::new(alloc, T::choice_of(&task), lanes)?;
         let (board, pass) = Board::with_shelf(alloc, lanes, task, shelf)?;
         Ok((Book { board }, pass))
     }

@@ -8,4 +8,4 @@ mod weigh;
 pub use al_board::Helped;
 pub use book::{Book, Settled};
 pub use shelf::Bookshelf;
-pub use weigh::Weigh;
+pub use weigh::{BookPiece, Weigh};

@@ -12,14 +12,11 @@ use crate::shelf::Bookshelf;
 use al_board::Piece;
 use al_core::Choice;
 
-/// A piece that has the outcome of a chunk and is judged by it. Its shelf is a bookshelf.
-pub trait Weigh: Piece<Shelf = Bookshelf<Self>> {
+/// What has the outcome of a chunk, and is judged by it.
+pub trait Weigh: Drop {
     ghost outcome: { Self → Outcome };
 
-    // The choice by which the pieces of a task are judged.
-    ghost choice: { Self.Task → Choice };
-
-    /// Whether its outcome clashes with what an earlier one wrote. It takes no memory.
+    /// Whether its outcome clashes with what an earlier one touched. It takes no memory.
     fn clashes(&self, by: &Choice, earlier: &Self) -> bool
         requires { IsLineSize by.now.line }
         ensures { result ≡ clash.clashes by.now.policy by.now.line (outcome self.now) (outcome earlier.now).touched };
@@ -27,11 +24,20 @@ pub trait Weigh: Piece<Shelf = Bookshelf<Self>> {
     /// Whether its outcome ends in a trap.
     fn trapped(&self) -> bool
         ensures { result ≡ ends_in_trap (outcome self.now).ending };
+}
+
+/// The piece of a book: its shelf is a bookshelf.
+pub trait BookPiece: Weigh + Piece<Shelf = Bookshelf<Self>> {
+    ghost choice: { Self.Task → Choice };
+
+    /// The choice by which the pieces of a task are judged.
+    fn choice_of(task: &Self::Task) -> &Choice
+        ensures { result.now ≡ choice task.now };
 
     // A law: what lies on a shelf is the pieces on it.
     ghost lays: { (shelf : Bookshelf Self) → Self.laid shelf ≡ pieces_on shelf };
 
     // A law: a shelf stands for a task exactly where it was made for the task's choice and lanes, its pieces fit and
     // its verdicts are those on its pieces.
-    ghost stands_where: { (task : Self.Task) (shelf : Bookshelf Self) → Self.stands task shelf ↔ IsShelfFor (Self.fits task) outcome (choice task) (Self.lanes task) shelf };
+    ghost stands_where: { (task : Self.Task) (shelf : Bookshelf Self) → Self.stands task shelf ↔ IsShelfFor (Self.fits task) Self.outcome (choice task) (Self.lanes task) shelf };
 }
