@@ -27,7 +27,7 @@ module _ {T H K : Type 0} {g : Ghosts T K H} (fits : K → ℕ → T → Type 0)
       let by = choice (task_of b) in
       let round = subst (IsRoundOf fits b (lane_count b) pass) e history in
       let are = shelf.sound.verdicts ∙ ap (λ (c : Choice). verdicts c (map outcome s.pieces.items)) shelf.made.choice_is
-          ∙ verdicts_same by (map outcome s.pieces.items) in
+      ∙ verdicts_same by (map outcome s.pieces.items) in
       record {
         each = sym (ap length e) ∙ each;
         fit = subst (AreFit (fits (task_of b))) e fit;

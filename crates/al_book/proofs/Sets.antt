@@ -73,20 +73,20 @@ any_union t a b =
     let u = set.union a b in
     same_truth (list_any t (set.items u)) (l || r)
     (λ h.
-        let x = one_in t u h in
-        let both = sym (set.contains-union addr_total a b x.0) ∙ x.1 in
-        ⊎_elim
-        (λ (k : set.contains a x.0 ≡ true). left_true l r (in_one t a x.0 k x.2))
-        (λ (k : set.contains b x.0 ≡ true). right_true l r (in_one t b x.0 k x.2))
-        (one_true (set.contains a x.0) (set.contains b x.0) both))
+    let x = one_in t u h in
+    let both = sym (set.contains-union addr_total a b x.0) ∙ x.1 in
+    ⊎_elim
+    (λ (k : set.contains a x.0 ≡ true). left_true l r (in_one t a x.0 k x.2))
+    (λ (k : set.contains b x.0 ≡ true). right_true l r (in_one t b x.0 k x.2))
+    (one_true (set.contains a x.0) (set.contains b x.0) both))
     (λ h. ⊎_elim
-        (λ (k : l ≡ true).
-            let x = one_in t a k in
-            in_one t u x.0 (set.contains-union addr_total a b x.0 ∙ left_true (set.contains a x.0) (set.contains b x.0) x.1) x.2)
-        (λ (k : r ≡ true).
-            let x = one_in t b k in
-            in_one t u x.0 (set.contains-union addr_total a b x.0 ∙ right_true (set.contains a x.0) (set.contains b x.0) x.1) x.2)
-        (one_true l r h))
+    (λ (k : l ≡ true).
+    let x = one_in t a k in
+    in_one t u x.0 (set.contains-union addr_total a b x.0 ∙ left_true (set.contains a x.0) (set.contains b x.0) x.1) x.2)
+    (λ (k : r ≡ true).
+    let x = one_in t b k in
+    in_one t u x.0 (set.contains-union addr_total a b x.0 ∙ right_true (set.contains a x.0) (set.contains b x.0) x.1) x.2)
+    (one_true l r h))
 
 abbrev line_in : ℕ → Addr → FinSet addr_cmp → Bool
 line_in g x b = list_any (λ y. addr_eq (line_of g x) (line_of g y)) (set.items b)

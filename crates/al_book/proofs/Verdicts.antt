@@ -15,7 +15,7 @@ use Rattle.al_core.specs.Chunk.{Outcome}
 use Rattle.al_core.specs.Clash.{meets_lines, clashes}
 use Rattle.al_core.specs.Verdicts.{Judging, nothing_judged, is_in_order, commit_or_trap, verdict_of, after_verdict, judged, verdicts_from, verdicts, is_committed, cons_if, committed}
 use Rattle.al_board.specs.Core.{Event, IsHistory, played, first_pieces}
-use Rattle.al_board.specs.Verdicts.{in_order} 
+use Rattle.al_board.specs.Verdicts.{in_order}
 use Rattle.al_board.proofs.Verdicts.{verdicts_are}
 use Rattle.al_laws.proofs.Meeting.{meets_nothing}
 use Rattle.al_book.specs.Judging.{ends_in_trap, unreduced, judging_after, clashes_with_one, verdict_by, failed_after, trapped_after, verdict_after, verdicts_on, HistoriesAreJudged}

@@ -32,11 +32,7 @@ pub struct Settled<T> {
 impl<T: BookPiece> Book<T> {
     /// A book of as many lanes as the task has, from 1 to 64, and its first pass. The pieces are judged by the task's
     /// choice. The error is want of memory.
-    pub fn new(
-        alloc: Global,
-        lanes: u32,
-        task: T::Task,
-    ) -> Result<(Book<T>, Pass<T>), AllocError>
+    pub fn new(alloc: Global, lanes: u32, task: T::Task) -> Result<(Book<T>, Pass<T>), AllocError>
         requires lanes { (1 ≤ lanes) × (lanes ≤ 64) × (T.lanes task ≡ lanes) }
         requires line { IsLineSize (T.choice task).line }
         ensures book { IfOk result (λ r. (lane_count r.0.board ≡ lanes) × (task_of r.0.board ≡ task)) }
