@@ -1,4 +1,4 @@
 mod Sets
 mod Verdicts
-mod Shelves
+pub mod Shelves
 mod Books
