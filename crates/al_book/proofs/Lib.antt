@@ -1,0 +1,4 @@
+mod Sets
+mod Verdicts
+pub mod Shelves
+mod Books

@@ -1,0 +1,3 @@
+mod Tasks
+mod Keeping
+mod Told
