@@ -1,0 +1,7 @@
+pub mod Jobs
+pub mod Executions
+pub mod Counting
+pub mod Worlds
+pub mod Starts
+pub mod Ends
+pub mod Pending

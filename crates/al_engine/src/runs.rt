@@ -1,0 +1,156 @@
+ghost use Rattle.std.specs.Prelude.{◌≡◌, ◌+◌, ◌-◌, ◌<◌, ◌^◌, IfOk};
+ghost use Rattle.al_core.specs.declared.typed_tree.Typed.{Typed};
+ghost use Rattle.al_core.specs.Limits.{AreInRange};
+ghost use Rattle.al_core.specs.Report as report;
+ghost use Rattle.al_core.specs.Run as spec;
+ghost use Rattle.al_code.specs.Valid.{IsValid};
+ghost use Rattle.al_laws.specs.Rounds.{RoundsFit};
+ghost use Rattle.al_engine.specs.Ends.{EndsAs, report_by};
+ghost use Rattle.al_engine.specs.Jobs.{HaveLineSizes, IsCodeOf, MayRun, setting_of};
+ghost use Rattle.al_engine.specs.Worlds.{whole_of};
+
+use crate::counts::Counts;
+use crate::job::Job;
+use crate::seen::Seen;
+use crate::start::{globals, main_call};
+use crate::world::World;
+use al_code::Code;
+use al_core::{Budget, Choice, Ending, Knobs, Report, View};
+use al_exec::Stop;
+use al_pages::PageStore;
+use al_round::Gate;
+use al_snap::Names;
+use sqlite_items::Items;
+use std::alloc::{AllocError, Global};
+use std::thread::Threads;
+
+/// The end of a run.
+#[derive(Drop)]
+struct End {
+    ending: Ending,
+    /// The steps that are left.
+    left: u64,
+    world: World<PageStore>,
+}
+
+/// The world at the start of a program.
+fn start(alloc: Global, code: &Code) -> Result<World<PageStore>, AllocError>
+    ensures { IfOk result (λ w. (job : Job) (typed : Typed) → IsCodeOf typed code.now →
+        whole_of (⟦<Seen<PageStore> as View>⟧.content w.seen) w.executions w.counts
+        ≡ (spec.start (setting_of job typed)).world) }
+{
+    let store = globals(alloc, code.globals.as_slice())?;
+    Ok(World {
+        seen: Seen {
+            alloc,
+            store,
+            names: Names::outer(),
+            printed: Items::new(alloc),
+        },
+        executions: 0,
+        counts: Counts::none(alloc),
+    })
+}
+
+/// Runs a program from its start to its end, from stop to stop.
+fn run_code<R: Threads + Sync, G: Gate>(
+    rt: &R,
+    alloc: Global,
+    job: &Job<'_>,
+    gate: &G,
+) -> Result<End, AllocError>
+    requires { MayRun job.now }
+    ensures { IfOk result (λ end. (typed : Typed) → IsCodeOf typed job.now.code.now →
+        EndsAs (spec.whole_run (setting_of job.now typed)) end.ending
+        (whole_of (⟦<Seen<PageStore> as View>⟧.content end.world.seen) end.world.executions end.world.counts)
+        end.left) }
+{
+    let mut m = main_call(alloc, job.code)?;
+    let mut world = start(alloc, job.code)?;
+    let mut budget = Budget::new(job.knobs.serial_steps);
+    for _stop in 0..u64::MAX {
+        let ending = match m.go(job.code, job.input, &mut world.seen, &mut budget)? {
+            Stop::AtLoop { number, lo, hi } => {
+                let (after, ending) = world.answer(rt, alloc, job, number, lo, hi, &mut m, gate)?;
+                world = after;
+                if ending == Ending::Done {
+                    continue;
+                }
+                ending
+            }
+            Stop::Ended(_) => Ending::Done,
+            Stop::Trapped(t, line) => Ending::Trap(t, line),
+        };
+        return Ok(End {
+            ending,
+            left: budget.left(),
+            world,
+        });
+    }
+    Err(AllocError)
+}
+
+/// The report of a run that ended so, from its budget of steps.
+fn told(alloc: Global, steps: u64, end: End, watch: bool) -> Result<Report, AllocError>
+    ensures { IfOk result (λ r. r ≡ report.watched watch (report_by end.ending steps
+        (whole_of (⟦<Seen<PageStore> as View>⟧.content end.world.seen) end.world.executions end.world.counts)
+        end.left)) }
+{
+    let End {
+        ending,
+        left,
+        world,
+    } = end;
+    let World {
+        seen,
+        executions: _,
+        counts,
+    } = world;
+    let outside = u128::from(steps.saturating_sub(left));
+    Ok(Report {
+        output: seen.printed,
+        ending,
+        loops: counts.loops,
+        rounds: counts.rounds,
+        attempts: counts.attempts,
+        aborted: counts.aborted,
+        span: outside.checked_add(counts.span).ok_or(AllocError)?,
+        events: if watch {
+            counts.events
+        } else {
+            Items::new(alloc)
+        },
+    })
+}
+
+/// Runs the code of a program, plain where an annotated loop has no choice and else in rounds, whose chunks run on so
+/// many threads as the knobs say. The number of threads and the gate, which is called round each chunk's run, change
+/// nothing of the report. It has no events where nobody watches.
+#[tactic(auto, unfolding(al_core::specs::Report::report))]
+pub fn run<R: Threads + Sync, G: Gate>(
+    rt: &R,
+    alloc: Global,
+    code: &Code,
+    input: &[i64],
+    knobs: &Knobs,
+    choices: &[Option<Choice>],
+    watch: bool,
+    gate: &G,
+) -> Result<Report, AllocError>
+    requires valid { IsValid code.now }
+    requires range { AreInRange knobs.now }
+    requires lines { HaveLineSizes choices.now }
+    ensures exact { IfOk result (λ told. (typed : Typed) → IsCodeOf typed code.now
+        → told ≡ report.watched watch (report.report typed input.now (spec.sizes_of knobs.now) choices.now)) }
+    ensures rounds { (typed : Typed)
+        → RoundsFit (report.report typed input.now (spec.sizes_of knobs.now) choices.now).events }
+{
+    let job = Job {
+        code,
+        input,
+        knobs: *knobs,
+        choices,
+    };
+    let end = run_code(rt, alloc, &job, gate)?;
+    told(alloc, knobs.serial_steps, end, watch)
+}
