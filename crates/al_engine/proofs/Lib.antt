@@ -1,1 +1,5 @@
-
+pub mod PendingChunks
+pub mod RoundRuns
+pub mod Counted
+pub mod Mains
+pub mod Stopping

@@ -24,5 +24,5 @@ report_of chunks m r = record {
 
 -- the round comes after the earlier ones, and its committed chunks are taken away
 pub record GoesOn (lanes : ℕ) (pending : List ℕ) (r : Round) (so_far new : Rounds) (left : List ℕ) : Type 0 where
-  pub rounds : new ≡ with_round r so_far
-  pub left : left ≡ still_pending lanes pending r
+  pub comes : new ≡ with_round r so_far
+  pub stay : left ≡ still_pending lanes pending r

@@ -1,5 +1,6 @@
-ghost use Rattle.std.specs.Prelude.{◌≡◌, ◌+◌, ◌-◌, ◌<◌, ◌^◌, IfOk};
+ghost use Rattle.std.specs.Prelude.{◌≡◌, IfOk, IfSome, OnOk, slice_set};
 ghost use Rattle.al_core.specs.declared.typed_tree.Typed.{Typed};
+ghost use Rattle.al_core.specs.declared.values.Val.TheVariants.{Int};
 ghost use Rattle.al_core.specs.Limits.{AreInRange};
 ghost use Rattle.al_core.specs.Report as report;
 ghost use Rattle.al_core.specs.Run as spec;
@@ -7,7 +8,8 @@ ghost use Rattle.al_code.specs.Valid.{IsValid};
 ghost use Rattle.al_laws.specs.Rounds.{RoundsFit};
 ghost use Rattle.al_engine.specs.Ends.{EndsAs, report_by};
 ghost use Rattle.al_engine.specs.Jobs.{HaveLineSizes, IsCodeOf, MayRun, setting_of};
-ghost use Rattle.al_engine.specs.Worlds.{whole_of};
+ghost use Rattle.al_engine.specs.Rests.{IsAt, IsNext, IsStopped};
+ghost use Rattle.al_engine.specs.Worlds.{locals_or, whole_of};
 
 use crate::counts::Counts;
 use crate::job::Job;
@@ -16,10 +18,11 @@ use crate::start::{globals, main_call};
 use crate::world::World;
 use al_code::Code;
 use al_core::{Budget, Choice, Ending, Knobs, Report, View};
-use al_exec::Stop;
+use al_exec::{Machine, Stop};
 use al_pages::PageStore;
 use al_round::Gate;
 use al_snap::Names;
+use al_values::PackedValue;
 use sqlite_items::Items;
 use std::alloc::{AllocError, Global};
 use std::thread::Threads;
@@ -39,7 +42,7 @@ fn start(alloc: Global, code: &Code) -> Result<World<PageStore>, AllocError>
         whole_of (⟦<Seen<PageStore> as View>⟧.content w.seen) w.executions w.counts
         ≡ (spec.start (setting_of job typed)).world) }
 {
-    let store = globals(alloc, code.globals.as_slice())?;
+    let store = globals(alloc, PageStore::new(alloc), code.globals.as_slice())?;
     Ok(World {
         seen: Seen {
             alloc,
@@ -50,6 +53,94 @@ fn start(alloc: Global, code: &Code) -> Result<World<PageStore>, AllocError>
         executions: 0,
         counts: Counts::none(alloc),
     })
+}
+
+/// The machine goes on after a loop that left these locals, and this value of its counter.
+fn go_on(
+    m: &mut Machine,
+    locals: Option<Items<PackedValue>>,
+    counter: i64,
+) -> Result<(), AllocError>
+    requires { IfSome locals (λ ls. slice_set ls m.old.counter (Int counter) ≡ ls) }
+    ensures { OnOk result (m.new ≡ record m.old { active = record m.old.active {
+      locals = locals_or m.old.active.locals locals;
+    } }) }
+{
+    let Some(locals) = locals else {
+        return Ok(());
+    };
+    // an execution keeps how many locals there are
+    if locals.len() != m.locals().len() {
+        return Err(AllocError);
+    }
+    m.after_loop(locals.as_slice(), counter);
+    Ok(())
+}
+
+/// Answers the loop at which the machine stands. It answers how the run ended, if it did.
+fn answer_stop<R: Threads + Sync, G: Gate>(
+    rt: &R,
+    alloc: Global,
+    job: &Job<'_>,
+    number: u32,
+    lo: i64,
+    hi: i64,
+    m: &mut Machine,
+    left: u64,
+    world: World<PageStore>,
+    gate: &G,
+) -> Result<(World<PageStore>, Option<Ending>), AllocError>
+    requires may { MayRun job.now }
+    requires stopped { IsStopped job.now number lo hi m.old left
+        (whole_of (⟦<Seen<PageStore> as View>⟧.content world.seen) world.executions world.counts) }
+    ensures { IfOk result (λ r. IsNext job.now m.new left
+        (whole_of (⟦<Seen<PageStore> as View>⟧.content r.0.seen) r.0.executions r.0.counts) r.1) }
+{
+    let done = world.answer(rt, alloc, job, number, lo, hi, m.locals(), gate)?;
+    match done.ending {
+        Ending::Done => {
+            go_on(m, done.locals, lo.max(hi))?;
+            Ok((done.world, None))
+        }
+        Ending::Trap(t, line) => Ok((done.world, Some(Ending::Trap(t, line)))),
+    }
+}
+
+/// Runs to the next stop, and answers it. It answers how the run ended, if it did.
+fn go_to_stop<R: Threads + Sync, G: Gate>(
+    rt: &R,
+    alloc: Global,
+    job: &Job<'_>,
+    m: &mut Machine,
+    budget: &mut Budget,
+    world: World<PageStore>,
+    gate: &G,
+) -> Result<(World<PageStore>, Option<Ending>), AllocError>
+    requires may { MayRun job.now }
+    requires at { IsAt job.now m.old budget.old
+        (whole_of (⟦<Seen<PageStore> as View>⟧.content world.seen) world.executions world.counts) }
+    ensures { IfOk result (λ r. IsNext job.now m.new budget.new
+        (whole_of (⟦<Seen<PageStore> as View>⟧.content r.0.seen) r.0.executions r.0.counts) r.1) }
+{
+    let World {
+        mut seen,
+        executions,
+        counts,
+    } = world;
+    let stop = m.go(job.code, job.input, &mut seen, budget)?;
+    let world = World {
+        seen,
+        executions,
+        counts,
+    };
+    match stop {
+        Stop::Ended(_) => Ok((world, Some(Ending::Done))),
+        Stop::Trapped(t, line) => Ok((world, Some(Ending::Trap(t, line)))),
+        Stop::AtLoop { number, lo, hi } => {
+            let left = budget.left();
+            answer_stop(rt, alloc, job, number, lo, hi, m, left, world, gate)
+        }
+    }
 }
 
 /// Runs a program from its start to its end, from stop to stop.
@@ -69,23 +160,15 @@ fn run_code<R: Threads + Sync, G: Gate>(
     let mut world = start(alloc, job.code)?;
     let mut budget = Budget::new(job.knobs.serial_steps);
     for _stop in 0..u64::MAX {
-        let ending = match m.go(job.code, job.input, &mut world.seen, &mut budget)? {
-            Stop::AtLoop { number, lo, hi } => {
-                let (after, ending) = world.answer(rt, alloc, job, number, lo, hi, &mut m, gate)?;
-                world = after;
-                if ending == Ending::Done {
-                    continue;
-                }
-                ending
-            }
-            Stop::Ended(_) => Ending::Done,
-            Stop::Trapped(t, line) => Ending::Trap(t, line),
-        };
-        return Ok(End {
-            ending,
-            left: budget.left(),
-            world,
-        });
+        let (after, ended) = go_to_stop(rt, alloc, job, &mut m, &mut budget, world, gate)?;
+        world = after;
+        if let Some(ending) = ended {
+            return Ok(End {
+                ending,
+                left: budget.left(),
+                world,
+            });
+        }
     }
     Err(AllocError)
 }

@@ -1,7 +1,6 @@
-ghost use Rattle.std.specs.Prelude.{◌≡◌, Some, IfOk, slice_get};
+ghost use Rattle.std.specs.Prelude.{◌≡◌, [], Some, IfOk, slice_get};
 ghost use Rattle.al_core.specs.Run as spec;
-ghost use Rattle.al_core.specs.Memory.{Memory};
-ghost use Rattle.al_code.specs.Machine.{frame_at};
+ghost use Rattle.al_heap.specs.Stores.{no_memory};
 ghost use Rattle.al_code.specs.Valid.{IsValid};
 ghost use Rattle.al_code.specs.declared.lowered.Entry.{Entry};
 ghost use Rattle.al_exec.specs.Starts.{StartsFunction};
@@ -11,7 +10,6 @@ use al_code::Code;
 use al_core::{Obj, TGlobal, Val};
 use al_exec::Machine;
 use al_heap::Store;
-use al_pages::PageStore;
 use al_values::{PackedValue, Words};
 use sqlite_items::Items;
 use std::alloc::{AllocError, Global};
@@ -25,12 +23,17 @@ fn start_words(alloc: Global, g: &TGlobal) -> Result<Words, AllocError>
     Ok(words)
 }
 
-/// A store with the globals of a program at its start.
-pub(crate) fn globals(alloc: Global, all: &[TGlobal]) -> Result<PageStore, AllocError>
-    ensures { IfOk result (λ store. ⟦<PageStore as Store>⟧.memory store
+/// The empty store with the globals of a program at its start.
+pub(crate) fn globals<S: Store + Drop>(
+    alloc: Global,
+    empty: S,
+    all: &[TGlobal],
+) -> Result<S, AllocError>
+    requires { S.memory empty ≡ no_memory }
+    ensures { IfOk result (λ store. S.memory store
         ≡ record { objects = spec.globals_from 0 all.now; locals = [] }) }
 {
-    let mut store = PageStore::new(alloc);
+    let mut store = empty;
     let mut left = all.len();
     while left > 0 {
         left -= 1;
@@ -46,23 +49,19 @@ pub(crate) fn globals(alloc: Global, all: &[TGlobal]) -> Result<PageStore, Alloc
 fn zeros(alloc: Global, count: u32) -> Result<Items<Val>, AllocError>
     ensures { IfOk result (λ all. all ≡ no_arguments count) }
 {
-    let mut all = Items::new(alloc);
-    for _i in 0..count {
-        all.push(Val::Int(0))?;
-    }
-    Ok(all)
+    Ok(Items::from_vec(vec![in alloc; Val::Int(0); count as usize]?))
 }
 
 /// A machine before the call of `main`, whose locals are all 0.
 pub(crate) fn main_call(alloc: Global, code: &Code) -> Result<Machine, AllocError>
     requires { IsValid code.now }
-    ensures { IfOk result (λ m. (e : Entry) → slice_get code.now.funcs code.now.main ≡ Some e
-        → StartsFunction code.now e (no_arguments e.params) m) }
+    ensures { IfOk result (λ m. (e : Entry) × (slice_get code.now.funcs code.now.main ≡ Some e)
+        × StartsFunction code.now e (no_arguments e.params) m) }
 {
-    let params = match code.funcs.get(code.main as usize) {
-        Some(entry) => entry.params,
-        None => 0,
+    let Some(entry) = code.funcs.get(code.main as usize) else {
+        return Err(AllocError);
     };
-    let args = zeros(alloc, params)?;
-    Machine::call(alloc, code, code.main, args.as_slice())
+    let args = zeros(alloc, entry.params)?;
+    let m = Machine::call(alloc, code, code.main, args.as_slice())?;
+    Ok(m)
 }

@@ -1,11 +1,13 @@
-ghost use Rattle.std.specs.Prelude.{◌≡◌, Some, IfOk, OnOk, slice_get};
+ghost use Rattle.std.specs.Prelude.{◌≡◌, List, Some, None, IfOk, IfSome, slice_get};
 ghost use Rattle.al_core.specs.declared.choices.LoopInfo.{LoopInfo};
 ghost use Rattle.al_core.specs.declared.typed_tree.Typed.{Typed};
 ghost use Rattle.al_core.specs.Loops.{loop_at};
+ghost use Rattle.al_core.specs.declared.values.Val.{Val};
 ghost use Rattle.al_core.specs.Run as spec;
-ghost use Rattle.al_engine.specs.Executions.{InTrees, MayEnter};
+ghost use Rattle.al_core.specs.Run.{Whole};
+ghost use Rattle.al_engine.specs.Executions.{InTrees, MayEnter, loop_result};
 ghost use Rattle.al_engine.specs.Jobs.{IsCodeOf, MayRun, setting_of};
-ghost use Rattle.al_engine.specs.Worlds.{IsLeftAt, answer_by, whole_of};
+ghost use Rattle.al_engine.specs.Worlds.{HasCounter, IsBefore, answer_by, whole_of};
 
 use crate::counts::Counts;
 use crate::entered::Entered;
@@ -14,9 +16,9 @@ use crate::job::Job;
 use crate::seen::Seen;
 use al_chunk::LoopEnv;
 use al_core::{Ending, LoopInfo, View, trips};
-use al_exec::Machine;
 use al_heap::Store;
 use al_round::Gate;
+use al_snap::Names;
 use al_values::PackedValue;
 use sqlite_items::Items;
 use std::alloc::{AllocError, Global};
@@ -30,84 +32,139 @@ pub(crate) struct World<S> {
     pub counts: Counts,
 }
 
-/// Gives a machine the locals that an execution left, and its loop's counter, where there was no trap.
+/// How an annotated loop was answered.
+#[derive(Drop)]
+pub(crate) struct Answered<S> {
+    pub world: World<S>,
+    pub ending: Ending,
+    /// The locals that it left, with its counter. There are none where it changed none, or trapped.
+    pub locals: Option<Items<PackedValue>>,
+}
+
+/// The locals after an execution that left these, where there was no trap: its counter holds the greater of its start
+/// and its bound.
 fn after_loop(
-    m: &mut Machine,
     x: &Entered<'_>,
     ending: Ending,
-    locals: &[PackedValue],
-) -> Result<(), AllocError>
-    requires may { MayEnter x.now }
-    requires counter { m.old.counter ≡ x.now.info.now.counter }
-    ensures answer { OnOk result (InTrees x.now (λ e.
-        spec.after_loop e x.now.hi ending locals.now ≡ answer_by ending m.new.active.locals)) }
-    ensures same { IsLeftAt m.old m.new }
+    mut locals: Items<PackedValue>,
+) -> Option<Items<PackedValue>>
+    requires { MayEnter x.now }
+    ensures answer { (old : List Val) → InTrees x.now (λ e.
+        spec.after_loop e x.now.hi ending locals ≡ answer_by ending old result) }
+    ensures counter { IfSome result (λ ls. HasCounter x.now.info.now x.now.env.lo x.now.hi ls) }
 {
     match ending {
         Ending::Done => {
-            // an execution keeps how many locals there are
-            if locals.len() != m.locals().len() {
-                return Err(AllocError);
+            let counter = x.info.counter as usize;
+            if counter < locals.len() {
+                locals.set(counter, PackedValue::from_int(x.env.lo.max(x.hi)));
             }
-            m.after_loop(locals, x.env.lo.max(x.hi));
-            Ok(())
+            Some(locals)
         }
-        Ending::Trap(_, _) => Ok(()),
+        Ending::Trap(_, _) => None,
     }
 }
 
+/// What a world has besides its store, while an execution runs.
+#[derive(Drop)]
+struct Before {
+    names: Names,
+    printed: Items<u8>,
+    executions: u32,
+    counts: Counts,
+}
+
+/// The world after an execution that came to this.
+fn come_back<S: Store + Drop>(
+    alloc: Global,
+    x: &Entered<'_>,
+    before: Before,
+    done: LoopResult<S>,
+) -> Result<Answered<S>, AllocError>
+    requires { MayEnter x.now }
+    ensures did { IfOk result (λ r. (old : List Val) (w : Whole) → IsBefore before w → InTrees x.now (λ e.
+        spec.come_back e x.now.hi w (loop_result (S.memory done.store) done.printed done.ending done.counts)
+        ≡ (answer_by r.ending old r.locals,
+        whole_of (⟦<Seen<S> as View>⟧.content r.world.seen) r.world.executions r.world.counts))) }
+    ensures counter { IfOk result (λ r. IfSome r.locals (λ ls.
+        HasCounter x.now.info.now x.now.env.lo x.now.hi ls)) }
+{
+    let Before {
+        names,
+        mut printed,
+        executions,
+        mut counts,
+    } = before;
+    let LoopResult {
+        mut store,
+        printed: more,
+        ending,
+        counts: added,
+    } = done;
+    let locals = store.take_locals();
+    printed.append(more)?;
+    counts.add(added)?;
+    let executions = executions.checked_add(1).ok_or(AllocError)?;
+    let seen = Seen {
+        alloc,
+        store,
+        names,
+        printed,
+    };
+    Ok(Answered {
+        world: World {
+            seen,
+            executions,
+            counts,
+        },
+        ending,
+        locals: after_loop(x, ending, locals),
+    })
+}
+
 impl<S: Store + Sync + Drop> World<S> {
-    /// Runs an execution of an annotated loop, at which the machine stands. Its number is that of the next.
+    /// Runs an execution of an annotated loop from these locals. Its number is that of the next.
     fn run_loop<R: Threads + Sync, G: Gate>(
         self,
         rt: &R,
         alloc: Global,
         x: &Entered<'_>,
-        m: &mut Machine,
+        locals: Items<PackedValue>,
         gate: &G,
-    ) -> Result<(World<S>, Ending), AllocError>
+    ) -> Result<Answered<S>, AllocError>
         requires may { MayEnter x.now }
         requires number { x.now.env.execution ≡ self.executions }
-        requires counter { m.old.counter ≡ x.now.info.now.counter }
         ensures did { IfOk result (λ r. InTrees x.now (λ e.
-            spec.run_loop (setting_of x.now.job e.typed) e x.now.hi m.old.active.locals
+            spec.run_loop (setting_of x.now.job e.typed) e x.now.hi locals
             (whole_of (⟦<Seen<S> as View>⟧.content self.seen) self.executions self.counts)
-            ≡ (answer_by r.1 m.new.active.locals,
-            whole_of (⟦<Seen<S> as View>⟧.content r.0.seen) r.0.executions r.0.counts))) }
-        ensures same { IsLeftAt m.old m.new }
+            ≡ (answer_by r.ending locals r.locals,
+            whole_of (⟦<Seen<S> as View>⟧.content r.world.seen) r.world.executions r.world.counts))) }
+        ensures counter { IfOk result (λ r. IfSome r.locals (λ ls.
+            HasCounter x.now.info.now x.now.env.lo x.now.hi ls)) }
     {
-        let locals = Items::from_slice(alloc, m.locals())?;
         let World {
-            mut seen,
-            executions,
-            mut counts,
-        } = self;
-        seen.store.set_locals(locals);
-        let LoopResult {
-            mut store,
-            printed,
-            ending,
-            counts: more,
-        } = execute(rt, alloc, x, seen.store, gate)?;
-        let locals = store.take_locals();
-        after_loop(m, x, ending, locals.as_slice())?;
-        seen.printed.append(printed)?;
-        counts.add(more)?;
-        let seen = Seen {
-            alloc,
-            store,
-            names: seen.names,
-            printed: seen.printed,
-        };
-        let world = World {
             seen,
-            executions: executions.checked_add(1).ok_or(AllocError)?,
+            executions,
+            counts,
+        } = self;
+        let Seen {
+            alloc: _,
+            mut store,
+            names,
+            printed,
+        } = seen;
+        store.set_locals(locals);
+        let done = execute(rt, alloc, x, store, gate)?;
+        let before = Before {
+            names,
+            printed,
+            executions,
             counts,
         };
-        Ok((world, ending))
+        come_back(alloc, x, before, done)
     }
 
-    /// Answers an annotated loop at which the machine stands. Too many trips trap at its line, and are no execution.
+    /// Answers an annotated loop, from the frame's locals. Too many trips trap at its line, and are no execution.
     pub fn answer<R: Threads + Sync, G: Gate>(
         self,
         rt: &R,
@@ -116,21 +173,20 @@ impl<S: Store + Sync + Drop> World<S> {
         number: u32,
         lo: i64,
         hi: i64,
-        m: &mut Machine,
+        locals: &[PackedValue],
         gate: &G,
-    ) -> Result<(World<S>, Ending), AllocError>
+    ) -> Result<Answered<S>, AllocError>
         requires may { MayRun job.now }
-        requires counter { (info : LoopInfo) → slice_get job.now.code.now.loops number ≡ Some info
-            → m.old.counter ≡ info.counter }
         ensures did { IfOk result (λ r. (typed : Typed) → IsCodeOf typed job.now.code.now
-            → spec.visit_loop (setting_of job.now typed) lo hi m.old.active.locals
+            → spec.visit_loop (setting_of job.now typed) lo hi locals.now
             (whole_of (⟦<Seen<S> as View>⟧.content self.seen) self.executions self.counts) (loop_at typed number)
-            ≡ (answer_by r.1 m.new.active.locals,
-            whole_of (⟦<Seen<S> as View>⟧.content r.0.seen) r.0.executions r.0.counts)) }
-        ensures same { IsLeftAt m.old m.new }
+            ≡ (answer_by r.ending locals.now r.locals,
+            whole_of (⟦<Seen<S> as View>⟧.content r.world.seen) r.world.executions r.world.counts)) }
+        ensures counter { IfOk result (λ r. IfSome r.locals (λ ls. (info : LoopInfo)
+            → slice_get job.now.code.now.loops number ≡ Some info → HasCounter info lo hi ls)) }
     {
         let Some(info) = job.code.loops.get(number as usize) else {
-            return Ok((self, Ending::Done));
+            return Ok(self.unchanged(Ending::Done));
         };
         match trips(lo, hi) {
             Ok(trips) => {
@@ -147,9 +203,20 @@ impl<S: Store + Sync + Drop> World<S> {
                     env,
                     hi,
                 };
-                self.run_loop(rt, alloc, &x, m, gate)
+                let locals = Items::from_slice(alloc, locals)?;
+                self.run_loop(rt, alloc, &x, locals, gate)
             }
-            Err(t) => Ok((self, Ending::Trap(t, info.line))),
+            Err(t) => Ok(self.unchanged(Ending::Trap(t, info.line))),
+        }
+    }
+
+    fn unchanged(self, ending: Ending) -> Answered<S>
+        ensures { result ≡ record { world = self; ending = ending; locals = None } }
+    {
+        Answered {
+            world: self,
+            ending,
+            locals: None,
         }
     }
 }
