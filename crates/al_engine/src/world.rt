@@ -1,4 +1,4 @@
-ghost use Rattle.std.specs.Prelude.{◌≡◌, List, Some, None, IfOk, IfSome, slice_get};
+ghost use Rattle.std.specs.Prelude.{◌≡◌, List, Some, None, IfOk, IfSome, slice_get, slice_set};
 ghost use Rattle.al_core.specs.declared.choices.LoopInfo.{LoopInfo};
 ghost use Rattle.al_core.specs.declared.typed_tree.Typed.{Typed};
 ghost use Rattle.al_core.specs.Loops.{loop_at};
@@ -41,8 +41,18 @@ pub(crate) struct Answered<S> {
     pub locals: Option<Items<PackedValue>>,
 }
 
+/// Puts a value in place of a local, where there is one.
+fn set_at(locals: &mut Items<PackedValue>, k: u32, v: PackedValue)
+    ensures { locals.new ≡ slice_set locals.old k v }
+{
+    if (k as usize) < locals.len() {
+        locals.set(k as usize, v);
+    }
+}
+
 /// The locals after an execution that left these, where there was no trap: its counter holds the greater of its start
 /// and its bound.
+#[tactic(auto, using(crate::proofs::Counters::counter_set))]
 fn after_loop(
     x: &Entered<'_>,
     ending: Ending,
@@ -55,10 +65,7 @@ fn after_loop(
 {
     match ending {
         Ending::Done => {
-            let counter = x.info.counter as usize;
-            if counter < locals.len() {
-                locals.set(counter, PackedValue::from_int(x.env.lo.max(x.hi)));
-            }
+            set_at(&mut locals, x.info.counter, PackedValue::from_int(x.env.lo.max(x.hi)));
             Some(locals)
         }
         Ending::Trap(_, _) => None,
