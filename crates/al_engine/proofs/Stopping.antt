@@ -43,7 +43,7 @@ module _ (answer : Answerer) (input : List ℤ) (code : Code) where
 
   -- ---- to the next stop
 
-  abbrev to_stop : Beginning → Spot → ℕ → Act Content (Option Stop)
+  abbrev pub to_stop : Beginning → Spot → ℕ → Act Content (Option Stop)
   to_stop b c n = begun b (exec_to_stop in_iteration Outside input code n c)
 
   abbrev to_stop_whole : Beginning → Spot → ℕ → Act Whole (Option Stop)

@@ -8,10 +8,10 @@ use Rattle.al_core.specs.Iteration.{ending_of}
 use Rattle.al_core.specs.Run.{Whole}
 
 -- a run ended so, with this world and so many steps left
-pub record EndsAs (r : Answer Val × State Whole) (ending : Ending) (w : Whole) (budget : ℕ) : Type 0 where
-  pub ending : ending_of r.0 ≡ ending
+pub record EndsAs (r : Answer Val × State Whole) (how : Ending) (w : Whole) (left : ℕ) : Type 0 where
+  pub ending : ending_of r.0 ≡ how
   pub world : r.1.world ≡ w
-  pub budget : r.1.budget ≡ budget
+  pub budget : r.1.budget ≡ left
 
 abbrev pub report_by : Ending → ℕ → Whole → ℕ → Report
 report_by ending steps w left = record {

@@ -1,18 +1,31 @@
 -- Executions of annotated loops, and what they come to.
-use Rattle.std.specs.Prelude.{◌≡◌, ℕ, List, Some, Ok, slice_get}
+use Rattle.std.specs.Prelude.{◌≡◌, ℕ, List, Some, None, Ok, slice_get}
+use Rattle.al_core.specs.declared.choices.LoopInfo.{LoopInfo}
+use Rattle.al_core.specs.declared.typed_tree.Typed.{Typed}
 use Rattle.al_core.specs.declared.reports.Ending.{Ending}
 use Rattle.al_core.specs.declared.reports.Event.{Event}
 use Rattle.al_core.specs.declared.reports.Event.TheVariants as event
 use Rattle.al_core.specs.Values.{trips}
 use Rattle.al_core.specs.Memory.{Memory}
+use Rattle.al_core.specs.Loops.{loop_at}
 use Rattle.al_core.specs.Iteration.{Execution}
+use Rattle.al_code.specs.declared.lowered.Code.{Code}
 use Rattle.al_core.specs.Lockstep as spec
 use Rattle.al_core.specs.Run.{Counts, LoopResult}
 use Rattle.al_chunk.specs.Loops.{IsBounded, InEachTree}
 use Rattle.al_engine.specs.declared.counts.Counts.{Counts as KeptCounts}
 use Rattle.al_engine.specs.declared.entered.Entered.{Entered}
 use Rattle.al_engine.specs.declared.rounds.Rounds.{Rounds}
-use Rattle.al_engine.specs.Jobs.{MayRun}
+use Rattle.al_engine.specs.Jobs.{IsCodeOf, MayRun}
+
+-- the code's loop of a number
+pub record IsLoop (code : Code) (number : ℕ) (info : LoopInfo) : Type 0 where
+  pub has : slice_get code.loops number ≡ Some info
+  pub same : info.number ≡ number
+
+-- no tree for which the code stands has such a loop
+abbrev pub HasNoLoop : Code → ℕ → Type 0
+HasNoLoop code number = (typed : Typed) → IsCodeOf typed code → loop_at typed number ≡ None
 
 -- the loop is the code's loop of its number, and has so many trips
 pub record MayEnter (x : Entered) : Type 0 where

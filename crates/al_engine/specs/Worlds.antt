@@ -1,5 +1,5 @@
 -- The world outside iterations, and how a loop is answered there.
-use Rattle.std.specs.Prelude.{◌≡◌, ℕ, List, Option, Some, None, Ok, Err, ℤ, slice_set}
+use Rattle.std.specs.Prelude.{◌≡◌, ℕ, List, Option, Some, None, Ok, Err, ℤ, slice_get, slice_set}
 use Rattle.std.specs.Int.{int_max}
 use Rattle.al_core.specs.declared.choices.LoopInfo.{LoopInfo}
 use Rattle.al_core.specs.declared.reports.Ending.{Ending}
@@ -9,6 +9,7 @@ use Rattle.al_core.specs.declared.values.Val.TheVariants.{Int}
 use Rattle.al_core.specs.Access.{Content}
 use Rattle.al_core.specs.Action.{Answer}
 use Rattle.al_core.specs.Run.{Whole}
+use Rattle.al_code.specs.declared.lowered.Code.{Code}
 use Rattle.al_engine.specs.declared.counts.Counts.{Counts}
 use Rattle.al_engine.specs.declared.world.Before.{Before}
 use Rattle.al_engine.specs.Executions.{counts_of}
@@ -39,3 +40,9 @@ answer_by (ending.Trap t line) old left = Err (t, line)
 -- the loop's counter holds the greater of its start and its bound
 abbrev pub HasCounter : LoopInfo → ℤ → ℤ → List Val → Type 0
 HasCounter info lo hi locals = slice_set locals info.counter (Int (int_max lo hi)) ≡ locals
+
+-- it is the code's loop of that number
+pub record IsCounted (code : Code) (number : ℕ) (lo hi : ℤ) (locals : List Val) : Type 0 where
+  pub info : LoopInfo
+  pub has : slice_get code.loops number ≡ Some info
+  pub counter : HasCounter info lo hi locals

@@ -5,6 +5,7 @@ ghost use Rattle.al_core.specs.Limits.{AreInRange};
 ghost use Rattle.al_core.specs.Report as report;
 ghost use Rattle.al_core.specs.Run as spec;
 ghost use Rattle.al_code.specs.Valid.{IsValid};
+ghost use Rattle.al_heap.specs.Stores.{no_memory};
 ghost use Rattle.al_laws.specs.Rounds.{RoundsFit};
 ghost use Rattle.al_engine.specs.Ends.{EndsAs, report_by};
 ghost use Rattle.al_engine.specs.Jobs.{HaveLineSizes, IsCodeOf, MayRun, setting_of};
@@ -19,6 +20,7 @@ use crate::world::World;
 use al_code::Code;
 use al_core::{Budget, Choice, Ending, Knobs, Report, View};
 use al_exec::{Machine, Stop};
+use al_heap::Store;
 use al_pages::PageStore;
 use al_round::Gate;
 use al_snap::Names;
@@ -29,20 +31,25 @@ use std::thread::Threads;
 
 /// The end of a run.
 #[derive(Drop)]
-struct End {
+struct End<S> {
     ending: Ending,
     /// The steps that are left.
     left: u64,
-    world: World<PageStore>,
+    world: World<S>,
 }
 
-/// The world at the start of a program.
-fn start(alloc: Global, code: &Code) -> Result<World<PageStore>, AllocError>
+/// The world at the start of a program, on an empty store.
+fn start<S: Store + Drop>(
+    alloc: Global,
+    code: &Code,
+    empty: S,
+) -> Result<World<S>, AllocError>
+    requires { S.memory empty ≡ no_memory }
     ensures { IfOk result (λ w. (job : Job) (typed : Typed) → IsCodeOf typed code.now →
-        whole_of (⟦<Seen<PageStore> as View>⟧.content w.seen) w.executions w.counts
+        whole_of (⟦<Seen<S> as View>⟧.content w.seen) w.executions w.counts
         ≡ (spec.start (setting_of job typed)).world) }
 {
-    let store = globals(alloc, PageStore::new(alloc), code.globals.as_slice())?;
+    let store = globals(alloc, empty, code.globals.as_slice())?;
     Ok(World {
         seen: Seen {
             alloc,
@@ -78,7 +85,7 @@ fn go_on(
 }
 
 /// Answers the loop at which the machine stands. It answers how the run ended, if it did.
-fn answer_stop<R: Threads + Sync, G: Gate>(
+fn answer_stop<R: Threads + Sync, S: Store + Sync + Drop, G: Gate>(
     rt: &R,
     alloc: Global,
     job: &Job<'_>,
@@ -87,14 +94,14 @@ fn answer_stop<R: Threads + Sync, G: Gate>(
     hi: i64,
     m: &mut Machine,
     left: u64,
-    world: World<PageStore>,
+    world: World<S>,
     gate: &G,
-) -> Result<(World<PageStore>, Option<Ending>), AllocError>
+) -> Result<(World<S>, Option<Ending>), AllocError>
     requires may { MayRun job.now }
     requires stopped { IsStopped job.now number lo hi m.old left
-        (whole_of (⟦<Seen<PageStore> as View>⟧.content world.seen) world.executions world.counts) }
+        (whole_of (⟦<Seen<S> as View>⟧.content world.seen) world.executions world.counts) }
     ensures { IfOk result (λ r. IsNext job.now m.new left
-        (whole_of (⟦<Seen<PageStore> as View>⟧.content r.0.seen) r.0.executions r.0.counts) r.1) }
+        (whole_of (⟦<Seen<S> as View>⟧.content r.0.seen) r.0.executions r.0.counts) r.1) }
 {
     let done = world.answer(rt, alloc, job, number, lo, hi, m.locals(), gate)?;
     match done.ending {
@@ -107,20 +114,20 @@ fn answer_stop<R: Threads + Sync, G: Gate>(
 }
 
 /// Runs to the next stop, and answers it. It answers how the run ended, if it did.
-fn go_to_stop<R: Threads + Sync, G: Gate>(
+fn go_to_stop<R: Threads + Sync, S: Store + Sync + Drop, G: Gate>(
     rt: &R,
     alloc: Global,
     job: &Job<'_>,
     m: &mut Machine,
     budget: &mut Budget,
-    world: World<PageStore>,
+    world: World<S>,
     gate: &G,
-) -> Result<(World<PageStore>, Option<Ending>), AllocError>
+) -> Result<(World<S>, Option<Ending>), AllocError>
     requires may { MayRun job.now }
     requires at { IsAt job.now m.old budget.old
-        (whole_of (⟦<Seen<PageStore> as View>⟧.content world.seen) world.executions world.counts) }
+        (whole_of (⟦<Seen<S> as View>⟧.content world.seen) world.executions world.counts) }
     ensures { IfOk result (λ r. IsNext job.now m.new budget.new
-        (whole_of (⟦<Seen<PageStore> as View>⟧.content r.0.seen) r.0.executions r.0.counts) r.1) }
+        (whole_of (⟦<Seen<S> as View>⟧.content r.0.seen) r.0.executions r.0.counts) r.1) }
 {
     let World {
         mut seen,
@@ -143,21 +150,23 @@ fn go_to_stop<R: Threads + Sync, G: Gate>(
     }
 }
 
-/// Runs a program from its start to its end, from stop to stop.
-fn run_code<R: Threads + Sync, G: Gate>(
+/// Runs a program from its start to its end, from stop to stop, on an empty store.
+fn run_code<R: Threads + Sync, S: Store + Sync + Drop, G: Gate>(
     rt: &R,
     alloc: Global,
     job: &Job<'_>,
+    empty: S,
     gate: &G,
-) -> Result<End, AllocError>
-    requires { MayRun job.now }
+) -> Result<End<S>, AllocError>
+    requires may { MayRun job.now }
+    requires empty { S.memory empty ≡ no_memory }
     ensures { IfOk result (λ end. (typed : Typed) → IsCodeOf typed job.now.code.now →
         EndsAs (spec.whole_run (setting_of job.now typed)) end.ending
-        (whole_of (⟦<Seen<PageStore> as View>⟧.content end.world.seen) end.world.executions end.world.counts)
+        (whole_of (⟦<Seen<S> as View>⟧.content end.world.seen) end.world.executions end.world.counts)
         end.left) }
 {
     let mut m = main_call(alloc, job.code)?;
-    let mut world = start(alloc, job.code)?;
+    let mut world = start(alloc, job.code, empty)?;
     let mut budget = Budget::new(job.knobs.serial_steps);
     for _stop in 0..u64::MAX {
         let (after, ended) = go_to_stop(rt, alloc, job, &mut m, &mut budget, world, gate)?;
@@ -174,9 +183,14 @@ fn run_code<R: Threads + Sync, G: Gate>(
 }
 
 /// The report of a run that ended so, from its budget of steps.
-fn told(alloc: Global, steps: u64, end: End, watch: bool) -> Result<Report, AllocError>
+fn told<S: Store + Drop>(
+    alloc: Global,
+    steps: u64,
+    end: End<S>,
+    watch: bool,
+) -> Result<Report, AllocError>
     ensures { IfOk result (λ r. r ≡ report.watched watch (report_by end.ending steps
-        (whole_of (⟦<Seen<PageStore> as View>⟧.content end.world.seen) end.world.executions end.world.counts)
+        (whole_of (⟦<Seen<S> as View>⟧.content end.world.seen) end.world.executions end.world.counts)
         end.left)) }
 {
     let End {
@@ -209,7 +223,7 @@ fn told(alloc: Global, steps: u64, end: End, watch: bool) -> Result<Report, Allo
 /// Runs the code of a program, plain where an annotated loop has no choice and else in rounds, whose chunks run on so
 /// many threads as the knobs say. The number of threads and the gate, which is called round each chunk's run, change
 /// nothing of the report. It has no events where nobody watches.
-#[tactic(auto, unfolding(al_core::specs::Report::report))]
+#[tactic(auto, using(al_laws::proofs::RoundsFitted::rounds_fit))]
 pub fn run<R: Threads + Sync, G: Gate>(
     rt: &R,
     alloc: Global,
@@ -234,6 +248,6 @@ pub fn run<R: Threads + Sync, G: Gate>(
         knobs: *knobs,
         choices,
     };
-    let end = run_code(rt, alloc, &job, gate)?;
+    let end = run_code(rt, alloc, &job, PageStore::new(alloc), gate)?;
     told(alloc, knobs.serial_steps, end, watch)
 }

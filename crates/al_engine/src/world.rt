@@ -1,13 +1,12 @@
-ghost use Rattle.std.specs.Prelude.{◌≡◌, List, Some, None, IfOk, IfSome, slice_get, slice_set};
-ghost use Rattle.al_core.specs.declared.choices.LoopInfo.{LoopInfo};
+ghost use Rattle.std.specs.Prelude.{◌≡◌, List, Some, None, IfOk, IfSome, MatchOption, slice_get, slice_set};
 ghost use Rattle.al_core.specs.declared.typed_tree.Typed.{Typed};
 ghost use Rattle.al_core.specs.Loops.{loop_at};
 ghost use Rattle.al_core.specs.declared.values.Val.{Val};
 ghost use Rattle.al_core.specs.Run as spec;
 ghost use Rattle.al_core.specs.Run.{Whole};
-ghost use Rattle.al_engine.specs.Executions.{InTrees, MayEnter, loop_result};
+ghost use Rattle.al_engine.specs.Executions.{HasNoLoop, InTrees, IsLoop, MayEnter, loop_result};
 ghost use Rattle.al_engine.specs.Jobs.{IsCodeOf, MayRun, setting_of};
-ghost use Rattle.al_engine.specs.Worlds.{HasCounter, IsBefore, answer_by, whole_of};
+ghost use Rattle.al_engine.specs.Worlds.{HasCounter, IsBefore, IsCounted, answer_by, whole_of};
 
 use crate::counts::Counts;
 use crate::entered::Entered;
@@ -15,6 +14,7 @@ use crate::executions::{LoopResult, execute};
 use crate::job::Job;
 use crate::seen::Seen;
 use al_chunk::LoopEnv;
+use al_code::Code;
 use al_core::{Ending, LoopInfo, View, trips};
 use al_heap::Store;
 use al_round::Gate;
@@ -129,6 +129,18 @@ fn come_back<S: Store + Drop>(
     })
 }
 
+/// The code's annotated loop of a number. Where there is none, a tree for which the code stands has none either.
+fn loop_of(code: &Code, number: u32) -> Option<&LoopInfo>
+    ensures { MatchOption result (HasNoLoop code.now number) (λ info. IsLoop code.now number info.now) }
+{
+    let info = code.loops.get(number as usize)?;
+    if info.number == number {
+        Some(info)
+    } else {
+        None
+    }
+}
+
 impl<S: Store + Sync + Drop> World<S> {
     /// Runs an execution of an annotated loop from these locals. Its number is that of the next.
     fn run_loop<R: Threads + Sync, G: Gate>(
@@ -189,10 +201,9 @@ impl<S: Store + Sync + Drop> World<S> {
             (whole_of (⟦<Seen<S> as View>⟧.content self.seen) self.executions self.counts) (loop_at typed number)
             ≡ (answer_by r.ending locals.now r.locals,
             whole_of (⟦<Seen<S> as View>⟧.content r.world.seen) r.world.executions r.world.counts)) }
-        ensures counter { IfOk result (λ r. IfSome r.locals (λ ls. (info : LoopInfo)
-            → slice_get job.now.code.now.loops number ≡ Some info → HasCounter info lo hi ls)) }
+        ensures counter { IfOk result (λ r. IfSome r.locals (λ ls. IsCounted job.now.code.now number lo hi ls)) }
     {
-        let Some(info) = job.code.loops.get(number as usize) else {
+        let Some(info) = loop_of(job.code, number) else {
             return Ok(self.unchanged(Ending::Done));
         };
         match trips(lo, hi) {
