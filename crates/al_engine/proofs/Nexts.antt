@@ -153,14 +153,10 @@ module _ (j : Job) (valid : IsValid j.code.now) (loop : ℕ) (lo hi : ℤ) (m : 
   with_other locals = record m { active = record m.active { locals = locals } }
 
   with_locals_at : (locals : List Val) → ((typed : Typed) → IsCodeOf typed j.code.now
-      → visit_loop (setting_of j typed) lo hi m.active.locals w (loop_at typed loop) ≡ (Ok locals, w')) → IsAt j (with_other locals) n w'
-  with_locals_at locals did = record {
-    stands = record {
-      fits = record { height = at.stands.fits.height; room = at.stands.fits.room };
-      callers = at.stands.callers;
-      tall = at.stands.tall;
-      calls = at.stands.calls;
-    };
+      → visit_loop (setting_of j typed) lo hi m.active.locals w (loop_at typed loop) ≡ (Ok locals, w'))
+      → Stands j.code.now (with_other locals) → IsAt j (with_other locals) n w'
+  with_locals_at locals did stands = record {
+    stands = stands;
     outside = at.outside;
     begins = subst IsBeginning (sym at.running) tt;
     leads = λ typed is e has k.
@@ -178,9 +174,10 @@ module _ (j : Job) (valid : IsValid j.code.now) (loop : ℕ) (lo hi : ℤ) (m : 
   -- the loop was answered, and the machine has its locals
   pub answered_on : (left : Option (List Val)) → ((typed : Typed) → IsCodeOf typed j.code.now
       → visit_loop (setting_of j typed) lo hi m.active.locals w (loop_at typed loop) ≡ (answer_by ending.Done m.active.locals left, w'))
-      → (m' : Machine) → m' ≡ record m { active = record m.active { locals = locals_or m.active.locals left } } → IsNext j m' n w' None
-  answered_on left did m' is =
-      subst (λ (m' : Machine). IsAt j m' n w') (sym is) (with_locals_at (locals_or m.active.locals left) did)
+      → (m' : Machine) → m' ≡ record m { active = record m.active { locals = locals_or m.active.locals left } }
+      → Stands j.code.now m' → IsNext j m' n w' None
+  answered_on left did m' is stands =
+      subst (λ (m' : Machine). Stands j.code.now m' → IsAt j m' n w') (sym is) (with_locals_at (locals_or m.active.locals left) did) stands
 
   -- it trapped
   pub answered_trap : (t : Trap) (line : ℕ) (left : Option (List Val)) → ((typed : Typed) → IsCodeOf typed j.code.now

@@ -1,5 +1,5 @@
 -- Rounds of an execution, one after another.
-use Rattle.std.proofs.Common.{◌≡◌, ℕ, suc, List, [], ◌∷◌, refl, sym, ap, ◌∙◌}
+use Rattle.std.proofs.Common.{◌≡◌, ℕ, zero, suc, ◌-◌, List, [], ◌∷◌, refl, sym, ap, ◌∙◌, arith}
 use Rattle.std.specs.Prelude.{take}
 use Rattle.al_core.specs.declared.choices.Choice.{Choice}
 use Rattle.al_core.specs.declared.reports.Ending.{Ending}
@@ -7,7 +7,9 @@ use Rattle.al_core.specs.declared.reports.Ending.TheVariants as ending
 use Rattle.al_core.specs.declared.values.Trap.{Trap}
 use Rattle.al_core.specs.Iteration.{Execution}
 use Rattle.al_core.specs.Round.{Round, round}
-use Rattle.al_core.specs.Lockstep.{Rounds, with_round, still_pending, unless_trapped, rounds_from}
+use Rattle.al_core.specs.Chunk.{chunk_count}
+use Rattle.al_core.specs.Lockstep.{Rounds, with_round, still_pending, unless_trapped, rounds_from, all_chunks, no_rounds, lockstep}
+use Rattle.al_core.specs.Memory.{Memory}
 use Rattle.al_engine.specs.Pending.{GoesOn}
 
 module _ (x : Execution) (choice : Choice) (lanes : ℕ) (so_far : Rounds) where
@@ -40,3 +42,16 @@ module _ (x : Execution) (choice : Choice) (lanes : ℕ) (so_far : Rounds) where
   round_last k l pending left new t line ek some h trapped =
       goes k l pending new ek some h.comes
       ∙ ap (after_round l pending new) (sym (ap (λ (r : Rounds). r.ending) h.comes) ∙ trapped)
+
+-- before the first round
+pub first_round : (x : Execution) (choice : Choice) (lanes : ℕ) (m : Memory) (count : ℕ) (plan : List ℕ) (so_far : Rounds) → count ≡ chunk_count x
+    → plan ≡ all_chunks x → so_far ≡ no_rounds m → rounds_from (count - 0) x choice lanes plan so_far ≡ lockstep x choice lanes m
+unfolding lockstep
+first_round x choice lanes m count plan so_far ec ep es =
+    let none : count - 0 ≡ chunk_count x = omega (arith, ec) in
+    λ t. rounds_from (none t) x choice lanes (ep t) (es t)
+
+-- nothing is pending
+pub none_left : (x : Execution) (choice : Choice) (lanes : ℕ) (so_far : Rounds) (k : ℕ) → rounds_from k x choice lanes [] so_far ≡ so_far
+none_left x choice lanes so_far zero = refl
+none_left x choice lanes so_far (suc k) = refl

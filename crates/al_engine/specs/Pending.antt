@@ -4,13 +4,11 @@ use Rattle.std.specs.List.{AllByRecursion}
 use Rattle.al_core.specs.Memory.{Memory}
 use Rattle.al_core.specs.Round.{Round, with_chunks}
 use Rattle.al_core.specs.Lockstep.{Rounds, with_round, still_pending}
-use Rattle.al_round.specs.Lanes.{IsAscending}
-use Rattle.al_round.specs.declared.rounds.RoundReport.{RoundReport}
+use Rattle.al_round.specs.declared.report.RoundReport.{RoundReport}
 
--- chunks of so many, in ascending order
-pub record ArePending (count : ℕ) (chunks : List ℕ) : Type 0 where
-  pub ascending : IsAscending chunks
-  pub there : AllByRecursion (λ c. c < count) chunks
+-- chunks of so many
+abbrev pub ArePending : ℕ → List ℕ → Type 0
+ArePending count chunks = AllByRecursion (λ c. c < count) chunks
 
 -- a round of these chunks that left this memory
 abbrev pub report_of : List ℕ → Memory → RoundReport → Round

@@ -11,7 +11,7 @@ ghost use Rattle.al_engine.specs.Pending.{ArePending, GoesOn, report_of};
 use crate::entered::Entered;
 use al_core::{Choice, Ending, Judged, Verdict};
 use al_heap::Store;
-use al_plan::Plan;
+use al_plan::{Plan, PlanFault};
 use al_round::{Gate, RoundReport, round};
 use sqlite_items::Items;
 use std::alloc::{AllocError, Global};
@@ -51,6 +51,17 @@ pub(crate) fn chunks(x: &Entered<'_>) -> u64
     ensures { result ≡ div_ceil x.now.env.trips x.now.env.chunk }
 {
     x.env.trips.div_ceil(u64::from(x.env.chunk))
+}
+
+/// All chunks of an execution.
+fn all_chunks(x: &Entered<'_>) -> Result<Plan, AllocError>
+    requires { MayEnter x.now }
+    ensures { IfOk result (λ plan. plan ≡ spec.up_from (div_ceil x.now.env.trips x.now.env.chunk) 0) }
+{
+    match Plan::new(x.env.lo, x.hi, x.env.chunk) {
+        Ok(plan) => Ok(plan),
+        Err(PlanFault::Trips) => Err(AllocError),
+    }
 }
 
 /// The chunks with their verdicts.
@@ -182,7 +193,7 @@ pub(crate) fn lockstep<R: Threads + Sync, S: Store + Sync, G: Gate>(
         rounds_of (S.memory store.new) r
         ≡ spec.lockstep e choice.now x.now.job.knobs.lanes (S.memory store.old))) }
 {
-    let mut plan = Plan::new(x.env.lo, x.hi, x.env.chunk).map_err(|_| AllocError)?;
+    let mut plan = all_chunks(x)?;
     let count = plan.len() as u64;
     let mut threads = x.job.knobs.threads;
     let mut so_far = Rounds::none(alloc);

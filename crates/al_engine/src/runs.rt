@@ -5,6 +5,8 @@ ghost use Rattle.al_core.specs.Limits.{AreInRange};
 ghost use Rattle.al_core.specs.Report as report;
 ghost use Rattle.al_core.specs.Run as spec;
 ghost use Rattle.al_code.specs.Valid.{IsValid};
+ghost use Rattle.al_code.specs.declared.lowered.Code as declared;
+ghost use Rattle.al_exec.specs.Machines.{Stands};
 ghost use Rattle.al_heap.specs.Stores.{no_memory};
 ghost use Rattle.al_laws.specs.Rounds.{RoundsFit};
 ghost use Rattle.al_engine.specs.Ends.{EndsAs, report_by};
@@ -69,9 +71,10 @@ fn go_on(
     counter: i64,
 ) -> Result<(), AllocError>
     requires { IfSome locals (λ ls. slice_set ls m.old.counter (Int counter) ≡ ls) }
-    ensures { OnOk result (m.new ≡ record m.old { active = record m.old.active {
+    ensures set { OnOk result (m.new ≡ record m.old { active = record m.old.active {
       locals = locals_or m.old.active.locals locals;
     } }) }
+    ensures stands { OnOk result ((code : declared.Code) → Stands code m.old → Stands code m.new) }
 {
     let Some(locals) = locals else {
         return Ok(());
