@@ -78,6 +78,8 @@ may_enter x may number is told lo hi factor steps = record {
     steps = subst (λ n. n ≤ MOST_STEPS) (sym steps) may.range.iter_steps.1;
   };
   trips = told;
+  lo = lo;
+  hi = hi;
   factor = factor;
   iter_steps = steps;
 }

@@ -7,3 +7,4 @@ pub mod Entering
 pub mod Mains
 pub mod Stopping
 pub mod Nexts
+pub mod Reports

@@ -145,6 +145,13 @@ module _ (j : Job) (valid : IsValid j.code.now) (m : Machine) (budget : ℕ) (w 
     leads = λ typed is e has k. comes j m budget w at (Ok (Some (AtLoop loop lo hi (spot_in m')))) (state_with m' n c) h.comes tt typed is e has k;
   }
 
+-- the same numbers, written otherwise
+pub stopped_as : (j : Job) (loop : ℕ) (lo hi : ℤ) (m : Machine) (n : ℕ) (w : Whole) (lo' hi' : ℤ) (n' : ℕ) → lo' ≡ lo → hi' ≡ hi → n' ≡ n
+    → IsStopped j loop lo hi m n w → IsStopped j loop lo' hi' m n' w
+stopped_as j loop lo hi m n w lo' hi' n' el eh en h =
+    subst (λ (lo : ℤ). IsStopped j loop lo hi' m n' w) (sym el)
+    (subst (λ (hi : ℤ). IsStopped j loop lo hi m n' w) (sym eh) (subst (λ (n : ℕ). IsStopped j loop lo hi m n w) (sym en) h))
+
 -- ---- from a loop
 
 module _ (j : Job) (valid : IsValid j.code.now) (loop : ℕ) (lo hi : ℤ) (m : Machine) (n : ℕ) (w : Whole) (at : IsStopped j loop lo hi m n w) (w' : Whole) where
@@ -170,6 +177,17 @@ module _ (j : Job) (valid : IsValid j.code.now) (loop : ℕ) (lo hi : ℤ) (m : 
           (sym (ap beginning_of at.running)),
         );
   }
+
+  -- the answer, where its numbers and locals are written otherwise
+  pub told : (left : Option (List Val)) (e e' : Ending) → e ≡ e' → (shown : List Val) → shown ≡ m.active.locals → (lo' hi' : ℤ) → lo' ≡ lo → hi' ≡ hi
+      → ((typed : Typed) → IsCodeOf typed j.code.now
+      → visit_loop (setting_of j typed) lo' hi' shown w (loop_at typed loop) ≡ (answer_by e shown left, w'))
+      → (typed : Typed) → IsCodeOf typed j.code.now
+      → visit_loop (setting_of j typed) lo hi m.active.locals w (loop_at typed loop) ≡ (answer_by e' m.active.locals left, w')
+  told left e e' ee shown es lo' hi' el eh h typed is =
+      sym (λ t. visit_loop (setting_of j typed) (el t) (eh t) (es t) w (loop_at typed loop))
+      ∙ h typed is
+      ∙ (λ t. (answer_by (ee t) (es t) left, w'))
 
   -- the loop was answered, and the machine has its locals
   pub answered_on : (left : Option (List Val)) → ((typed : Typed) → IsCodeOf typed j.code.now

@@ -1,5 +1,6 @@
 -- Executions of annotated loops, and what they come to.
-use Rattle.std.specs.Prelude.{◌≡◌, ℕ, List, Some, None, Ok, slice_get}
+use Rattle.std.specs.Prelude.{◌≡◌, ℕ, List, Some, None, Ok, slice_get, FitsSigned}
+use Rattle.std.specs.Int.{w64}
 use Rattle.al_core.specs.declared.choices.LoopInfo.{LoopInfo}
 use Rattle.al_core.specs.declared.typed_tree.Typed.{Typed}
 use Rattle.al_core.specs.declared.reports.Ending.{Ending}
@@ -33,6 +34,8 @@ pub record MayEnter (x : Entered) : Type 0 where
   pub one : slice_get x.job.code.now.loops x.info.now.number ≡ Some x.info.now
   pub bounded : IsBounded x.env
   pub trips : trips x.env.lo x.hi ≡ Ok x.env.trips
+  pub lo : FitsSigned w64 x.env.lo
+  pub hi : FitsSigned w64 x.hi
   pub factor : x.env.chunk ≡ x.job.knobs.chunk
   pub iter_steps : x.env.iter_steps ≡ x.job.knobs.iter_steps
 

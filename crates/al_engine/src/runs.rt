@@ -9,6 +9,7 @@ ghost use Rattle.al_code.specs.declared.lowered.Code as declared;
 ghost use Rattle.al_exec.specs.Machines.{Stands};
 ghost use Rattle.al_heap.specs.Stores.{no_memory};
 ghost use Rattle.al_laws.specs.Rounds.{RoundsFit};
+ghost use Rattle.al_engine.specs.declared.job.Job.{Job};
 ghost use Rattle.al_engine.specs.Ends.{EndsAs, report_by};
 ghost use Rattle.al_engine.specs.Jobs.{HaveLineSizes, IsCodeOf, MayRun, setting_of};
 ghost use Rattle.al_engine.specs.Rests.{IsAt, IsNext, IsStopped};

@@ -8,14 +8,14 @@ use Rattle.al_engine.proofs.PendingChunks.{first_some, first_there, stay, stay_p
 use Rattle.al_engine.proofs.rounds.Rounds.go_on.Goals as goal
 
 pub round-requires-clause-chunks : goal.round-requires-clause-chunks
-round-requires-clause-chunks g c =
+round-requires-clause-chunks g c κs within =
     let x = c.args.x.now in
     let range = c.requires.may.job.range in
     subst (λ (cs : List ℕ). (1 ≤ length cs) × (length cs ≤ 64)) (sym c.next_chunks-n.ensures.chunks)
     (first_some x.job.knobs.lanes c.args.plan.now c.requires.some range.lanes.0 range.lanes.1)
 
 pub round-requires-clause-may : goal.round-requires-clause-may
-round-requires-clause-may g c =
+round-requires-clause-may g c κs within =
     let x = c.args.x.now in
     let may = c.requires.may in
     let count = div_ceil x.env.trips x.env.chunk in
