@@ -74,10 +74,12 @@ module _ (j : Job) (m : Machine) (budget : ℕ) (w : Whole) where
         subst (λ e. (j' : ℕ) × (from_function (answered (answerer (setting_of j typed))) j.code.now e calls_within
         (exec (answered (answerer (setting_of j typed))) Outside j.input.now j.code.now j') (begins (setting_of j typed) e)
         ≡ rest (answerer (setting_of j typed)) j.input.now j.code.now (beginning_of m.start) (spot_in m) k (state_at m budget w)))
-        same
-        (k, starts e (beginning_of m.start) (spot_in m) (frame_in m) k (ap beginning_of h.start) h.spot
-        (h.frame ∙ frame_of_zeros e (valid.functions j.code.now.main e has).params) typed
-        (λ t. record { frame = frame_at e []; budget = sym steps t; world = sym (world typed is) t }));
+        same (
+          k,
+          starts e (beginning_of m.start) (spot_in m) (frame_in m) k (ap beginning_of h.start) h.spot
+              (h.frame ∙ frame_of_zeros e (valid.functions j.code.now.main e has).params) typed
+              (λ t. record { frame = frame_at e []; budget = sym steps t; world = sym (world typed is) t }),
+        );
   }
 
 -- ---- to a stop
@@ -97,13 +99,14 @@ module _ (j : Job) (m : Machine) (budget : ℕ) (w : Whole) (at : IsAt j m budge
       → Leads j (λ g k s. resumed (answered (answerer g)) Outside j.input.now j.code.now k (r, s)) (raise t w)
   comes r t h over typed is e has k =
       let g = setting_of j typed in
-      let to : ComesTo (to_stop (answerer g) j.input.now j.code.now (beginning_of m.start) (spot_in m)) (state_with m budget w.content) (r, t) =
-      (h.0, sym (ap (λ (p : Act Content (Option Stop)). p (state_with m budget w.content))
-      (same_run j.input.now j.code.now m.start m.inside (spot_in m) h.0 at.begins at.outside)) ∙ h.1) in
+      let to : ComesTo (to_stop (answerer g) j.input.now j.code.now (beginning_of m.start) (spot_in m)) (state_with m budget w.content) (r, t) = (
+        h.0,
+        sym (ap (λ (p : Act Content (Option Stop)). p (state_with m budget w.content))
+            (same_run j.input.now j.code.now m.start m.inside (spot_in m) h.0 at.begins at.outside)) ∙ h.1,
+      ) in
       let on = reaches (answerer g) j.input.now j.code.now (beginning_of m.start) (spot_in m) (state_with m budget w.content) t w r to over k in
       let first = at.leads typed is e has on.0 in
       (first.0, first.1 ∙ on.1)
-
 
 has_at : {A : Type 0} (xs : List A) (k : ℕ) → k < length xs → (x : A) × (slice_get xs k ≡ Some x)
 has_at [] k h = absurd (omega arith)
@@ -120,14 +123,16 @@ ends j valid r t over h typed is =
 
 module _ (j : Job) (valid : IsValid j.code.now) (m : Machine) (budget : ℕ) (w : Whole) (at : IsAt j m budget w) (m' : Machine) (n : ℕ) (c : Content) where
   -- the machine's run ended
-  pub ended : (v : Val) → StopsAs j.code.now m.inside (run_of j.input.now j.code.now m) (state_with m budget w.content) (stop.Ended v) m' n c
+  pub ended : (v : Val)
+      → StopsAs j.code.now m.inside (run_of j.input.now j.code.now m) (state_with m budget w.content) (stop.Ended v) m' n c
       → IsNext j m' n (record w { content = c }) (Some ending.Done)
   ended v h typed is =
       ends j valid (Ok (Some v)) (raise (state_with m' n c) w) tt
       (λ typed is e has k. comes j m budget w at (Ok (Some (Ended v))) (state_with m' n c) h tt typed is e has k) typed is
 
   -- it trapped
-  pub trapped : (t : Trap) (line : ℕ) → StopsAs j.code.now m.inside (run_of j.input.now j.code.now m) (state_with m budget w.content) (stop.Trapped t line) m' n c
+  pub trapped : (t : Trap) (line : ℕ)
+      → StopsAs j.code.now m.inside (run_of j.input.now j.code.now m) (state_with m budget w.content) (stop.Trapped t line) m' n c
       → IsNext j m' n (record w { content = c }) (Some (ending.Trap t line))
   trapped t line h typed is =
       ends j valid (Err (t, line)) (raise (state_with m' n c) w) tt
@@ -171,10 +176,10 @@ module _ (j : Job) (valid : IsValid j.code.now) (loop : ℕ) (lo hi : ℤ) (m : 
         let first = at.leads typed is e has k in (
           first.0,
           first.1
-          ∙ visited (answerer g) j.input.now j.code.now loop lo hi (state_at m n w) locals w'
-          (exec (answered (answerer g)) Outside j.input.now j.code.now k (spot_in m)) (did typed is)
-          ∙ ap (λ (b : Beginning). rest (answerer g) j.input.now j.code.now b (spot_in m) k (state_at (with_other locals) n w'))
-          (sym (ap beginning_of at.running)),
+              ∙ visited (answerer g) j.input.now j.code.now loop lo hi (state_at m n w) locals w'
+              (exec (answered (answerer g)) Outside j.input.now j.code.now k (spot_in m)) (did typed is)
+              ∙ ap (λ (b : Beginning). rest (answerer g) j.input.now j.code.now b (spot_in m) k (state_at (with_other locals) n w'))
+              (sym (ap beginning_of at.running)),
         );
   }
 
@@ -204,10 +209,10 @@ module _ (j : Job) (valid : IsValid j.code.now) (loop : ℕ) (lo hi : ℤ) (m : 
   answered_trap t line left did m' typed is =
       ends j valid (Err (t, line)) (record (state_at m n w) { world = w' }) tt
       (λ typed is e has k.
-          let g = setting_of j typed in
-          let first = at.leads typed is e has k in (
-            first.0,
-            first.1
+      let g = setting_of j typed in
+      let first = at.leads typed is e has k in (
+        first.0,
+        first.1
             ∙ visit_traps (answerer g) j.input.now j.code.now loop lo hi (state_at m n w) (t, line) w'
             (exec (answered (answerer g)) Outside j.input.now j.code.now k (spot_in m)) (did typed is),
-          )) typed is
+      )) typed is

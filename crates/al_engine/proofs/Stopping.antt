@@ -21,8 +21,10 @@ module _ (answer : Answerer) (input : List ℤ) (code : Code) where
 
   lift_spent : (line n : ℕ) (p : Act Content (Option Stop)) (q : Act Whole (Option Stop)) → Lifts p q → (s : State Content) (w : Whole)
       → after (spend_from line n (raise s w)).0 (spend_from line n (raise s w)).1 (λ u. q)
-      ≡ ((after (spend_from line n s).0 (spend_from line n s).1 (λ u. p)).0,
-      raise (after (spend_from line n s).0 (spend_from line n s).1 (λ u. p)).1 w)
+      ≡ (
+        (after (spend_from line n s).0 (spend_from line n s).1 (λ u. p)).0,
+        raise (after (spend_from line n s).0 (spend_from line n s).1 (λ u. p)).1 w,
+      )
   lift_spent line zero p q h s w = refl
   lift_spent line (suc n) p q h s w = h.by (record s { budget = n }) w
 

@@ -65,11 +65,7 @@ fn all_chunks(x: &Entered<'_>) -> Result<Plan, AllocError>
 }
 
 /// The chunks with their verdicts.
-fn judged(
-    alloc: Global,
-    chunks: &[u64],
-    verdicts: &[Verdict],
-) -> Result<Items<Judged>, AllocError>
+fn judged(alloc: Global, chunks: &[u64], verdicts: &[Verdict]) -> Result<Items<Judged>, AllocError>
     requires { length verdicts.now ≡ length chunks.now }
     ensures { IfOk result (λ all. all ≡ with_chunks chunks.now verdicts.now) }
 {
@@ -104,12 +100,7 @@ impl Rounds {
         }
     }
 
-    fn add(
-        &mut self,
-        alloc: Global,
-        chunks: &[u64],
-        report: RoundReport,
-    ) -> Result<(), AllocError>
+    fn add(&mut self, alloc: Global, chunks: &[u64], report: RoundReport) -> Result<(), AllocError>
         requires { length report.verdicts ≡ length chunks.now }
         ensures { OnOk result ((m n : Memory) →
             rounds_of n self.new ≡ spec.with_round (report_of chunks.now n report) (rounds_of m self.old)) }

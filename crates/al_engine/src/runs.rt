@@ -42,11 +42,7 @@ struct End<S> {
 }
 
 /// The world at the start of a program, on an empty store.
-fn start<S: Store + Drop>(
-    alloc: Global,
-    code: &Code,
-    empty: S,
-) -> Result<World<S>, AllocError>
+fn start<S: Store + Drop>(alloc: Global, code: &Code, empty: S) -> Result<World<S>, AllocError>
     requires { S.memory empty ≡ no_memory }
     ensures { IfOk result (λ w. (job : Job) (typed : Typed) → IsCodeOf typed code.now →
         whole_of (⟦<Seen<S> as View>⟧.content w.seen) w.executions w.counts
@@ -72,9 +68,11 @@ fn go_on(
     counter: i64,
 ) -> Result<(), AllocError>
     requires { IfSome locals (λ ls. slice_set ls m.old.counter (Int counter) ≡ ls) }
-    ensures set { OnOk result (m.new ≡ record m.old { active = record m.old.active {
-      locals = locals_or m.old.active.locals locals;
-    } }) }
+    ensures set { OnOk result (m.new ≡ record m.old {
+      active = record m.old.active {
+        locals = locals_or m.old.active.locals locals;
+      };
+    }) }
     ensures stands { OnOk result ((code : declared.Code) → Stands code m.old → Stands code m.new) }
 {
     let Some(locals) = locals else {

@@ -65,7 +65,11 @@ fn after_loop(
 {
     match ending {
         Ending::Done => {
-            set_at(&mut locals, x.info.counter, PackedValue::from_int(x.env.lo.max(x.hi)));
+            set_at(
+                &mut locals,
+                x.info.counter,
+                PackedValue::from_int(x.env.lo.max(x.hi)),
+            );
             Some(locals)
         }
         Ending::Trap(_, _) => None,
@@ -91,8 +95,10 @@ fn come_back<S: Store + Drop>(
     requires { MayEnter x.now }
     ensures did { IfOk result (λ r. (old : List Val) (w : Whole) → IsBefore before w → InTrees x.now (λ e.
         spec.come_back e x.now.hi w (loop_result (S.memory done.store) done.printed done.ending done.counts)
-        ≡ (answer_by r.ending old r.locals,
-        whole_of (⟦<Seen<S> as View>⟧.content r.world.seen) r.world.executions r.world.counts))) }
+        ≡ (
+          answer_by r.ending old r.locals,
+          whole_of (⟦<Seen<S> as View>⟧.content r.world.seen) r.world.executions r.world.counts,
+        ))) }
     ensures counter { IfOk result (λ r. IfSome r.locals (λ ls.
         HasCounter x.now.info.now x.now.env.lo x.now.hi ls)) }
 {
@@ -156,8 +162,10 @@ impl<S: Store + Sync + Drop> World<S> {
         ensures did { IfOk result (λ r. InTrees x.now (λ e.
             spec.run_loop (setting_of x.now.job e.typed) e x.now.hi locals
             (whole_of (⟦<Seen<S> as View>⟧.content self.seen) self.executions self.counts)
-            ≡ (answer_by r.ending locals r.locals,
-            whole_of (⟦<Seen<S> as View>⟧.content r.world.seen) r.world.executions r.world.counts))) }
+            ≡ (
+              answer_by r.ending locals r.locals,
+              whole_of (⟦<Seen<S> as View>⟧.content r.world.seen) r.world.executions r.world.counts,
+            ))) }
         ensures counter { IfOk result (λ r. IfSome r.locals (λ ls.
             HasCounter x.now.info.now x.now.env.lo x.now.hi ls)) }
     {
@@ -199,8 +207,10 @@ impl<S: Store + Sync + Drop> World<S> {
         ensures did { IfOk result (λ r. (typed : Typed) → IsCodeOf typed job.now.code.now
             → spec.visit_loop (setting_of job.now typed) lo hi locals.now
             (whole_of (⟦<Seen<S> as View>⟧.content self.seen) self.executions self.counts) (loop_at typed number)
-            ≡ (answer_by r.ending locals.now r.locals,
-            whole_of (⟦<Seen<S> as View>⟧.content r.world.seen) r.world.executions r.world.counts)) }
+            ≡ (
+              answer_by r.ending locals.now r.locals,
+              whole_of (⟦<Seen<S> as View>⟧.content r.world.seen) r.world.executions r.world.counts,
+            )) }
         ensures counter { IfOk result (λ r. IfSome r.locals (λ ls. IsCounted job.now.code.now number lo hi ls)) }
     {
         let Some(info) = loop_of(job.code, number) else {

@@ -7,7 +7,9 @@ use std::test::Fail;
 #[test]
 fn samples_run_plain(rt: HostRuntime) -> Result<(), Fail> {
     for source in [P1, P2, P3, P4, P6, P7] {
-        let (here, there) = both(&rt, rt.alloc(), source, &[], knobs(2, 1, 2), false)?.ok_or("refused")?;
+        let (here, there) = both(&rt, rt.alloc(), source, &[], knobs(2, 1, 2), false)?.ok_or(
+            "refused",
+        )?;
         assert!(rt; same(&here, &there));
     }
     Ok(())
@@ -29,7 +31,15 @@ fn samples_run_in_rounds(rt: HostRuntime) -> Result<(), Fail> {
         (P13, 4, 1),
     ] {
         for threads in [1, 4] {
-            let (here, there) = both(&rt, rt.alloc(), source, &[], knobs(lanes, chunk, threads), true)?.ok_or("refused")?;
+            let (here, there) = both(
+                &rt,
+                rt.alloc(),
+                source,
+                &[],
+                knobs(lanes, chunk, threads),
+                true,
+            )?
+            .ok_or("refused")?;
             assert!(rt; same(&here, &there));
         }
     }
@@ -38,9 +48,20 @@ fn samples_run_in_rounds(rt: HostRuntime) -> Result<(), Fail> {
 
 #[test]
 fn reductions_run(rt: HostRuntime) -> Result<(), Fail> {
-    let (here, there) = both(&rt, rt.alloc(), P9, &[1, 2, 3, 4], knobs(4, 1, 3), true)?.ok_or("refused")?;
+    let (here, there) = both(&rt, rt.alloc(), P9, &[1, 2, 3, 4], knobs(4, 1, 3), true)?.ok_or(
+        "refused",
+    )?;
     assert!(rt; same(&here, &there));
     assert_eq!(rt; here.output.as_slice(), b"17\n".as_slice());
-    assert_eq!(rt; (here.loops, here.rounds, here.attempts, here.aborted, here.span), (1, 1, 4, 0, 6));
+    assert_eq!(rt;
+        (
+            here.loops,
+            here.rounds,
+            here.attempts,
+            here.aborted,
+            here.span
+        ),
+        (1, 1, 4, 0, 6)
+    );
     Ok(())
 }

@@ -9,7 +9,7 @@ pub returns-clause-exact : goal.returns-clause-exact
 returns-clause-exact g c =
     IfOk-weaker c.told.result _ _
     (λ r e typed is.
-        e
-        ∙ ap (watched c.args.watch)
-        (report_is typed c.args.input.now (sizes_of c.args.knobs.now) c.args.choices.now _ _ _ (c.in_ok-end.ensures typed is)))
+    e
+    ∙ ap (watched c.args.watch)
+    (report_is typed c.args.input.now (sizes_of c.args.knobs.now) c.args.choices.now _ _ _ (c.in_ok-end.ensures typed is)))
     c.told.ensures

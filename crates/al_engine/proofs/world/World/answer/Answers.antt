@@ -44,9 +44,12 @@ returns-in_ok-locals-in-Ok-clause-did g c =
     let same = c.in_ok-locals-in-Ok.ensures in
     IfOk-weaker c.run_loop.result _ _
     (λ r h typed code.
-        (λ t. visit_loop (setting_of a.job.now typed) (sym lo t) (sym hi t) (sym same t) w (loop_at typed a.number))
-        ∙ visits x may a.number c.in-Some.ensures locals w refl _ h typed code
-        ∙ (λ t. (answer_by r.ending (same t) r.locals, whole_of
-        (record { memory = g.S.Store.memory r.world.seen.store; allocations = r.world.seen.names; printed = r.world.seen.printed; accesses = None })
-        r.world.executions r.world.counts)))
+    (λ t. visit_loop (setting_of a.job.now typed) (sym lo t) (sym hi t) (sym same t) w (loop_at typed a.number))
+    ∙ visits x may a.number c.in-Some.ensures locals w refl _ h typed code
+    ∙ (λ t. (
+      answer_by r.ending (same t) r.locals,
+      whole_of
+          (record { memory = g.S.Store.memory r.world.seen.store; allocations = r.world.seen.names; printed = r.world.seen.printed; accesses = None })
+          r.world.executions r.world.counts,
+    )))
     c.run_loop.ensures.did

@@ -14,7 +14,7 @@ returns-clause-did g c =
     (record { memory = g.S.Store.memory s.seen.store; allocations = s.seen.names; printed = s.seen.printed; accesses = None }) s.executions s.counts in
     IfOk-weaker c.come_back.result _ _
     (λ r told typed l h.
-        run_loop_is c.args.x.now c.requires.may w c.args.locals (g.S.Store.memory c.set_locals.new.self) c.set_locals.ensures.memory
-        (loop_result (g.S.Store.memory d.store) d.printed d.ending d.counts) c.in_ok-done.ensures typed l h
-        ∙ told c.args.locals w (record { allocations = refl; printed = refl; accesses = refl; executions = refl; counts = refl }) typed l h)
+    run_loop_is c.args.x.now c.requires.may w c.args.locals (g.S.Store.memory c.set_locals.new.self) c.set_locals.ensures.memory
+    (loop_result (g.S.Store.memory d.store) d.printed d.ending d.counts) c.in_ok-done.ensures typed l h
+    ∙ told c.args.locals w (record { allocations = refl; printed = refl; accesses = refl; executions = refl; counts = refl }) typed l h)
     c.come_back.ensures.did
