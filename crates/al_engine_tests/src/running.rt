@@ -1,5 +1,9 @@
 //! A source run by lowered code and by the plain interpreter.
 
+ghost use Rattle.std.specs.Prelude.{IfOk};
+ghost use Rattle.al_core.specs.Limits.{AreInRange};
+ghost use Rattle.al_engine.specs.Jobs.{HaveLineSizes};
+
 use al_core::{Choice, Event, Knobs, LoopInfo, Red, Report};
 use al_engine::run;
 use al_front::{FrontFault, resolve};
@@ -9,11 +13,14 @@ use sqlite_items::Items;
 use std::alloc::{AllocError, Global};
 use std::thread::Threads;
 
-pub fn knobs(lanes: u32, chunk: u32, threads: u32) -> Knobs {
+/// The numbers of a run, brought into their ranges.
+pub fn knobs(lanes: u32, chunk: u32, threads: u32) -> Knobs
+    ensures { AreInRange result }
+{
     Knobs {
-        lanes,
-        chunk,
-        threads,
+        lanes: lanes.max(1).min(64),
+        chunk: chunk.max(1).min(65_536),
+        threads: threads.max(1).min(64),
         line: 1,
         iter_steps: 100,
         serial_steps: 10_000,
@@ -67,7 +74,9 @@ fn choices_of(
     alloc: Global,
     infos: &[LoopInfo],
     written: bool,
-) -> Result<Items<Option<Choice>>, AllocError> {
+) -> Result<Items<Option<Choice>>, AllocError>
+    ensures { IfOk result (λ choices. HaveLineSizes choices) }
+{
     let mut choices = Items::new(alloc);
     for info in infos {
         let own = &info.own;
@@ -89,7 +98,9 @@ pub fn both<R: Threads + Sync>(
     input: &[i64],
     knobs: Knobs,
     written: bool,
-) -> Result<Option<(Report, Report)>, AllocError> {
+) -> Result<Option<(Report, Report)>, AllocError>
+    requires { AreInRange knobs }
+{
     let (typed, infos) = match resolve(alloc, source.as_bytes()) {
         Ok(found) => found,
         Err(FrontFault::Memory) => return Err(AllocError),
