@@ -152,6 +152,10 @@ impl Rounds {
         let report = round(
             rt, alloc, store, job.code, x.info, choice, &x.env, job.input, chunks, threads, gate,
         )?;
+        // a round judges each of its chunks
+        if report.verdicts.len() != chunks.len() {
+            return Err(AllocError);
+        }
         plan.settle(report.verdicts.as_slice());
         let longest = report.longest;
         self.add(alloc, chunks, report)?;

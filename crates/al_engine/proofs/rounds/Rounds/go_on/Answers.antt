@@ -33,7 +33,7 @@ returns-clause-round g c = λ typed l h.
     let m = g.S.Store.memory c.args.store.now in
     let n = g.S.Store.memory c.round.new.store in
     goes_on (execution_of typed l x.job.input.now x.env) c.args.choice.now x.job.knobs.lanes c.args.plan.now _ m n c.in_ok-report.report
-    (rounds_of m c.args.self.now) (rounds_of n c.add.new.self) c.settle.new.self c.next_chunks-n.ensures.chunks c.in_ok-report.ensures.each
+    (rounds_of m c.args.self.now) (rounds_of n c.add.new.self) c.settle.new.self c.next_chunks-n.ensures.chunks (c.in_ok-report.ensures.exact typed l h).each
     (c.in_ok-report.ensures.exact typed l h) (c.in_ok-add.ensures m n) (c.settle.ensures ∙ ap (stay c.args.plan.now) c.as_slice.ensures)
 
 pub returns-clause-pending : goal.returns-clause-pending
