@@ -1,0 +1,10 @@
+pub mod PendingChunks
+pub mod RoundRuns
+pub mod Counted
+pub mod Counters
+pub mod Trips
+pub mod Entering
+pub mod Mains
+pub mod Stopping
+pub mod Nexts
+pub mod Reports

@@ -1,0 +1,14 @@
+//! Whole runs of lowered code, plain and in rounds, for any number of threads.
+#![tactic(auto)]
+
+mod counts;
+mod entered;
+mod executions;
+mod job;
+mod rounds;
+mod runs;
+mod seen;
+mod start;
+mod world;
+
+pub use runs::run;
