@@ -11,4 +11,5 @@ mod seen;
 mod start;
 mod world;
 
+pub use al_round::{FreeGate, Gate};
 pub use runs::run;
