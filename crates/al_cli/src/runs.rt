@@ -25,7 +25,6 @@ use std::alloc::{AllocError, Global};
 use std::thread::Threads;
 
 /// What is written where the source of this name is the program, and its inputs are these numbers.
-#[tactic(auto, using(crate::proofs::Lined::formed_of))]
 pub fn answer_of<R: Threads + Sync, G: Gate>(
     rt: &R,
     alloc: Global,
@@ -109,7 +108,6 @@ fn ended(alloc: Global, name: &str, ending: Ending, out: Items<u8>) -> Result<An
 }
 
 /// The code of a program. An accepted one has few enough nodes, so that memory alone can be wanting.
-#[tactic(auto, using(al_loop_laws::proofs::Locals::loops_have_their_locals))]
 fn lowered(alloc: Global, program: &Noted) -> Result<Code, AllocError>
     requires { IsFormedWith program.now.0 program.now.1 }
     ensures valid { IfOk result IsValid }
@@ -122,7 +120,6 @@ fn lowered(alloc: Global, program: &Noted) -> Result<Code, AllocError>
 }
 
 /// A run with every annotated loop in rounds, by its own annotation.
-#[tactic(auto, using(crate::proofs::Lined::own_lined))]
 fn in_lockstep<R: Threads + Sync, G: Gate>(
     rt: &R,
     alloc: Global,
@@ -142,7 +139,6 @@ fn in_lockstep<R: Threads + Sync, G: Gate>(
 }
 
 /// A run with every loop plain.
-#[tactic(auto, using(crate::proofs::Lined::none_lined))]
 fn plain<R: Threads + Sync, G: Gate>(
     rt: &R,
     alloc: Global,
