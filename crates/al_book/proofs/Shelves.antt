@@ -56,7 +56,8 @@ module _ {T : Type 0} (outcome : T → Outcome) where
 
   module _ (s : Bookshelf T) (piece : T) (sound : IsSound outcome s) where
     verdict_is : (v : Verdict)
-        → v ≡ verdict_by s.choice.order s.failed s.trapped (clashes_with_one s.choice (outcome piece) (committed (map outcome s.pieces.items) s.verdicts.items)) (ends_in_trap (outcome piece).ending)
+        → v ≡ verdict_by s.choice.order s.failed s.trapped
+        (clashes_with_one s.choice (outcome piece) (committed (map outcome s.pieces.items) s.verdicts.items)) (ends_in_trap (outcome piece).ending)
         → v ≡ verdict_of s.choice (judging_after s.choice nothing_judged (map outcome s.pieces.items)) (outcome piece)
     verdict_is v e =
         e ∙ verdict_known s.choice (judging_after s.choice nothing_judged (map outcome s.pieces.items)) (outcome piece) s.failed s.trapped _
@@ -76,7 +77,8 @@ module _ {T : Type 0} (outcome : T → Outcome) where
         ∙ judging_next s.choice nothing_judged (map outcome s.pieces.items) (outcome piece)
 
     pub sound_next : (t : Bookshelf T) (v : Verdict)
-        → v ≡ verdict_by s.choice.order s.failed s.trapped (clashes_with_one s.choice (outcome piece) (committed (map outcome s.pieces.items) s.verdicts.items)) (ends_in_trap (outcome piece).ending)
+        → v ≡ verdict_by s.choice.order s.failed s.trapped
+        (clashes_with_one s.choice (outcome piece) (committed (map outcome s.pieces.items) s.verdicts.items)) (ends_in_trap (outcome piece).ending)
         → t.choice ≡ s.choice → t.lanes ≡ s.lanes → vec_capacity t.pieces ≡ vec_capacity s.pieces → vec_capacity t.verdicts ≡ vec_capacity s.verdicts
         → t.pieces.items ≡ s.pieces.items ++ piece ∷ [] → t.verdicts.items ≡ s.verdicts.items ++ v ∷ []
         → t.failed ≡ failed_after v s.failed → t.trapped ≡ trapped_after v s.trapped → IsSound outcome t
@@ -94,5 +96,7 @@ module _ {T : Type 0} (outcome : T → Outcome) where
               vs ∙ (λ i. sound.verdicts i ++ is i ∷ []) ∙ sym (verdicts_more s.choice (map outcome s.pieces.items) (outcome piece))
               ∙ (λ i. verdicts (sym c i) (sym (outcomes_are t.pieces.items ps) i));
           failed = f ∙ (λ i. failed_after (is i) (sound.failed i)) ∙ sym (failed_next s.choice j (outcome piece)) ∙ ap (λ (z : Judging). z.failed) (sym later);
-          trapped = r ∙ (λ i. trapped_after (is i) (sound.trapped i)) ∙ sym (trapped_next s.choice j (outcome piece)) ∙ ap (λ (z : Judging). z.trapped) (sym later);
+          trapped =
+              r ∙ (λ i. trapped_after (is i) (sound.trapped i)) ∙ sym (trapped_next s.choice j (outcome piece))
+              ∙ ap (λ (z : Judging). z.trapped) (sym later);
         }

@@ -23,5 +23,7 @@ pub record IsJudgedRound {T H K : Type 0} {g : Ghosts T K H} (fits : K → ℕ �
     pub given : AreGiven (logs_of pass) pieces
     pub verdicts_are : verdicts ≡ verdicts_on outcome (choice (task_of b)) pieces
     pub round : IsRoundOf fits b (lane_count b) pass pieces
-    pub of_history : board.verdicts (verdict_after outcome (choice (task_of b))) (lane_count b) (events (lane_count b) round.journal)
+    pub of_history :
+        board.verdicts (verdict_after outcome (choice (task_of b))) (lane_count b)
+        (events (lane_count b) round.journal)
         ≡ verdicts

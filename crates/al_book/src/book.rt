@@ -84,7 +84,8 @@ impl<T: BookPiece> Book<T> {
     fn close(self, pass: Pass<T>) -> Bookshelf<T>
         requires own { IsPassOf self.board pass }
         requires full { IsFull (view pass) }
-        ensures judged { IsJudgedRound T.fits T.outcome T.choice self.board pass result.pieces.items result.verdicts.items }
+        ensures judged { IsJudgedRound T.fits T.outcome T.choice self.board pass result.pieces.items
+            result.verdicts.items }
     {
         let Book { board } = self;
         board.close_shelf(pass)
@@ -95,7 +96,8 @@ impl<T: BookPiece> Book<T> {
         requires own { IsPassOf self.board pass }
         requires full { IsFull (view pass) }
         ensures judged { IsJudgedRound T.fits T.outcome T.choice self.board pass result.pieces result.verdicts }
-        ensures law { HistoriesAreJudged T.outcome (T.choice (task_of self.board)) (T.fits (task_of self.board)) (lane_count self.board) }
+        ensures law { HistoriesAreJudged T.outcome (T.choice (task_of self.board)) (T.fits (task_of self.board))
+            (lane_count self.board) }
     {
         let Bookshelf {
             choice: _,
@@ -116,7 +118,8 @@ impl<T: BookPiece> Book<T> {
         requires own { IsPassOf self.board pass }
         requires full { IsFull (view pass) }
         ensures judged { IsJudgedRound T.fits T.outcome T.choice self.board pass result.0.items result.1 }
-        ensures law { HistoriesAreJudged T.outcome (T.choice (task_of self.board)) (T.fits (task_of self.board)) (lane_count self.board) }
+        ensures law { HistoriesAreJudged T.outcome (T.choice (task_of self.board)) (T.fits (task_of self.board))
+            (lane_count self.board) }
     {
         let Bookshelf {
             choice: _,
@@ -134,7 +137,8 @@ impl<T: BookPiece> Book<T> {
         requires own { IsPassOf self.board pass }
         requires full { IsFull (view pass) }
         ensures judged { (pieces : _) × IsJudgedRound T.fits T.outcome T.choice self.board pass pieces result }
-        ensures law { HistoriesAreJudged T.outcome (T.choice (task_of self.board)) (T.fits (task_of self.board)) (lane_count self.board) }
+        ensures law { HistoriesAreJudged T.outcome (T.choice (task_of self.board)) (T.fits (task_of self.board))
+            (lane_count self.board) }
     {
         self.finish_vec(pass).1
     }

@@ -68,7 +68,9 @@ fn clashes_with_one<T: Weigh>(
     verdicts: &[Verdict],
 ) -> bool
     requires { IsLineSize choice.now.line }
-    ensures { result ≡ judging.clashes_with_one choice.now (T.outcome piece.now) (spec.committed (map T.outcome pieces.now) verdicts.now) }
+    ensures { result
+        ≡ judging.clashes_with_one choice.now (T.outcome piece.now)
+        (spec.committed (map T.outcome pieces.now) verdicts.now) }
 {
     match (pieces, verdicts) {
         ([earlier, pieces @ ..], [verdict, verdicts @ ..]) => {
@@ -112,7 +114,11 @@ impl<T: Weigh> Bookshelf<T> {
     // The verdict on a piece, judged after those on the shelf.
     fn verdict(&self, piece: &T) -> Verdict
         requires { IsSound T.outcome self.now }
-        ensures { result ≡ verdict_by self.now.choice.order self.now.failed self.now.trapped (judging.clashes_with_one self.now.choice (T.outcome piece.now) (spec.committed (map T.outcome (pieces_on self.now)) (verdicts_told self.now))) (ends_in_trap (T.outcome piece.now).ending) }
+        ensures { result
+            ≡ verdict_by self.now.choice.order self.now.failed self.now.trapped
+            (judging.clashes_with_one self.now.choice (T.outcome piece.now)
+            (spec.committed (map T.outcome (pieces_on self.now)) (verdicts_told self.now)))
+            (ends_in_trap (T.outcome piece.now).ending) }
     {
         if (is_in_order(self.choice.order) && self.failed) || self.trapped {
             return Verdict::After;

@@ -39,5 +39,7 @@ pub trait BookPiece: Weigh + Piece<Shelf = Bookshelf<Self>> {
 
     // A law: a shelf stands for a task exactly where it was made for the task's choice and lanes, its pieces fit and
     // its verdicts are those on its pieces.
-    ghost stands_where: { (task : Self.Task) (shelf : Bookshelf Self) → Self.stands task shelf ↔ IsShelfFor (Self.fits task) Self.outcome (choice task) (Self.lanes task) shelf };
+    ghost stands_where: { (task : Self.Task) (shelf : Bookshelf Self)
+        → Self.stands task shelf
+        ↔ IsShelfFor (Self.fits task) Self.outcome (choice task) (Self.lanes task) shelf };
 }

@@ -37,7 +37,8 @@ impl Piece for Accesses {
 
     ghost laid = { pieces_on };
 
-    ghost stands = { λ terms. IsShelfFor (λ lane a. lane ≡ lane) (λ a. accessed a.reads.members a.touched.members a.ending) terms.choice terms.lanes };
+    ghost stands = { λ terms. IsShelfFor (λ lane a. lane ≡ lane)
+        (λ a. accessed a.reads.members a.touched.members a.ending) terms.choice terms.lanes };
 
     fn lay(task: &Terms, shelf: &mut Bookshelf<Accesses>, piece: Accesses) {
         let _ = task;

@@ -45,7 +45,8 @@ impl Maker<Accesses> for Script {
 }
 
 fn terms_of(alloc: Global, policy: Policy, order: CommitOrder, line: u32) -> Terms
-    ensures { result ≡ record { choice = record { policy = policy; order = order; reds = []; line = line }; lanes = LANES } }
+    ensures { result
+        ≡ record { choice = record { policy = policy; order = order; reds = []; line = line }; lanes = LANES } }
 {
     Terms {
         choice: choice_of(alloc, policy, order, line),

@@ -25,8 +25,8 @@ fn chunks_run_side_by_side(rt: HostRuntime) -> Result<(), Fail> {
         let gate = Held::new(held, LOOKS);
         let seen = serve_at(&rt, rt.alloc(), &Call::new(words, source, none), &gate)?;
         assert_eq!(rt; seen.status, 3);
-        assert!(rt; seen.out.as_slice() == b"0 1 2 3 ");
-        assert!(rt; seen.err.as_slice() == b"alter: p13.c:7: trap: out of bounds\n");
+        assert!(rt; seen.out.as_slice() == b"0 1 2 3 ".as_slice());
+        assert!(rt; seen.err.as_slice() == b"alter: p13.c:7: trap: out of bounds\n".as_slice());
         assert!(rt; gate.is_well());
     }
     Ok(())

@@ -223,18 +223,21 @@ int main(void) {
 /// The first eight count: each alone, and then all together, which makes 80 candidates.
 #[test]
 fn eight_variables_count(rt: HostRuntime) -> Result<(), Fail> {
-    let tail = "candidate 71: FULL InOrder reduce(+: h): conflicts, test 1
-candidate 72: NONE OutOfOrder reduce(+: a) reduce(+: b) reduce(+: c) reduce(+: d) reduce(+: e) reduce(+: f) reduce(+: g) reduce(+: h): output, test 1
-candidate 73: NONE InOrder reduce(+: a) reduce(+: b) reduce(+: c) reduce(+: d) reduce(+: e) reduce(+: f) reduce(+: g) reduce(+: h): output, test 1
-candidate 74: WAW OutOfOrder reduce(+: a) reduce(+: b) reduce(+: c) reduce(+: d) reduce(+: e) reduce(+: f) reduce(+: g) reduce(+: h): conflicts, test 1
-candidate 75: WAW InOrder reduce(+: a) reduce(+: b) reduce(+: c) reduce(+: d) reduce(+: e) reduce(+: f) reduce(+: g) reduce(+: h): conflicts, test 1
-candidate 76: RAW OutOfOrder reduce(+: a) reduce(+: b) reduce(+: c) reduce(+: d) reduce(+: e) reduce(+: f) reduce(+: g) reduce(+: h): conflicts, test 1
-candidate 77: RAW InOrder reduce(+: a) reduce(+: b) reduce(+: c) reduce(+: d) reduce(+: e) reduce(+: f) reduce(+: g) reduce(+: h): conflicts, test 1
-candidate 78: FULL OutOfOrder reduce(+: a) reduce(+: b) reduce(+: c) reduce(+: d) reduce(+: e) reduce(+: f) reduce(+: g) reduce(+: h): conflicts, test 1
-candidate 79: FULL InOrder reduce(+: a) reduce(+: b) reduce(+: c) reduce(+: d) reduce(+: e) reduce(+: f) reduce(+: g) reduce(+: h): conflicts, test 1
+    let one_to_four = "reduce(+: a) reduce(+: b) reduce(+: c) reduce(+: d)";
+    let five_to_eight = "reduce(+: e) reduce(+: f) reduce(+: g) reduce(+: h)";
+    let eight = format!(in rt.alloc(); "{one_to_four} {five_to_eight}")?;
+    let tail = format!(in rt.alloc(); "candidate 71: FULL InOrder reduce(+: h): conflicts, test 1
+candidate 72: NONE OutOfOrder {eight}: output, test 1
+candidate 73: NONE InOrder {eight}: output, test 1
+candidate 74: WAW OutOfOrder {eight}: conflicts, test 1
+candidate 75: WAW InOrder {eight}: conflicts, test 1
+candidate 76: RAW OutOfOrder {eight}: conflicts, test 1
+candidate 77: RAW InOrder {eight}: conflicts, test 1
+candidate 78: FULL OutOfOrder {eight}: conflicts, test 1
+candidate 79: FULL InOrder {eight}: conflicts, test 1
 best none
-";
+")?;
     let words = "infer p.c n.txt --lanes 4 --chunk 1";
-    assert!(rt; ends_in(&rt, rt.alloc(), words, NINE, tail)?);
+    assert!(rt; ends_in(&rt, rt.alloc(), words, NINE, tail.as_str())?);
     Ok(())
 }
