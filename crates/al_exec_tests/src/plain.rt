@@ -137,46 +137,61 @@ pub fn run_plain<S: Store + Drop>(
         let (left, made, bytes) = view.finish();
         printed.append(bytes)?;
         names = made;
-        let (ending, left) = match stop {
-            Stop::Ended(_) => (Some(Ending::Done), left),
-            Stop::Trapped(trap, line) => (Some(Ending::Trap(trap, line)), left),
-            Stop::AtLoop { number, lo, hi } => {
-                let Some(info) = code.loops.get(number as usize) else {
-                    return Ok(None);
-                };
-                if info.number != number {
-                    return Ok(None);
-                }
-                let ran = answer(
-                    alloc,
-                    code,
-                    info,
-                    input,
-                    &mut machine,
-                    lo,
-                    hi,
-                    execution,
-                    most.iteration,
-                    left,
-                )?;
-                printed.append(ran.printed)?;
-                steps = steps.wrapping_add(ran.steps);
-                match ran.ending {
-                    Ending::Done => (None, ran.store),
-                    ending => (Some(ending), ran.store),
-                }
+        let spent = most.serial.wrapping_sub(budget.left());
+        let (number, lo, hi) = match stop {
+            Stop::AtLoop { number, lo, hi } => (number, lo, hi),
+            Stop::Ended(_) => {
+                return Ok(Some(Ran {
+                    ending: Ending::Done,
+                    printed,
+                    steps: steps.wrapping_add(spent),
+                    store: left,
+                }));
+            }
+            Stop::Trapped(trap, line) => {
+                return Ok(Some(Ran {
+                    ending: Ending::Trap(trap, line),
+                    printed,
+                    steps: steps.wrapping_add(spent),
+                    store: left,
+                }));
             }
         };
-        store = left;
-        if let Some(ending) = ending {
-            let spent = most.serial.wrapping_sub(budget.left());
+        let Some(info) = code.loops.get(number as usize) else {
+            return Ok(None);
+        };
+        if info.number != number {
+            return Ok(None);
+        }
+        let ran = answer(
+            alloc,
+            code,
+            info,
+            input,
+            &mut machine,
+            lo,
+            hi,
+            execution,
+            most.iteration,
+            left,
+        )?;
+        let Ran {
+            ending,
+            printed: bytes,
+            steps: more,
+            store: left,
+        } = ran;
+        printed.append(bytes)?;
+        steps = steps.wrapping_add(more);
+        if ending != Ending::Done {
             return Ok(Some(Ran {
                 ending,
                 printed,
                 steps: steps.wrapping_add(spent),
-                store,
+                store: left,
             }));
         }
+        store = left;
     }
     Ok(None)
 }
