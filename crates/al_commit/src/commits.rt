@@ -76,7 +76,8 @@ fn sum_of(v: PackedValue) -> i64
 
 /// A reduction variable becomes its old value joined with a number.
 fn join<S: Store>(store: &mut S, r: &Red, n: i64)
-    ensures { S.memory store.new ≡ spec.with_sum r.now n (S.memory store.old) (value_at (S.memory store.old) r.now.at) }
+    ensures { S.memory store.new
+        ≡ spec.with_sum r.now n (S.memory store.old) (value_at (S.memory store.old) r.now.at) }
 {
     if let Some(v) = value(store, r.at) {
         if let Some(old) = v.int() {
