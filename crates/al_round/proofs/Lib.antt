@@ -1,3 +1,4 @@
 mod Tasks
 mod Keeping
 mod Told
+mod Crossing

@@ -1,8 +1,6 @@
 -- What the changes of a round's chunks come to is the definition's round.
 use Rattle.std.proofs.Common.{◌≡◌, ℕ, zero, suc, ◌≤◌, List, [], ◌∷◌, ◌++◌, length, true, refl, sym, ap, subst, ◌∙◌, append-nil, arith}
 use Rattle.std.specs.Prelude.{map, slice_index}
-use mathlib.Core.Option.{some}
-use lib.ListN.{get_elem?}
 use Rattle.al_core.specs.declared.choices.Choice.{Choice}
 use Rattle.al_core.specs.declared.choices.Red.{Red}
 use Rattle.al_core.specs.declared.reports.Ending.TheVariants as ending
@@ -12,11 +10,11 @@ use Rattle.al_core.specs.Iteration.{Execution}
 use Rattle.al_core.specs.Chunk.{Outcome, outcome}
 use Rattle.al_core.specs.Verdicts.{Judging, nothing_judged, verdict_of, judged, verdicts_from, verdicts, is_committed, committed}
 use Rattle.al_core.specs.Applied.{all_applied}
-use Rattle.al_core.specs.Round.{Round, with_chunks, all_printed, last_ending, most_steps, outcomes, round_of, round}
+use Rattle.al_core.specs.Round.{Round, with_chunks, all_printed, last_ending, outcomes, round_of, round}
 use Rattle.al_laws.proofs.Commits.{first_committed}
 use Rattle.al_board.specs.Fits.{AreFit}
 use Rattle.al_round.specs.declared.report.RoundReport.{RoundReport}
-use Rattle.al_round.specs.Rounds.{IsRound, HasLaidFirst, HasBegun, IsKept, IsSettled}
+use Rattle.al_round.specs.Rounds.{IsRound, HasLaidFirst, HasBegun, IsSettled}
 
 -- ---- the outcomes of which pieces tell are those of their chunks
 

@@ -124,8 +124,8 @@ pub(crate) fn settle<S: Store + Sync>(
     reds: &[Red],
 ) -> Result<RoundReport, AllocError>
     requires each { length verdicts ≡ length all.items }
-    ensures settled { IfOk result (IsSettled reds.now (S.memory store.old) (S.memory store.new) (map (λ d. told d.change) all.entry.items) verdicts.entry) }
-    ensures err { OnErr result (HasLaidFirst reds.now (S.memory store.old) (S.memory store.new) (spec.committed (map (λ d. told d.change) all.entry.items) verdicts.entry)) }
+    ensures settled { IfOk result (IsSettled reds.now (S.memory store.old) (S.memory store.new) (map (λ d. told d.change) all.entry.items) verdicts) }
+    ensures err { OnErr result (HasLaidFirst reds.now (S.memory store.old) (S.memory store.new) (spec.committed (map (λ d. told d.change) all.entry.items) verdicts)) }
 {
     let longest = longest_of(all.as_slice());
     let Kept { printed, ending } = keep_committed(alloc, store, all, verdicts.as_slice(), reds)?;

@@ -51,7 +51,9 @@ impl<'a, 'b, S: Store + Sync> Maker<Done<'a, S>> for Runner<'a, 'b, S> {
             chunks,
         } = self.task.plan;
         let chunk = chunks[lane as usize];
-        let change = run_chunk(self.alloc, code, info, choice, env, input, chunk, self.store)?;
+        let change = run_chunk(
+            self.alloc, code, info, choice, env, input, chunk, self.store,
+        )?;
         Ok(Done {
             change,
             plan: PhantomData,

@@ -1,4 +1,4 @@
-use Rattle.std.proofs.Common.{◌≡◌, ◌+◌, ◌<◌, ◌++◌, ◌∷◌, [], length, drop, map, sym, ap, subst, ◌∙◌, append_assoc, length-append, arith}
+use Rattle.std.proofs.Common.{◌≡◌, ◌<◌, ◌++◌, ◌∷◌, [], length, drop, map, sym, ap, subst, ◌∙◌, append_assoc, length-append, arith}
 use Rattle.al_core.specs.Verdicts.{committed}
 use Rattle.al_snap.specs.Changes.{told}
 use Rattle.al_round.specs.Rounds.{IsKept}
@@ -15,7 +15,7 @@ loop-done-preserved g c =
     let one = c.in-Some.done in
     let steps = c.in-Some.ensures.steps.0 in
     let whole : l.yielded ++ one ∷ rest ≡ c.args.all.items = ap (λ z. l.yielded ++ z) (sym steps) ∙ l.invariant.parts in
-    let inside : l.lane < length vs = omega (arith, l.invariant.lane, c.requires.each, sym (ap length whole), length-append l.yielded (one ∷ rest)) in
+    let inside : l.lane < length vs = omega (arith, l.invariant.lane, c.requires.each, ap length whole, length-append l.yielded (one ∷ rest)) in
     let cs = committed (map (λ d. told d.change) c.args.all.items) vs in
     let kept = subst (λ ds. IsKept reds m cs (committed (map (λ d. told d.change) ds) (drop l.lane vs)) (g.S.Store.memory l.store) l.kept.printed l.kept.ending) steps l.invariant.kept in
     record {

@@ -1,4 +1,4 @@
-use Rattle.std.proofs.Common.{◌≡◌, ◌∙◌, ◌≤◌, map, length, sym, arith}
+use Rattle.std.proofs.Common.{◌∙◌, ◌≤◌, map, length, arith}
 use Rattle.std.proofs.lemmas.Result.{IfOk-weaker, on_err_weaker}
 use Rattle.al_snap.specs.Changes.{told}
 use Rattle.al_chunk.specs.Loops.{execution_of}

@@ -1,4 +1,4 @@
-use Rattle.std.proofs.Common.{◌≡◌, length, slice_index}
+use Rattle.std.proofs.Common.{length, slice_index}
 use Rattle.al_snap.specs.Changes.{told}
 use Rattle.al_book.proofs.Shelves.{shelf_grows}
 use Rattle.al_round.specs.Rounds.{IsChunkOf}
