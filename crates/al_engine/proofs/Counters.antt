@@ -1,5 +1,5 @@
 -- A counter that is set again is the same.
-use Rattle.std.proofs.Common.{◌≡◌, ℕ, List, sym, ap, ◌∙◌}
+use Rattle.std.proofs.Common.{◌≡◌, List, sym, ap, ◌∙◌}
 use Rattle.std.specs.Prelude.{ℤ, slice_set}
 use Rattle.std.specs.Int.{int_max}
 use Rattle.std.proofs.lemmas.List.{set-set}

@@ -1,6 +1,6 @@
 -- Executions of a loop of the code, in a tree for which it stands.
 use Rattle.std.proofs.Common.{◌≡◌, ◌≤◌, ℕ, List, Option, Some, None, Ok, refl, sym, ap, ◌∙◌, subst}
-use Rattle.std.specs.Prelude.{ℤ, FitsSigned, option_map, slice_get}
+use Rattle.std.specs.Prelude.{FitsSigned, option_map, slice_get}
 use Rattle.std.specs.Int.{w64, div_ceil}
 use Rattle.al_source.specs.declared.limits.TheConstants.{MOST_STEPS}
 use Rattle.al_core.specs.declared.choices.LoopInfo.{LoopInfo}

@@ -1,14 +1,11 @@
 -- The call of `main` from nowhere, in the frame that it is given, and as its own caller makes it.
-use Rattle.std.proofs.Common.{◌≡◌, ℕ, zero, suc, ◌-◌, List, [], ◌++◌, Option, Some, None, Ok, Err, refl, sym, ap, ◌∙◌, subst}
-use Rattle.std.specs.Prelude.{ℤ, slice_get, length, replicate, pos}
-use Rattle.al_core.specs.declared.reports.Ending.{Ending}
+use Rattle.std.proofs.Common.{◌≡◌, ℕ, zero, suc, ◌-◌, [], ◌++◌, Option, Some, None, Ok, Err, refl, sym, ap, ◌∙◌, subst}
+use Rattle.std.specs.Prelude.{slice_get, length, replicate, pos}
 use Rattle.al_core.specs.declared.typed_tree.TFunc.{TFunc}
-use Rattle.al_core.specs.declared.typed_tree.Typed.{Typed}
 use Rattle.al_core.specs.declared.values.Val.{Val}
 use Rattle.al_core.specs.declared.values.Val.TheVariants.{Int}
-use Rattle.al_core.specs.World.{World}
-use Rattle.al_core.specs.Action.{AllPrivate, Frame, State, Answer, Act, after, bind, pure, spend, spend_from, get_frame, set_frame, ◌>>=◌, ◌>>◌, enter, leave}
-use Rattle.al_core.specs.Meaning.{Where, Outside, Flow, returned, frame_of, body_of, execute_all, call_to}
+use Rattle.al_core.specs.Action.{AllPrivate, Frame, State, Answer, Act, after, bind, pure, spend, get_frame, set_frame, ◌>>=◌, ◌>>◌, enter, leave}
+use Rattle.al_core.specs.Meaning.{Outside, Flow, returned, frame_of, body_of, execute_all, call_to}
 use Rattle.al_core.specs.Iteration.{ending_of, calls_within}
 use Rattle.al_core.specs.Run.{Setting, Whole, outside, start, line_of, whole_run}
 use Rattle.al_code.specs.declared.lowered.Code.{Code}

@@ -1,20 +1,19 @@
 -- What a whole run comes to, from stop to stop.
-use Rattle.std.proofs.Common.{◌≡◌, ℕ, zero, suc, ◌-◌, ◌<◌, ◌≤◌, Bool, true, false, List, [], ◌∷◌, ◌++◌, length, Option, Some, None, Ok, Err, refl, sym, ap, ◌∙◌, subst, arith}
-use Rattle.std.specs.Prelude.{ℤ, slice_get, slice_set, replicate, pos}
+use Rattle.std.proofs.Common.{◌≡◌, ℕ, zero, suc, ◌-◌, ◌<◌, ◌≤◌, Bool, false, List, [], ◌∷◌, ◌++◌, length, Option, Some, None, Ok, Err, refl, sym, ap, ◌∙◌, subst, arith}
+use Rattle.std.specs.Prelude.{ℤ, slice_get, replicate, pos}
 use Rattle.std.proofs.lemmas.List.{replicate-append-replicate, length-replicate}
-use Rattle.al_core.specs.declared.choices.LoopInfo.{LoopInfo}
 use Rattle.al_core.specs.declared.reports.Ending.{Ending}
 use Rattle.al_core.specs.declared.reports.Ending.TheVariants as ending
 use Rattle.al_core.specs.declared.typed_tree.Typed.{Typed}
 use Rattle.al_core.specs.declared.values.Trap.{Trap}
 use Rattle.al_core.specs.declared.values.Val.{Val}
 use Rattle.al_core.specs.declared.values.Val.TheVariants.{Int}
-use Rattle.al_core.specs.Action.{AllPrivate, Frame, State, Answer, Act, spend, ◌>>◌, visit}
+use Rattle.al_core.specs.Action.{AllPrivate, Frame, State, Answer, Act, spend, ◌>>◌}
 use Rattle.al_core.specs.Access.{Content, in_iteration}
 use Rattle.al_core.specs.Iteration.{ending_of, calls_within}
 use Rattle.al_core.specs.Loops.{loop_at}
 use Rattle.al_core.specs.Meaning.{Outside}
-use Rattle.al_core.specs.Run.{Setting, Whole, start, visit_loop, whole_run}
+use Rattle.al_core.specs.Run.{Whole, start, visit_loop, whole_run}
 use Rattle.al_code.specs.declared.lowered.Code.{Code}
 use Rattle.al_code.specs.declared.lowered.Entry.{Entry}
 use Rattle.al_code.specs.Answerers.{answered}
@@ -26,13 +25,13 @@ use Rattle.al_exec.specs.declared.machine.Machine.{Machine}
 use Rattle.al_exec.specs.declared.machine.Start.{Start}
 use Rattle.al_exec.specs.declared.machine.Start.TheVariants as begin
 use Rattle.al_exec.specs.declared.stop.Stop.TheVariants as stop
-use Rattle.al_exec.specs.Going.{begin_with, run_of, state_with, StopsAs, StopsAtLoop}
+use Rattle.al_exec.specs.Going.{begin_with, run_of, state_with, StopsAs}
 use Rattle.al_exec.specs.Machines.{spot_in, where_of, Stands}
 use Rattle.al_exec.specs.Starts.{frame_in, StartsFunction}
 use Rattle.al_engine.specs.declared.job.Job.{Job}
 use Rattle.al_engine.specs.Ends.{EndsAs}
 use Rattle.al_engine.specs.Jobs.{IsCodeOf, setting_of}
-use Rattle.al_engine.specs.Rests.{Beginning, Nothing, Step, begun, rest, answerer, begins, ComesBy, Leads, beginning_of, IsBeginning, state_at, IsAt, IsStopped, IsNext}
+use Rattle.al_engine.specs.Rests.{Beginning, Step, begun, rest, answerer, begins, Leads, beginning_of, IsBeginning, state_at, IsAt, IsStopped, IsNext}
 use Rattle.al_engine.specs.Starts.{no_arguments}
 use Rattle.al_engine.specs.Worlds.{locals_or, answer_by}
 use Rattle.al_engine.proofs.Mains.{tells}

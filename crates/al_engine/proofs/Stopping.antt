@@ -1,5 +1,5 @@
 -- From stop to stop: what follows a machine's stop is what follows in the whole run.
-use Rattle.std.proofs.Common.{◌≡◌, ℕ, zero, suc, Bool, false, List, Option, Some, None, Ok, Err, refl, sym, ap, ◌∙◌, subst}
+use Rattle.std.proofs.Common.{◌≡◌, ℕ, zero, suc, List, Option, Ok, Err, refl, sym, ap, ◌∙◌, subst}
 use Rattle.std.specs.Prelude.{ℤ}
 use Rattle.al_core.specs.declared.values.Trap.{Trap}
 use Rattle.al_core.specs.declared.values.Val.{Val}
@@ -10,7 +10,7 @@ use Rattle.al_core.specs.Run.{Whole}
 use Rattle.al_code.specs.declared.lowered.Code.{Code}
 use Rattle.al_code.specs.Answerers.{Answerer, answered}
 use Rattle.al_code.specs.Machine.{Spot}
-use Rattle.al_code.specs.Runs.{Stop, Ended, AtLoop, exec, exec_to_stop, ComesTo}
+use Rattle.al_code.specs.Runs.{Stop, exec_to_stop, ComesTo}
 use Rattle.al_code_laws.specs.Stops.{IsOver, Run, raise, Lifts, GoesOn, resumed}
 use Rattle.al_code_laws.proofs.Resumed.{stops_go_on}
 use Rattle.al_code_laws.proofs.Carried.{stops_lift}

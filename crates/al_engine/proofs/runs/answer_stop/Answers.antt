@@ -1,4 +1,4 @@
-use Rattle.std.proofs.Common.{None, sym}
+use Rattle.std.proofs.Common.{None}
 use Rattle.std.specs.Int.{w64}
 use Rattle.std.proofs.lemmas.Int.{to_z-of_z}
 use Rattle.al_core.specs.declared.reports.Ending.TheVariants as ending

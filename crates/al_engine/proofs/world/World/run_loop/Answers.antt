@@ -2,7 +2,7 @@ use Rattle.std.proofs.Common.{None, refl, ◌∙◌}
 use Rattle.std.proofs.lemmas.Result.{IfOk-weaker}
 use Rattle.al_core.specs.Run.{Whole}
 use Rattle.al_engine.specs.Executions.{loop_result}
-use Rattle.al_engine.specs.Worlds.{IsBefore, whole_of}
+use Rattle.al_engine.specs.Worlds.{whole_of}
 use Rattle.al_engine.proofs.Entering.{run_loop_is}
 use Rattle.al_engine.proofs.world.World.run_loop.Goals as goal
 
