@@ -74,9 +74,12 @@ impl Kept {
         change: Change,
         reds: &[Red],
     ) -> Result<(), AllocError>
-        ensures memory { OnOk result (S.memory store.new ≡ all_applied reds.now (spec.cons_if (spec.is_committed verdict) (told change) []) (S.memory store.old)) }
-        ensures printed { OnOk result (self.new.printed ≡ round.all_printed (spec.cons_if (spec.is_committed verdict) (told change) []) self.old.printed) }
-        ensures ending { OnOk result (self.new.ending ≡ round.last_ending (spec.cons_if (spec.is_committed verdict) (told change) []) self.old.ending) }
+        ensures memory { OnOk result (S.memory store.new
+            ≡ all_applied reds.now (spec.cons_if (spec.is_committed verdict) (told change) []) (S.memory store.old)) }
+        ensures printed { OnOk result (self.new.printed
+            ≡ round.all_printed (spec.cons_if (spec.is_committed verdict) (told change) []) self.old.printed) }
+        ensures ending { OnOk result (self.new.ending
+            ≡ round.last_ending (spec.cons_if (spec.is_committed verdict) (told change) []) self.old.ending) }
         ensures err { OnErr result (S.memory store.new ≡ S.memory store.old) }
     {
         if is_committed(verdict) {
@@ -95,8 +98,11 @@ fn keep_committed<S: Store + Sync>(
     reds: &[Red],
 ) -> Result<Kept, AllocError>
     requires each { length verdicts.now ≡ length all.items }
-    ensures kept { IfOk result (λ k. IsKept reds.now (S.memory store.old) (spec.committed (map (λ d. told d.change) all.entry.items) verdicts.now) [] (S.memory store.new) k.printed k.ending) }
-    ensures err { OnErr result (HasLaidFirst reds.now (S.memory store.old) (S.memory store.new) (spec.committed (map (λ d. told d.change) all.entry.items) verdicts.now)) }
+    ensures kept { IfOk result (λ k. IsKept reds.now (S.memory store.old)
+        (spec.committed (map (λ d. told d.change) all.entry.items) verdicts.now) [] (S.memory store.new)
+        k.printed k.ending) }
+    ensures err { OnErr result (HasLaidFirst reds.now (S.memory store.old) (S.memory store.new)
+        (spec.committed (map (λ d. told d.change) all.entry.items) verdicts.now)) }
 {
     let mut kept = Kept {
         printed: Items::new(alloc),
@@ -124,8 +130,10 @@ pub(crate) fn settle<S: Store + Sync>(
     reds: &[Red],
 ) -> Result<RoundReport, AllocError>
     requires each { length verdicts ≡ length all.items }
-    ensures settled { IfOk result (IsSettled reds.now (S.memory store.old) (S.memory store.new) (map (λ d. told d.change) all.entry.items) verdicts) }
-    ensures err { OnErr result (HasLaidFirst reds.now (S.memory store.old) (S.memory store.new) (spec.committed (map (λ d. told d.change) all.entry.items) verdicts)) }
+    ensures settled { IfOk result (IsSettled reds.now (S.memory store.old) (S.memory store.new)
+        (map (λ d. told d.change) all.entry.items) verdicts) }
+    ensures err { OnErr result (HasLaidFirst reds.now (S.memory store.old) (S.memory store.new)
+        (spec.committed (map (λ d. told d.change) all.entry.items) verdicts)) }
 {
     let longest = longest_of(all.as_slice());
     let Kept { printed, ending } = keep_committed(alloc, store, all, verdicts.as_slice(), reds)?;

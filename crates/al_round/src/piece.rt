@@ -46,13 +46,18 @@ impl<'a, S: Store + Sync> Piece for Done<'a, S> {
 
     type Shelf = Bookshelf<Done<'a, S>>;
 
-    ghost fits = { λ t lane d. IsChunkOf t.plan.code.now t.plan.info.now t.plan.input.now t.plan.env.now t.plan.choice.now.reds (S.memory t.store.value) (slice_index t.plan.chunks.now lane) d.change };
+    ghost fits = { λ t lane d.
+        IsChunkOf t.plan.code.now t.plan.info.now t.plan.input.now t.plan.env.now t.plan.choice.now.reds
+        (S.memory t.store.value) (slice_index t.plan.chunks.now lane) d.change };
 
     ghost lanes = { λ t. length t.plan.chunks.now };
 
     ghost laid = { pieces_on };
 
-    ghost stands = { λ t shelf. IsShelfFor (λ lane d. IsChunkOf t.plan.code.now t.plan.info.now t.plan.input.now t.plan.env.now t.plan.choice.now.reds (S.memory t.store.value) (slice_index t.plan.chunks.now lane) d.change) (λ d. told d.change) t.plan.choice.now (length t.plan.chunks.now) shelf };
+    ghost stands = { λ t shelf. IsShelfFor (λ lane d.
+        IsChunkOf t.plan.code.now t.plan.info.now t.plan.input.now t.plan.env.now t.plan.choice.now.reds
+        (S.memory t.store.value) (slice_index t.plan.chunks.now lane) d.change) (λ d. told d.change)
+        t.plan.choice.now (length t.plan.chunks.now) shelf };
 
     fn lay(task: &Task<'a, S>, shelf: &mut Bookshelf<Done<'a, S>>, piece: Done<'a, S>) {
         let _ = task;

@@ -37,9 +37,12 @@ pub fn round<R: Threads + Sync, S: Store + Sync, G: Gate>(
     requires may { MayRun code.now info.now env.now chunks.now }
     requires line { IsLineSize choice.now.line }
     requires threads { (1 ≤ threads) × (threads ≤ 64) }
-    ensures exact { IfOk result (λ r. InEachTree code.now info.now input.now env.now (λ x. IsRound x choice.now chunks.now (S.memory store.old) (S.memory store.new) r)) }
-    ensures first { IfOk result (λ r. (v : Verdict) × (rest : List Verdict) × (r.verdicts ≡ v ∷ rest) × (is_committed v ≡ true)) }
-    ensures memory { OnErr result (InEachTree code.now info.now input.now env.now (λ x. HasBegun x choice.now chunks.now (S.memory store.old) (S.memory store.new))) }
+    ensures exact { IfOk result (λ r. InEachTree code.now info.now input.now env.now (λ x.
+        IsRound x choice.now chunks.now (S.memory store.old) (S.memory store.new) r)) }
+    ensures first { IfOk result (λ r.
+        (v : Verdict) × (rest : List Verdict) × (r.verdicts ≡ v ∷ rest) × (is_committed v ≡ true)) }
+    ensures memory { OnErr result (InEachTree code.now info.now input.now env.now (λ x.
+        HasBegun x choice.now chunks.now (S.memory store.old) (S.memory store.new))) }
 {
     let plan = Plan {
         code,

@@ -87,8 +87,12 @@ pub(crate) fn run_chunks<'a, R: Threads + Sync, S: Store + Sync, G: Gate>(
     requires line { IsLineSize plan.choice.now.line }
     requires threads { (1 ≤ threads) × (threads ≤ 64) }
     ensures each { IfOk result (λ r. length r.0.items ≡ length plan.entry.chunks.now) }
-    ensures outcomes { IfOk result (λ r. InEachTree plan.entry.code.now plan.entry.info.now plan.entry.input.now plan.entry.env.now (λ x. map (λ d. told d.change) r.0.items ≡ outcomes x plan.entry.choice.now.reds (S.memory store.now) plan.entry.chunks.now)) }
-    ensures verdicts { IfOk result (λ r. r.1 ≡ spec.verdicts plan.entry.choice.now (map (λ d. told d.change) r.0.items)) }
+    ensures outcomes { IfOk result (λ r.
+        InEachTree plan.entry.code.now plan.entry.info.now plan.entry.input.now plan.entry.env.now (λ x.
+        map (λ d. told d.change) r.0.items
+        ≡ outcomes x plan.entry.choice.now.reds (S.memory store.now) plan.entry.chunks.now)) }
+    ensures verdicts { IfOk result (λ r.
+        r.1 ≡ spec.verdicts plan.entry.choice.now (map (λ d. told d.change) r.0.items)) }
 {
     let lanes = plan.chunks.len() as u32;
     let (book, pass) = Book::<Done<'a, S>>::new(alloc, lanes, task_of(store, plan))?;

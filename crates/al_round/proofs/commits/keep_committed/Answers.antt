@@ -17,7 +17,9 @@ loop-done-preserved g c =
     let whole : l.yielded ++ one ∷ rest ≡ c.args.all.items = ap (λ z. l.yielded ++ z) (sym steps) ∙ l.invariant.parts in
     let inside : l.lane < length vs = omega (arith, l.invariant.lane, c.requires.each, ap length whole, length-append l.yielded (one ∷ rest)) in
     let cs = committed (map (λ d. told d.change) c.args.all.items) vs in
-    let kept = subst (λ ds. IsKept reds m cs (committed (map (λ d. told d.change) ds) (drop l.lane vs)) (g.S.Store.memory l.store) l.kept.printed l.kept.ending) steps l.invariant.kept in
+    let kept = subst
+    (λ ds. IsKept reds m cs (committed (map (λ d. told d.change) ds) (drop l.lane vs)) (g.S.Store.memory l.store) l.kept.printed l.kept.ending)
+    steps l.invariant.kept in
     record {
       lane = let n = l.invariant.lane in omega (arith, length-append l.yielded (one ∷ []));
       parts = append_assoc l.yielded (one ∷ []) rest ∙ whole;

@@ -11,7 +11,8 @@ use Rattle.al_round.proofs.runner.run_chunks.Goals as goal
 
 pub work_all-requires-clause-maker : goal.work_all-requires-clause-maker
 work_all-requires-clause-maker g c κs within =
-    let same = same_task c.task_of-2.result c.task_of.result (c.task_of-2.ensures.0 ∙ sym c.task_of.ensures.0) (c.task_of-2.ensures.1 ∙ sym c.task_of.ensures.1) in
+    let same = same_task c.task_of-2.result c.task_of.result (c.task_of-2.ensures.0 ∙ sym c.task_of.ensures.0)
+    (c.task_of-2.ensures.1 ∙ sym c.task_of.ensures.1) in
     let lanes = ap (λ z. length z.chunks.now) c.task_of-2.ensures.1 in (
       same ∙ sym c.in_ok-book.ensures.book.1 ∙ sym (ap (λ b. task_of b) c.board.ensures.board),
       lanes ∙ sym c.in_ok-book.ensures.book.0 ∙ sym (ap (λ b. lane_count b) c.board.ensures.board),
