@@ -135,7 +135,16 @@ fn in_lockstep<R: Threads + Sync, G: Gate>(
 {
     let code = lowered(alloc, program)?;
     let choices = own_choices(alloc, knobs.line, program)?;
-    run(rt, alloc, &code, input, knobs, choices.as_slice(), watch, gate)
+    run(
+        rt,
+        alloc,
+        &code,
+        input,
+        knobs,
+        choices.as_slice(),
+        watch,
+        gate,
+    )
 }
 
 /// A run with every loop plain.
@@ -153,7 +162,16 @@ fn plain<R: Threads + Sync, G: Gate>(
 {
     let code = lowered(alloc, program)?;
     let choices = no_choices(alloc, program.1.as_slice())?;
-    run(rt, alloc, &code, input, knobs, choices.as_slice(), false, gate)
+    run(
+        rt,
+        alloc,
+        &code,
+        input,
+        knobs,
+        choices.as_slice(),
+        false,
+        gate,
+    )
 }
 
 /// Each loop's own annotation, with lines of so many words.

@@ -104,7 +104,15 @@ fn gives<R: Threads + Sync>(
     let mut files = MemFiles::new(files, Items::from_slice(alloc, &[call.failing])?);
     let mut out = sink(alloc, call.out)?;
     let mut err = sink(alloc, call.err)?;
-    let status = alter(rt, alloc, words.as_slice(), &mut files, &mut out, &mut err, &FreeGate);
+    let status = alter(
+        rt,
+        alloc,
+        words.as_slice(),
+        &mut files,
+        &mut out,
+        &mut err,
+        &FreeGate,
+    );
     Ok(
         status == wanted.status
             && out.bytes() == wanted.out.as_bytes()

@@ -18,7 +18,8 @@ candidate 7: FULL InOrder: conflicts, test 1
 
 /// The table in which exactly the candidates with a reduction of `s` are accepted.
 fn with_reduction(alloc: Global, op: &str) -> Result<String, AllocError> {
-    format!(in alloc; "{REFUSED}candidate 8: NONE OutOfOrder reduce({op}: s): accepted, span 6
+    format!(in alloc;
+        "{REFUSED}candidate 8: NONE OutOfOrder reduce({op}: s): accepted, span 6
 candidate 9: NONE InOrder reduce({op}: s): accepted, span 6
 candidate 10: WAW OutOfOrder reduce({op}: s): accepted, span 6
 candidate 11: WAW InOrder reduce({op}: s): accepted, span 6
@@ -27,18 +28,21 @@ candidate 13: RAW InOrder reduce({op}: s): accepted, span 6
 candidate 14: FULL OutOfOrder reduce({op}: s): accepted, span 6
 candidate 15: FULL InOrder reduce({op}: s): accepted, span 6
 best 8
-")
+"
+    )
 }
 
 /// A loop that gathers the input in `s`.
 fn gathering(alloc: Global, start: i64, update: &str) -> Result<String, AllocError> {
-    format!(in alloc; "int main(void) {{
+    format!(in alloc;
+        "int main(void) {{
   long s = {start};
 #pragma alter RAW InOrder
   for (long i = 0; i < 4; i++) {update};
   printf(\"%ld\\n\", s);
 }}
-")
+"
+    )
 }
 
 /// Whether the search of a program for an input, one iteration a chunk, has this table.
@@ -68,15 +72,7 @@ fn a_sum_has_its_table(rt: HostRuntime) -> Result<(), Fail> {
     let alloc = rt.alloc();
     let from_zero = changed(alloc, P9, "s = 7", "s = 0")?;
     let table = with_reduction(alloc, "+")?;
-    assert!(rt;
-        has_table(
-            &rt,
-            alloc,
-            from_zero.as_str(),
-            "1 2 3 4\n",
-            table.as_str()
-        )?
-    );
+    assert!(rt; has_table(&rt, alloc, from_zero.as_str(), "1 2 3 4\n", table.as_str())?);
     let rows: [Row; 2] = [
         (
             "infer p9.c n.txt --loop 1",
@@ -168,13 +164,7 @@ fn each_operator_is_found(rt: HostRuntime) -> Result<(), Fail> {
         let program = gathering(alloc, start, update)?;
         let table = with_reduction(alloc, op)?;
         assert!(rt;
-            has_table(
-                &rt,
-                alloc,
-                program.as_str(),
-                "5 9 1 6\n",
-                table.as_str()
-            )?,
+            has_table(&rt, alloc, program.as_str(), "5 9 1 6\n", table.as_str())?,
             "{op}"
         );
     }
@@ -226,7 +216,8 @@ fn eight_variables_count(rt: HostRuntime) -> Result<(), Fail> {
     let one_to_four = "reduce(+: a) reduce(+: b) reduce(+: c) reduce(+: d)";
     let five_to_eight = "reduce(+: e) reduce(+: f) reduce(+: g) reduce(+: h)";
     let eight = format!(in rt.alloc(); "{one_to_four} {five_to_eight}")?;
-    let tail = format!(in rt.alloc(); "candidate 71: FULL InOrder reduce(+: h): conflicts, test 1
+    let tail = format!(in rt.alloc();
+        "candidate 71: FULL InOrder reduce(+: h): conflicts, test 1
 candidate 72: NONE OutOfOrder {eight}: output, test 1
 candidate 73: NONE InOrder {eight}: output, test 1
 candidate 74: WAW OutOfOrder {eight}: conflicts, test 1
@@ -236,7 +227,8 @@ candidate 77: RAW InOrder {eight}: conflicts, test 1
 candidate 78: FULL OutOfOrder {eight}: conflicts, test 1
 candidate 79: FULL InOrder {eight}: conflicts, test 1
 best none
-")?;
+"
+    )?;
     let words = "infer p.c n.txt --lanes 4 --chunk 1";
     assert!(rt; ends_in(&rt, rt.alloc(), words, NINE, tail.as_str())?);
     Ok(())

@@ -8,7 +8,9 @@ ghost use Rattle.al_plain.specs.Executions.{IsBounded as IsPlainBounded};
 use crate::starts::{AtLoop, Lowered, lowered, plain_memory, run_to_loop};
 use al_chunk::LoopEnv;
 use al_code::Code;
-use al_core::{Addr, Choice, CommitOrder, Ending, Knobs, LoopInfo, Obj, Policy, Val, Verdict, trips};
+use al_core::{
+    Addr, Choice, CommitOrder, Ending, Knobs, LoopInfo, Obj, Policy, Val, Verdict, trips,
+};
 use al_heap::Store;
 use al_interpreter::{Program, Setting};
 use al_pages::PageStore;
@@ -132,7 +134,11 @@ fn addresses(alloc: Global, code: &Code) -> Result<Vec<Addr>, AllocError> {
     let mut all = Vec::new(alloc);
     for k in 0..8u32 {
         all.push(Addr::Local(k))?;
-        let objects = [Obj::Global(k), Obj::Serial(k), Obj::Iter(0, u64::from(k), 0)];
+        let objects = [
+            Obj::Global(k),
+            Obj::Serial(k),
+            Obj::Iter(0, u64::from(k), 0),
+        ];
         for obj in objects {
             all.push(Addr::Head(obj))?;
             for w in 0..code.globals.len().min(8) as u32 {
