@@ -3,10 +3,10 @@
 
 #[cfg(test)]
 mod beside;
-mod lowered;
 mod plain;
 #[cfg(test)]
 mod runs;
+mod sources;
 
-pub use lowered::{lowered, put_globals};
 pub use plain::{Ran, Steps, run_plain};
+pub use sources::{lowered, put_globals};
