@@ -4,7 +4,7 @@ ghost use Rattle.al_chunk.specs.Loops.{IsBounded};
 ghost use Rattle.al_plain.specs.Executions.{IsBounded as IsPlainBounded};
 
 use crate::beside::{addresses, is_same};
-use crate::starts::{AtLoop, Lowered, lowered, plain_memory, run_to_loop};
+use crate::starts::{AtLoop, Lowered, lower_source, plain_memory, run_to_loop};
 use al_chunk::{LoopEnv, run_chunk, run_plain_loop};
 use al_code::Code;
 use al_core::{Addr, Ending, Knobs, LoopInfo, Obj, Val, trips};
@@ -174,7 +174,7 @@ fn first_loop<S: Store + Drop, R: AllocGlobal + Abort>(
 #[test]
 fn samples_over_a_map(rt: HostRuntime) -> Result<(), Fail> {
     for source in SOURCES {
-        let program = lowered(rt.alloc(), source)?.ok_or("refused")?;
+        let program = lower_source(rt.alloc(), source)?.ok_or("refused")?;
         for chunk in [1, 2, 16] {
             let store = MapStore::new(rt.alloc());
             first_loop(&rt, &program, chunk, store)?.ok_or("no loop")?;
@@ -186,7 +186,7 @@ fn samples_over_a_map(rt: HostRuntime) -> Result<(), Fail> {
 #[test]
 fn samples_over_pages(rt: HostRuntime) -> Result<(), Fail> {
     for source in SOURCES {
-        let program = lowered(rt.alloc(), source)?.ok_or("refused")?;
+        let program = lower_source(rt.alloc(), source)?.ok_or("refused")?;
         for chunk in [1, 2, 16] {
             let store = PageStore::new(rt.alloc());
             first_loop(&rt, &program, chunk, store)?.ok_or("no loop")?;
@@ -197,7 +197,7 @@ fn samples_over_pages(rt: HostRuntime) -> Result<(), Fail> {
 
 #[test]
 fn larger_sample(rt: HostRuntime) -> Result<(), Fail> {
-    let program = lowered(rt.alloc(), P15)?.ok_or("refused")?;
+    let program = lower_source(rt.alloc(), P15)?.ok_or("refused")?;
     let store = PageStore::new(rt.alloc());
     first_loop(&rt, &program, 250, store)?.ok_or("no loop")?;
     Ok(())
@@ -220,7 +220,7 @@ fn is_first_of_two(change: &Change) -> bool {
 
 #[test]
 fn first_of_two_iterations(rt: HostRuntime) -> Result<(), Fail> {
-    let program = lowered(rt.alloc(), P4)?.ok_or("refused")?;
+    let program = lower_source(rt.alloc(), P4)?.ok_or("refused")?;
     let code = &program.code;
     let (there, store) = run_to_loop(rt.alloc(), code, MapStore::new(rt.alloc()))?;
     let env = env_at(&there.ok_or("no loop")?, 1).ok_or("too many trips")?;

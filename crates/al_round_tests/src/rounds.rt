@@ -5,7 +5,7 @@ ghost use Rattle.al_chunk.specs.Loops.{IsBounded};
 ghost use Rattle.al_core.specs.Lines.{IsLineSize};
 ghost use Rattle.al_plain.specs.Executions.{IsBounded as IsPlainBounded};
 
-use crate::starts::{AtLoop, Lowered, lowered, plain_memory, run_to_loop};
+use crate::starts::{AtLoop, Lowered, lower_source, plain_memory, run_to_loop};
 use al_chunk::LoopEnv;
 use al_code::Code;
 use al_core::{
@@ -233,7 +233,7 @@ const ORDERS: [CommitOrder; 2] = [CommitOrder::InOrder, CommitOrder::OutOfOrder]
 #[test]
 fn rounds_are_as_plain(rt: HostRuntime) -> Result<(), Fail> {
     for source in [P4, P5, P6, P9, P10, P13, FREES_IN_A_LOOP] {
-        let program = lowered(rt.alloc(), source)?.ok_or("refused")?;
+        let program = lower_source(rt.alloc(), source)?.ok_or("refused")?;
         for policy in POLICIES {
             for order in ORDERS {
                 let case = Case {
@@ -252,7 +252,7 @@ fn rounds_are_as_plain(rt: HostRuntime) -> Result<(), Fail> {
 
 #[test]
 fn threads_make_no_difference(rt: HostRuntime) -> Result<(), Fail> {
-    let program = lowered(rt.alloc(), P10)?.ok_or("refused")?;
+    let program = lower_source(rt.alloc(), P10)?.ok_or("refused")?;
     for threads in [1, 2, 4, 64] {
         for lanes in [1, 3, 64] {
             let case = Case {
@@ -270,7 +270,7 @@ fn threads_make_no_difference(rt: HostRuntime) -> Result<(), Fail> {
 
 #[test]
 fn a_round_of_two_chunks(rt: HostRuntime) -> Result<(), Fail> {
-    let program = lowered(rt.alloc(), P4)?.ok_or("refused")?;
+    let program = lower_source(rt.alloc(), P4)?.ok_or("refused")?;
     let case = Case {
         policy: Policy::Raw,
         order: CommitOrder::InOrder,
@@ -295,7 +295,7 @@ int main(void) {
 
 #[test]
 fn chunks_that_all_trap(rt: HostRuntime) -> Result<(), Fail> {
-    let program = lowered(rt.alloc(), ALL_TRAP)?.ok_or("refused")?;
+    let program = lower_source(rt.alloc(), ALL_TRAP)?.ok_or("refused")?;
     for policy in POLICIES {
         for order in ORDERS {
             let case = Case {

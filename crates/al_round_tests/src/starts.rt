@@ -22,7 +22,7 @@ pub(crate) struct Lowered {
 }
 
 /// A source lowered, or none where it is refused.
-pub(crate) fn lowered(alloc: Global, source: &str) -> Result<Option<Lowered>, AllocError>
+pub(crate) fn lower_source(alloc: Global, source: &str) -> Result<Option<Lowered>, AllocError>
     ensures { IfOk result (λ made. IfSome made (λ p. IsValid p.code)) }
 {
     match resolve(alloc, source.as_bytes()) {
