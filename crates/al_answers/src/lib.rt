@@ -10,6 +10,3 @@ pub use answers::{Answer, Status, failed};
 pub use delivering::deliver;
 pub use lines::line;
 pub use reading::{FileRead, read_file};
-
-#[cfg(test)]
-mod tests;

@@ -12,8 +12,6 @@ mod piece;
 mod pile;
 mod plays;
 mod table;
-#[cfg(test)]
-mod tests;
 mod view;
 mod working;
 

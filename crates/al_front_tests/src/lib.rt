@@ -1,8 +1,14 @@
-//! Tests of the front end as a whole: from sources to trees.
+//! Tests of the front end as a whole, from sources to trees, and of its parts.
 #![tactic(auto)]
 
 #[cfg(test)]
 mod cuts;
+#[cfg(test)]
+mod first_bad;
+#[cfg(test)]
+mod lexing;
+#[cfg(test)]
+mod printing;
 #[cfg(test)]
 mod read_back;
 #[cfg(test)]

@@ -4,9 +4,6 @@
 ghost use Rattle.std.specs.Prelude.{◌≡◌, ◌≤◌, IfOk};
 ghost use Rattle.al_gen.specs.Generated as spec;
 
-#[cfg(test)]
-mod tests;
-
 use al_source::Bytes;
 use al_source::limits::{MOST_SIZE, MOST_START};
 use sqlite_items::Items;

@@ -8,6 +8,3 @@ pub use al_rules::{Layout, LayoutFault, StructLayout};
 pub use al_source::Program;
 pub use items::layout;
 pub use types::words;
-
-#[cfg(test)]
-mod tests;

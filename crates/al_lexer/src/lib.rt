@@ -16,8 +16,6 @@ mod lexemes;
 mod lexer;
 mod numbers;
 mod scan;
-#[cfg(test)]
-mod tests;
 mod texts;
 mod words;
 

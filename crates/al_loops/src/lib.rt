@@ -4,8 +4,6 @@
 
 mod choices;
 mod reductions;
-#[cfg(test)]
-mod tests;
 
 pub use al_loop_notes::{NoteFault, NoteKind, notes};
 pub use choices::candidates;

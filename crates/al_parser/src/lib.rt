@@ -4,8 +4,6 @@
 mod items;
 mod program;
 mod statements;
-#[cfg(test)]
-mod tests;
 
 pub use al_source::ParseFault;
 pub use program::{Parsed, first_bad, parse, parse_or_first_bad};

@@ -5,8 +5,6 @@ mod expressions;
 mod program;
 mod statements;
 mod tables;
-#[cfg(test)]
-mod tests;
 mod types;
 mod writer;
 

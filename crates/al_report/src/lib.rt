@@ -6,8 +6,6 @@ mod faults;
 mod lines;
 mod places;
 mod tables;
-#[cfg(test)]
-mod tests;
 mod traces;
 
 pub use faults::{

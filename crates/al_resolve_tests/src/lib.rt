@@ -1,4 +1,4 @@
-//! Tests of the whole front end: from sources to typed trees.
+//! Tests of the whole front end: from sources to typed trees, and of what they are made with.
 #![tactic(auto)]
 
 #[cfg(test)]
@@ -10,11 +10,17 @@ mod bad_tokens;
 #[cfg(test)]
 mod causes;
 #[cfg(test)]
+mod choices;
+#[cfg(test)]
 mod freeing;
 #[cfg(test)]
 mod items;
 #[cfg(test)]
+mod layouts;
+#[cfg(test)]
 mod names;
+#[cfg(test)]
+mod operands;
 #[cfg(test)]
 mod places;
 #[cfg(test)]

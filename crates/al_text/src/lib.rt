@@ -8,8 +8,6 @@ ghost use Rattle.al_text.specs.Numbers.{numbers_of};
 mod digits;
 mod faults;
 mod numbers;
-#[cfg(test)]
-mod tests;
 
 pub use digits::numeral;
 pub use faults::{InputCause, InputFault};

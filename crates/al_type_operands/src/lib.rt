@@ -6,5 +6,3 @@ pub mod expressions;
 pub mod operands;
 pub mod places;
 pub mod queue;
-#[cfg(test)]
-mod tests;

@@ -10,6 +10,3 @@ mod walk;
 
 pub use command::{Command, Job, WordFault};
 pub use read::read_words;
-
-#[cfg(test)]
-mod tests;

@@ -1,5 +1,6 @@
-use super::*;
+//! The texts of runs and faults, by their tables.
 use al_core::{Ending, Event, Judged, Report, Trap, Verdict};
+use al_report::*;
 use al_rules::{LayoutFault, LowerFault, NoteFault, NoteKind, TypeFault, TypeKind};
 use al_source::{Bytes, LexFault, ParseFault};
 use al_text::InputFault;

@@ -3,7 +3,7 @@ ghost use Rattle.std.specs.Prelude.{◌≡◌, [], ◌∷◌, IfOk};
 ghost use Rattle.std.specs.Map.{keys_of};
 ghost use Rattle.al_io.specs.MemFiles.{named};
 
-use super::*;
+use al_answers::*;
 use al_io::{MemFile, MemFiles, MemSink};
 use sqlite_items::Items;
 use std::alloc::{AllocError, Global};

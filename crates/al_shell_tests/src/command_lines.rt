@@ -1,6 +1,6 @@
 //! Words with the command or the fault that they give, by the table of commands and options.
-use super::*;
 use al_core::Knobs;
+use al_words::*;
 use std::alloc::{AllocError, Global};
 use std::test::Fail;
 

@@ -1,4 +1,6 @@
-use super::*;
+//! Numbers and their texts, by the rules of inputs.
+use al_text::*;
+use std::alloc::{AllocError, Global};
 use std::test::Fail;
 
 fn is_text(alloc: Global, n: i64, text: &[u8]) -> Result<bool, AllocError> {

@@ -1,4 +1,4 @@
-use crate::{LayoutFault, Program, layout};
+use al_layout::{LayoutFault, Program, layout};
 use al_source::{CType, Field, GlobalDef, Item, Start, StructDef};
 use sqlite_items::{Boxed, Items};
 use std::alloc::Global;

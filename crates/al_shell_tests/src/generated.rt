@@ -1,4 +1,5 @@
-use super::*;
+//! The generated job.
+use al_gen::*;
 use std::test::Fail;
 
 #[test]

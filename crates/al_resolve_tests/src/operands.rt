@@ -1,10 +1,10 @@
-use crate::expressions::operand;
 use al_core::{TExpr, TPlace};
 use al_rules::{Layout, Operand, TypeKind};
 use al_source::{BinOp, CType, Expr};
 use al_type_names::fault::Fault;
 use al_type_names::known::Known;
 use al_type_names::scope::{Binding, Scope};
+use al_type_operands::expressions::operand;
 use sqlite_items::{Boxed, Items};
 use std::alloc::Global;
 use std::test::Fail;

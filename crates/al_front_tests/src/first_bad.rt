@@ -3,8 +3,8 @@
 //! Tokens are written as words, with a `?` before the first bad one; the tokens of a program have none. `3**-` is
 //! `- - -`, `#note` and `#end` are the ends of an annotation, and `text` is a text.
 
-use crate::first_bad;
 use al_grammar::{KEYS, MARKS, key_text, mark_text};
+use al_parser::first_bad;
 use al_source::{Token, TokenKind};
 use sqlite_items::Items;
 use std::alloc::{AllocError, Global};

@@ -1,4 +1,4 @@
-use crate::print_program;
+use al_print::print_program;
 use al_source::{
     BinOp, Bytes, CType, CommitOrder, Expr, Field, Func, GlobalDef, Item, LoopNote, NamedRed,
     Piece, Policy, Program, RedOp, Start, Stmt, StmtKind, StructDef, UnOp,

@@ -1,7 +1,7 @@
 //! Sources with their tokens or their fault. A token is shown with its line. The values follow the rules of the
 //! language as they are written down, and do not come from the lexer.
 
-use crate::lex;
+use al_lexer::lex;
 use al_source::limits::SOURCE_BYTES;
 use al_source::{Format, LexFault, Piece, Token, TokenKind};
 use std::alloc::{AllocError, Global};

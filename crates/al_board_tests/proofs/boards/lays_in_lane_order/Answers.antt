@@ -1,7 +1,7 @@
 use Rattle.std.proofs.Common.{rules}
 use Rattle.al_board.specs.Seen.{view}
 use Rattle.al_board.proofs.Works.{has_drawn_some}
-use Rattle.al_board.proofs.tests.lays_in_lane_order.Goals as goal
+use Rattle.al_board_tests.proofs.boards.lays_in_lane_order.Goals as goal
 
 pub put-requires-clause-drawn : goal.put-requires-clause-drawn
 put-requires-clause-drawn g c κs = has_drawn_some c.draw-3.result c.expect-c.result _ _ (view c.draw-3.new.pass) (search rules) c.draw-3.ensures.drawn

@@ -1,55 +1,15 @@
+//! Boards that one thread works on, by hand and whole.
 ghost use Rattle.std.specs.Prelude.{ℕ, true, false, ◌≡◌, ◌+◌, ◌*◌, ◌<◌, ◌≤◌, ◌^◌, IfOk, length};
 ghost use Rattle.al_board.specs.Fits.{AreFit};
 ghost use Rattle.al_board.specs.Piles.{on_pile, IsPileFor};
 ghost use Rattle.al_board.specs.Seen.{view, IsPassOf, lane_count, task_of};
 ghost use Rattle.al_board.specs.Views.{HasPutAll};
 
-use crate::{Board, Helped, Maker, Piece, Pile, fill_next, work, work_and_lay};
+use crate::marks::{Mark, Marker, is_whole};
+use al_board::{Board, Helped, Pile, fill_next, work, work_and_lay};
 use sqlite_items::Items;
 use std::alloc::{AllocError, Global};
 use std::test::Fail;
-
-// The piece of lane k has the number 2k + 1; the task is the number of lanes.
-#[derive(Drop)]
-struct Mark {
-    value: u64,
-}
-
-impl Piece for Mark {
-    type Task = u32;
-
-    type Shelf = Pile<Mark>;
-
-    ghost fits = { λ task lane piece. piece.value ≡ 2 * lane + 1 };
-
-    ghost lanes = { λ task. task };
-
-    ghost laid = { on_pile };
-
-    ghost stands = { λ task pile. IsPileFor (λ lane piece. piece.value ≡ 2 * lane + 1) task pile };
-
-    fn lay(task: &u32, shelf: &mut Pile<Mark>, piece: Mark) {
-        let _ = task;
-        shelf.lay(piece);
-    }
-
-    ghost stands_fit = { λ task shelf h. h.fit };
-}
-
-#[derive(Drop)]
-struct Marker {
-    lanes: u32,
-}
-
-impl Maker<Mark> for Marker {
-    ghost task = { λ m. m.lanes };
-
-    ghost lanes = { λ m. m.lanes };
-
-    fn make(&self, lane: u32) -> Result<Mark, AllocError> {
-        Ok(mark_of(lane))
-    }
-}
 
 fn mark_of(lane: u32) -> Mark
     ensures { result.value ≡ 2 * lane + 1 }
@@ -59,15 +19,6 @@ fn mark_of(lane: u32) -> Mark
     }
 }
 
-// Whether there are so many pieces, each in its lane.
-fn is_whole(pieces: &Items<Mark>, lanes: usize) -> bool {
-    let mut right = pieces.len() == lanes;
-    for (lane, piece) in pieces.as_slice().iter().enumerate() {
-        right = right && piece.value == (lane as u64).wrapping_mul(2).wrapping_add(1);
-    }
-    right
-}
-
 // One pass fills a whole board; it has the whole share when it ends.
 fn fill(alloc: Global, lanes: u32) -> Result<Items<Mark>, AllocError>
     requires { (1 ≤ lanes) × (lanes ≤ 1024) }
@@ -75,14 +26,14 @@ fn fill(alloc: Global, lanes: u32) -> Result<Items<Mark>, AllocError>
     ensures fit { IfOk result (λ v. AreFit (λ lane piece. piece.value ≡ 2 * lane + 1) v) }
 {
     let (board, mut pass) = Board::<Mark>::new(alloc, lanes, lanes)?;
-    work(&board, &mut pass, &Marker { lanes })?;
+    work(&board, &mut pass, &Marker { lanes, poor: lanes })?;
     Ok(board.close(pass))
 }
 
 #[test]
 fn boards_of_any_size(rt: HostRuntime) -> Result<(), Fail> {
     for lanes in [1, 2, 1024] {
-        assert!(rt; is_whole(&fill(rt.alloc(), lanes)?, lanes as usize));
+        assert!(rt; is_whole(fill(rt.alloc(), lanes)?.as_slice(), lanes));
     }
     Ok(())
 }
@@ -99,7 +50,7 @@ fn two_passes_draw_and_join(rt: HostRuntime) -> Result<(), Fail> {
     board.put(&mut two, second, mark_of(second));
     board.join(&mut one, two);
     assert!(rt; board.filled(&one) == 2);
-    assert!(rt; is_whole(&board.close(one), 2));
+    assert!(rt; is_whole(board.close(one).as_slice(), 2));
     Ok(())
 }
 
@@ -109,7 +60,7 @@ fn a_pass_is_dropped(rt: HostRuntime) -> Result<(), Fail> {
     let mut two = board.split(&mut one);
     assert!(rt; board.draw(&mut two) == Some(0));
     drop(two);
-    let maker = Marker { lanes: 3 };
+    let maker = Marker { lanes: 3, poor: 3 };
     assert!(rt; fill_next(&board, &mut one, &maker)? == Some(1));
     work(&board, &mut one, &maker)?;
     assert!(rt; board.filled(&one) == 2);
@@ -135,7 +86,7 @@ fn lays_in_lane_order(rt: HostRuntime) -> Result<(), Fail> {
     board.join(&mut one, two);
     board.join(&mut one, three);
     assert!(rt; board.filled(&one) == 3);
-    assert!(rt; is_whole(&board.close_shelf(one).into_pieces(), 3));
+    assert!(rt; is_whole(board.close_shelf(one).into_pieces().as_slice(), 3));
     Ok(())
 }
 
@@ -147,7 +98,7 @@ fn fill_shelf(alloc: Global, lanes: u32) -> Result<Vec<Mark>, AllocError>
 {
     let pile = Pile::new(alloc, lanes)?;
     let (board, mut pass) = Board::<Mark>::with_shelf(alloc, lanes, lanes, pile)?;
-    work_and_lay(&board, &mut pass, &Marker { lanes })?;
+    work_and_lay(&board, &mut pass, &Marker { lanes, poor: lanes })?;
     Ok(board.close_shelf(pass).into_vec())
 }
 
@@ -155,12 +106,7 @@ fn fill_shelf(alloc: Global, lanes: u32) -> Result<Vec<Mark>, AllocError>
 fn shelves_of_any_size(rt: HostRuntime) -> Result<(), Fail> {
     for lanes in [1, 2, 64] {
         let pieces = fill_shelf(rt.alloc(), lanes)?;
-        assert!(rt; pieces.len() == lanes as usize);
-        let mut right = true;
-        for (lane, piece) in pieces.as_slice().iter().enumerate() {
-            right = right && piece.value == (lane as u64).wrapping_mul(2).wrapping_add(1);
-        }
-        assert!(rt; right);
+        assert!(rt; is_whole(pieces.as_slice(), lanes));
     }
     Ok(())
 }
@@ -169,8 +115,8 @@ fn shelves_of_any_size(rt: HostRuntime) -> Result<(), Fail> {
 fn closes_into_a_vector(rt: HostRuntime) -> Result<(), Fail> {
     let (board, mut pass) = Board::<Mark>::new(rt.alloc(), 3, 3)?;
     assert!(rt; !board.shelved());
-    work(&board, &mut pass, &Marker { lanes: 3 })?;
+    work(&board, &mut pass, &Marker { lanes: 3, poor: 3 })?;
     let pieces = board.close_vec(pass);
-    assert!(rt; pieces.len() == 3);
+    assert!(rt; is_whole(pieces.as_slice(), 3));
     Ok(())
 }
