@@ -8,8 +8,6 @@ mod first_bad;
 #[cfg(test)]
 mod lexing;
 #[cfg(test)]
-mod printing;
-#[cfg(test)]
 mod read_back;
 #[cfg(test)]
 mod sources;
