@@ -10,6 +10,3 @@ pub use al_source::{
 };
 pub use copies::{copy_expr, copy_format, copy_note, copy_stmt, copy_type};
 pub use count::nodes;
-
-#[cfg(test)]
-mod tests;
