@@ -16,11 +16,7 @@ mod freeing;
 #[cfg(test)]
 mod items;
 #[cfg(test)]
-mod layouts;
-#[cfg(test)]
 mod names;
-#[cfg(test)]
-mod operands;
 #[cfg(test)]
 mod places;
 #[cfg(test)]

@@ -4,7 +4,7 @@ use crate::causes::refusal;
 use al_rules::{LayoutCause, Refusal};
 use std::test::Fail;
 
-const LAYOUTS: [(&str, LayoutCause); 9] = [
+const LAYOUTS: [(&str, LayoutCause); 10] = [
     (
         "struct s { int a; struct s b; };",
         LayoutCause::SelfHolding(1),
@@ -24,6 +24,11 @@ const LAYOUTS: [(&str, LayoutCause); 9] = [
     ),
     ("int a[4194304];\nint b;", LayoutCause::TooLarge(2)),
     ("int a[2048][2048][2048][2048];", LayoutCause::TooLarge(1)),
+    // More words than 64 bits count.
+    (
+        "struct s {\n int a[4194304][4194304][4194304][4194304]; };",
+        LayoutCause::TooLarge(1),
+    ),
     // Both: it holds itself first.
     (
         "struct s { int a[4194304]; int b; struct s c; };",
