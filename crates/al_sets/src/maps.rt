@@ -187,8 +187,9 @@ impl AddrMap {
             }
             Err(i) => {
                 self.hints.set(at, i);
-                let mut row = Row::new(self.alloc);
-                row.put(offset(at), value)?;
+                let n = offset(at);
+                let mut row = Row::new(self.alloc, n);
+                row.put(n, value)?;
                 add(&mut self.blocks, &mut self.rows, i, at, row)?
             }
         }
