@@ -6,5 +6,6 @@ pub mod Edits
 pub mod Meeting
 pub mod Lining
 pub mod MemberLemmas
+pub mod RowStart
 pub mod RowLemmas
 pub mod Taken

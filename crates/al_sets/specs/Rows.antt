@@ -1,5 +1,5 @@
 -- The values of the addresses of blocks, a row for each block.
-use Rattle.std.specs.Prelude.{◌≡◌, ℕ, ◌-◌, ◌<◌, true, ◌==◌, if◌then◌else◌, List, [], ◌∷◌, ◌++◌, length, map, slice_index_or, Option, Some, None, pos}
+use Rattle.std.specs.Prelude.{◌≡◌, ℕ, zero, suc, ◌-◌, ◌<◌, true, ◌==◌, if◌then◌else◌, List, [], ◌∷◌, ◌++◌, length, map, slice_index_or, Option, Some, None, pos}
 use Rattle.std.specs.Coded.{Coded, coded_list}
 use Rattle.std.specs.FinMap as map
 use Rattle.std.specs.FinMap.{FinMap}
@@ -18,6 +18,11 @@ use Rattle.al_sets.specs.Members.{passing}
 -- the value at an offset; past the end it is 0
 abbrev pub value_in_row : List Val → ℕ → Val
 value_in_row row n = slice_index_or row n (Int (pos 0))
+
+-- values with so many zeros before them
+abbrev pub row_from : ℕ → List Val → List Val
+row_from zero vs = vs
+row_from (suc n) vs = Int (pos 0) ∷ row_from n vs
 
 -- a row with one value alone
 abbrev pub IsSingle : List Val → ℕ → Type 0

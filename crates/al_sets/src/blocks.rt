@@ -7,6 +7,7 @@ ghost use Rattle.al_planes.specs.Lines.{size};
 ghost use Rattle.al_sets.specs.Places.{place_of, offset_of, is_place};
 ghost use Rattle.al_sets.specs.Blocks.{IsAscending, IsAt, IsGapFor, CommonAddress, CommonOffsets, CommonLine, block_has, has_address};
 
+use crate::hints::Hints;
 use crate::places::{offset, place};
 use al_core::{Addr, compare_addresses};
 use al_planes::{Line, has_bit, masks_join, masks_meet, masks_meet_by_lines, set_bit};
@@ -28,12 +29,30 @@ pub(crate) fn search(blocks: &[Block], place: Addr) -> Result<usize, usize>
     blocks.binary_search_by(|b| compare_addresses(&b.place, &place))
 }
 
-/// Whether an address is in.
-pub(crate) fn has(blocks: &[Block], at: Addr) -> bool
+fn is_same(a: Addr, b: Addr) -> bool
+    ensures { result ≡ addr_eq a b }
+{
+    a == b
+}
+
+/// The same. It is sought first at i.
+pub(crate) fn search_near(blocks: &[Block], place: Addr, i: usize) -> Result<usize, usize>
+    requires { IsAscending blocks.now }
+    ensures found { IfOk result (IsAt blocks.now place) }
+    ensures absent { IfErr result (IsGapFor blocks.now place) }
+{
+    if i < blocks.len() && is_same(blocks[i].place, place) {
+        return Ok(i);
+    }
+    search(blocks, place)
+}
+
+/// Whether an address is in. Its block is sought first where the hints say.
+pub(crate) fn has(blocks: &[Block], at: Addr, hints: &Hints) -> bool
     requires { IsAscending blocks.now }
     ensures { result ≡ has_address blocks.now at }
 {
-    match search(blocks, place(at)) {
+    match search_near(blocks, place(at), hints.of(at)) {
         Ok(i) => has_bit(&blocks[i].masks, offset(at)),
         Err(_) => false,
     }
@@ -53,8 +72,8 @@ pub(crate) fn single(at: Addr) -> Block
     }
 }
 
-/// Adds an address.
-pub(crate) fn insert(blocks: &mut Vec<Block>, at: Addr) -> Result<(), AllocError>
+/// Adds an address. Its block is sought first where the hints say.
+pub(crate) fn insert(blocks: &mut Vec<Block>, at: Addr, hints: &mut Hints) -> Result<(), AllocError>
     requires { IsAscending blocks.old.items }
     ensures ascending { IsAscending blocks.new.items }
     ensures ok { OnOk result
@@ -64,12 +83,16 @@ pub(crate) fn insert(blocks: &mut Vec<Block>, at: Addr) -> Result<(), AllocError
     ensures len { vec_len blocks.new ≤ vec_len blocks.old + 1 }
     ensures capacity { vec_capacity blocks.old ≤ vec_capacity blocks.new }
 {
-    match search(blocks.as_slice(), place(at)) {
+    match search_near(blocks.as_slice(), place(at), hints.of(at)) {
         Ok(i) => {
+            hints.set(at, i);
             set_bit(&mut blocks[i].masks, offset(at));
             Ok(())
         }
-        Err(i) => Ok(blocks.insert(i, single(at))?),
+        Err(i) => {
+            hints.set(at, i);
+            Ok(blocks.insert(i, single(at))?)
+        }
     }
 }
 

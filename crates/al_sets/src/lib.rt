@@ -3,6 +3,7 @@
 
 mod bits;
 mod blocks;
+mod hints;
 mod maps;
 mod places;
 mod rows;

@@ -8,7 +8,8 @@ ghost use Rattle.al_sets.specs.Rows.{IsSingle, IsTrimmed, HasLast, value_in_row,
 ghost use Rattle.std.specs.FinMap as map;
 
 use crate::bits::{clear_bit, first_bit};
-use crate::blocks::{Block, search, single};
+use crate::blocks::{Block, search_near, single};
+use crate::hints::Hints;
 use crate::places::{address, offset, place};
 use crate::rows::Row;
 use al_core::Addr;
@@ -23,6 +24,7 @@ pub struct AddrMap {
     alloc: Global,
     blocks: Vec<Block>,
     rows: Vec<Row>,
+    hints: Hints,
 }
 
 impl Model for AddrMap {
@@ -153,6 +155,7 @@ impl AddrMap {
             alloc,
             blocks: Vec::new(alloc),
             rows: Vec::new(alloc),
+            hints: Hints::new(),
         }
     }
 
@@ -160,7 +163,7 @@ impl AddrMap {
     pub fn get(&self, at: Addr) -> Option<PackedValue>
         ensures { result ≡ map.get self.now at }
     {
-        match search(self.blocks.as_slice(), place(at)) {
+        match search_near(self.blocks.as_slice(), place(at), self.hints.of(at)) {
             Ok(i) => {
                 if has_bit(&self.blocks[i].masks, offset(at)) {
                     Some(self.rows[i].value(offset(at)))
@@ -177,11 +180,16 @@ impl AddrMap {
         ensures ok { OnOk result (self.new ≡ map.insert self.old at value) }
         ensures err { OnErr result (self.new ≡ self.old) }
     {
-        match search(self.blocks.as_slice(), place(at)) {
-            Ok(i) => put(&mut self.blocks, &mut self.rows, i, at, value)?,
+        match search_near(self.blocks.as_slice(), place(at), self.hints.of(at)) {
+            Ok(i) => {
+                self.hints.set(at, i);
+                put(&mut self.blocks, &mut self.rows, i, at, value)?
+            }
             Err(i) => {
-                let mut row = Row::new(self.alloc);
-                row.put(offset(at), value)?;
+                self.hints.set(at, i);
+                let n = offset(at);
+                let mut row = Row::new(self.alloc, n);
+                row.put(n, value)?;
                 add(&mut self.blocks, &mut self.rows, i, at, row)?
             }
         }

@@ -5,6 +5,7 @@ ghost use Rattle.al_core.specs.Lines.{IsLineSize};
 ghost use Rattle.al_planes.specs.Lines.{size as line_size};
 
 use crate::blocks::{Block, has, insert, join, meet, meet_by_lines};
+use crate::hints::Hints;
 use al_core::Addr;
 use al_planes::Line;
 use std::alloc::{AllocError, Global};
@@ -14,6 +15,7 @@ use std::marker::Model;
 #[derive(Drop)]
 pub struct AddrSet {
     blocks: Vec<Block>,
+    hints: Hints,
 }
 
 impl Model for AddrSet {
@@ -56,6 +58,7 @@ impl AddrSet {
     {
         AddrSet {
             blocks: Vec::new(alloc),
+            hints: Hints::new(),
         }
     }
 
@@ -70,7 +73,7 @@ impl AddrSet {
     pub fn has(&self, at: &Addr) -> bool
         ensures { result ≡ set.contains self.now.members at.now }
     {
-        has(self.blocks.as_slice(), *at)
+        has(self.blocks.as_slice(), *at, &self.hints)
     }
 
     /// Adds an address. It takes no memory where there is room.
@@ -81,7 +84,7 @@ impl AddrSet {
         ensures size { self.new.size ≤ self.old.size + 1 }
         ensures room { self.old.room ≤ self.new.room + 1 }
     {
-        insert(&mut self.blocks, at)?;
+        insert(&mut self.blocks, at, &mut self.hints)?;
         Ok(())
     }
 

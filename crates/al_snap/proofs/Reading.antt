@@ -1,17 +1,19 @@
 -- Words and locals that are read through layers.
-use Rattle.std.proofs.Common.{◌≡◌, ℕ, true, false, cond, List, Option, Some, None, is_some, Result, Ok, Err, slice_get, refl, sym, ap, ◌∙◌, arith}
+use Rattle.std.proofs.Common.{◌≡◌, ℕ, Bool, true, false, cond, List, Option, Some, None, is_some, Result, Ok, Err, IfOk, slice_get, refl, sym, ap, subst, ◌∙◌, arith}
 use Rattle.std.specs.Prelude.{option_map, unwrap_or}
 use Rattle.std.specs.FinMap as map
 use Rattle.std.specs.FinMap.{FinMap}
+use Rattle.std.specs.FinSet as set
 use Rattle.al_core.specs.declared.values.Obj.{Obj}
 use Rattle.al_core.specs.declared.values.Val.{Val}
 use Rattle.al_core.specs.declared.values.Trap.{Trap}
 use Rattle.al_core.specs.declared.values.Trap.TheVariants as trap
+use Rattle.al_core.specs.declared.values.Addr.{Addr}
 use Rattle.al_core.specs.declared.values.Addr.TheVariants.{Word, Local}
 use Rattle.al_core.specs.Orders.{addr_cmp}
 use Rattle.al_core.specs.Memory.{Memory, word_in}
 use Rattle.al_heap.specs.Stores.{value_or_trap, read_word, objects_in}
-use Rattle.al_snap.specs.Layers.{Layers, laid, option_ok_or, word_or_trap, is_among, seen}
+use Rattle.al_snap.specs.Layers.{Layers, Fits, laid, option_ok_or, word_or_trap, is_among, is_head, seen}
 use Rattle.al_snap.proofs.Laying.{laid_at}
 use Rattle.al_snap.proofs.Seen.{own_seen, freed_seen, below_seen}
 
@@ -68,3 +70,17 @@ freed_read l o w h g = ap (λ s. word_or_trap s w) (sym (freed_seen l o (sym h) 
 pub below_there : (l : Layers) (o : Obj) (w : ℕ) → false ≡ map.contains_key l.own o → false ≡ is_among l.freed o
     → word_or_trap (option_map (laid l.writes (Word o) 0) (map.get l.base.objects o)) w ≡ word_or_trap (map.get (seen l).objects o) w
 below_there l o w h g = ap (λ s. word_or_trap s w) (sym (below_seen l o (sym h) (sym g)))
+
+-- ---- whether it was written
+
+pub if_ok : (r : Result Val Trap) (P : Type 0) → P → IfOk r (λ _. P)
+if_ok (Ok v) P h = h
+if_ok (Err t) P h = tt
+
+pub if_missing : (r : Result Val Trap) (t : Trap) (P : Type 0) → r ≡ Err t → IfOk r (λ _. P)
+if_missing r t P e = subst (λ (x : Result Val Trap). IfOk x (λ _. P)) (sym e) tt
+
+pub below_written : (l n : Layers) → l ≡ n → Fits l → (a : Addr) → is_head a ≡ false → (b : Bool)
+    → b ≡ map.contains_key n.writes a → b ≡ set.contains n.touched a
+below_written l n same fits a word b e =
+    let now : Fits n = subst Fits same fits in e ∙ sym (now.same a word)

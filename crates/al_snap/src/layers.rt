@@ -1,13 +1,14 @@
-ghost use Rattle.std.specs.Prelude.{◌≡◌, true, false, OnOk, IsSome, [], ◌∷◌, ◌++◌, if◌then◌else◌, option_map, unwrap_or, slice_get};
+ghost use Rattle.std.specs.Prelude.{◌≡◌, true, false, OnOk, IfOk, Ok, Err, IsSome, [], ◌∷◌, ◌++◌, if◌then◌else◌, option_map, unwrap_or, slice_get};
 ghost use Rattle.al_core.specs.Orders.{obj_eq};
 ghost use Rattle.al_core.specs.Memory.{value_at};
-ghost use Rattle.al_core.specs.declared.values.Addr.TheVariants.{Word, Head};
+ghost use Rattle.al_core.specs.declared.values.Addr.TheVariants.{Word, Head, Local};
+ghost use Rattle.al_core.specs.declared.values.Trap.TheVariants as trap;
 ghost use Rattle.std.specs.FinMap as map;
 ghost use Rattle.std.specs.FinSet as set;
 ghost use Rattle.al_core.specs.Memory as spec;
 ghost use Rattle.al_core.specs.Chunk.{writes_of, made_objects};
 ghost use Rattle.al_heap.specs.Stores.{value_or_trap, objects_in};
-ghost use Rattle.al_snap.specs.Layers.{is_among, laid, word_or_trap, own_has, made_by, seen, over, touched_unless};
+ghost use Rattle.al_snap.specs.Layers.{is_among, laid, option_ok_or, word_or_trap, own_has, made_by, seen, over, touched_unless};
 ghost use Rattle.al_snap.specs.Changes.{writes_left};
 
 use al_core::{Addr, Obj, Trap};
@@ -25,6 +26,17 @@ pub(crate) struct Parts {
     pub touched: AddrSet,
     pub freed: Items<Obj>,
     pub own: Slots,
+}
+
+/// What a chunk sees at an address.
+#[derive(Drop)]
+pub(crate) struct Sight {
+    /// The value, or why there is none.
+    pub value: Result<PackedValue, Trap>,
+    /// Whether it is a word of an own object, also of one that was freed again.
+    pub own: bool,
+    /// Whether the value was written over one of the store.
+    pub written: bool,
 }
 
 /// A store under what a chunk does to it. The store itself is only read.
@@ -59,6 +71,17 @@ impl<'a, S: Store> Model for Layers<'a, S> {
       freed = l.freed;
       own = l.own;
     }) };
+}
+
+/// Nothing is seen, and this is why.
+fn nothing(t: Trap) -> Sight
+    ensures { result ≡ record { value = Err t; own = false; written = false } }
+{
+    Sight {
+        value: Err(t),
+        own: false,
+        written: false,
+    }
 }
 
 fn is_same(a: Obj, b: Obj) -> bool
@@ -110,53 +133,74 @@ impl<'a, S: Store> Layers<'a, S> {
         }
     }
 
-    /// A word of an object of the store, with what was written over it.
-    fn below_word(&self, obj: Obj, w: u32) -> Result<PackedValue, Trap>
-        ensures { result
-            ≡ word_or_trap (option_map (laid self.now.writes (Word obj) 0) (map.get self.now.base.objects obj)) w }
+    /// What is seen at an address that is no head, where the store has a value.
+    fn below(&self, at: Addr, v: PackedValue) -> Sight
+        ensures value { result.value ≡ Ok (unwrap_or (map.get self.now.writes at) v) }
+        ensures own { result.own ≡ false }
+        ensures written { result.written ≡ map.contains_key self.now.writes at }
     {
-        match self.base.read(obj, w) {
-            Ok(v) => Ok(self.laid_over(Addr::Word(obj, w), v)),
-            Err(t) => Err(t),
+        let over = self.writes.get(at);
+        Sight {
+            value: Ok(over.unwrap_or(v)),
+            own: false,
+            written: over.is_some(),
         }
     }
 
-    /// What was written at an address, or else a value.
-    fn laid_over(&self, at: Addr, v: PackedValue) -> PackedValue
-        ensures { result ≡ unwrap_or (map.get self.now.writes at) v }
+    /// What is seen at a word of an object of the store.
+    fn below_word(&self, obj: Obj, w: u32) -> Sight
+        ensures value { result.value
+            ≡ word_or_trap (option_map (laid self.now.writes (Word obj) 0) (map.get self.now.base.objects obj)) w }
+        ensures own { result.own ≡ false }
+        ensures written { IfOk result.value (λ _. result.written ≡ set.contains self.now.touched (Word obj w)) }
     {
-        self.writes.get(at).unwrap_or(v)
+        match self.base.read(obj, w) {
+            Ok(v) => self.below(Addr::Word(obj, w), v),
+            Err(t) => nothing(t),
+        }
     }
 
-    fn word(&self, obj: Obj, w: u32) -> Result<PackedValue, Trap>
-        ensures { result ≡ word_or_trap (map.get (seen self.now).objects obj) w }
+    fn word(&self, obj: Obj, w: u32) -> Sight
+        ensures value { result.value ≡ word_or_trap (map.get (seen self.now).objects obj) w }
+        ensures own { result.own ≡ own_has self.now (Word obj w) }
+        ensures written { result.own ≡ false
+            → IfOk result.value (λ _. result.written ≡ set.contains self.now.touched (Word obj w)) }
     {
         if self.own.has(obj) {
-            self.own_word(obj, w)
+            Sight {
+                value: self.own_word(obj, w),
+                own: true,
+                written: false,
+            }
         } else if self.is_freed(obj) {
-            Err(Trap::Missing)
+            nothing(Trap::Missing)
         } else {
             self.below_word(obj, w)
         }
     }
 
-    fn local(&self, k: u32) -> Option<PackedValue>
-        ensures { result ≡ slice_get (seen self.now).locals k }
+    fn local(&self, k: u32) -> Sight
+        ensures value { result.value ≡ option_ok_or trap.Missing (slice_get (seen self.now).locals k) }
+        ensures own { result.own ≡ false }
+        ensures written { IfOk result.value (λ _. result.written ≡ set.contains self.now.touched (Local k)) }
     {
         match self.base.local(k) {
-            Some(v) => Some(self.laid_over(Addr::Local(k), v)),
-            None => None,
+            Some(v) => self.below(Addr::Local(k), v),
+            None => nothing(Trap::Missing),
         }
     }
 
-    /// The value at an address, or why there is none.
-    pub fn value(&self, at: Addr) -> Result<PackedValue, Trap>
-        ensures { result ≡ value_or_trap (seen self.now) at (value_at (seen self.now) at) }
+    /// What is seen at an address.
+    pub fn look(&self, at: Addr) -> Sight
+        ensures value { result.value ≡ value_or_trap (seen self.now) at (value_at (seen self.now) at) }
+        ensures own { result.own ≡ own_has self.now at }
+        ensures written { result.own ≡ false
+            → IfOk result.value (λ _. result.written ≡ set.contains self.now.touched at) }
     {
         match at {
             Addr::Word(obj, w) => self.word(obj, w),
-            Addr::Head(_) => Err(Trap::Missing),
-            Addr::Local(k) => self.local(k).ok_or(Trap::Missing),
+            Addr::Head(_) => nothing(Trap::Missing),
+            Addr::Local(k) => self.local(k),
         }
     }
 

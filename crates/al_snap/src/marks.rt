@@ -1,4 +1,4 @@
-ghost use Rattle.std.specs.Prelude.{◌≡◌, false, if◌then◌else◌, OnOk, IfOk};
+ghost use Rattle.std.specs.Prelude.{◌≡◌, true, false, if◌then◌else◌, OnOk, IfOk};
 ghost use Rattle.std.specs.FinSet as set;
 ghost use Rattle.al_core.specs.Access as spec;
 ghost use Rattle.al_core.specs.Access.{AccessRecord};
@@ -45,7 +45,7 @@ impl Marks {
     pub fn load(&mut self, at: Addr, found: bool, touched: bool) -> Result<(), AllocError>
         ensures { OnOk result
             ((x : AccessRecord)
-            → touched ≡ set.contains x.touched at
+            → (found ≡ true → touched ≡ set.contains x.touched at)
             → marked x self.new ≡ with_found_load (marked x self.old) at found) }
     {
         self.head(at)?;

@@ -171,12 +171,11 @@ impl<'a, S: Store> View for Snap<'a, S> {
             let v = accumulator(self.accumulators.as_slice(), i);
             return read_as(at, want, v.unpack()).map_err(ViewFault::Trap);
         }
-        let found = self.layers.value(at);
-        if !self.layers.is_own(at) {
-            let touched = self.layers.touched().has(&at);
-            self.marks.load(at, found.is_ok(), touched)?;
+        let sight = self.layers.look(at);
+        if !sight.own {
+            self.marks.load(at, sight.value.is_ok(), sight.written)?;
         }
-        match found {
+        match sight.value {
             Ok(v) => read_as(at, want, v.unpack()).map_err(ViewFault::Trap),
             Err(t) => Err(ViewFault::Trap(t)),
         }
@@ -193,10 +192,9 @@ impl<'a, S: Store> View for Snap<'a, S> {
             }
             return Ok(());
         }
-        let found = self.layers.value(at);
-        let own = self.layers.is_own(at);
-        self.marks.store(own, at)?;
-        match found {
+        let sight = self.layers.look(at);
+        self.marks.store(sight.own, at)?;
+        match sight.value {
             Ok(_) => Ok(self.layers.put(at, value)?),
             Err(t) => Err(ViewFault::Trap(t)),
         }

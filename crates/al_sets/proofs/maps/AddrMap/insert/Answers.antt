@@ -19,7 +19,7 @@ returns-in_ok-add-in-Err-clause-ok c =
     let k = offset_of c.args.at in
     let put : value_in_row c.put-in-Err.new.self k ≡ c.args.value =
     c.in_ok-put-in-Err.ensures.ok k
-    ∙ ap (λ b. cond b c.args.value (value_in_row c.new-row.result k)) (eq-eqb k c.offset.result (sym c.offset.ensures.exact)) in
+    ∙ ap (λ b. cond b c.args.value (value_in_row c.new-row.result k)) (eq-eqb k c.offset-n.result (sym c.offset-n.ensures.exact)) in
     values_insert c.self.inside.blocks.items c.add.new.blocks.items c.self.inside.rows.items c.add.new.rows.items c.args.at
     c.args.value (λ a. c.in_ok-add-in-Err.ensures.values a
     ∙ (λ t. cond (addr_eq a c.args.at) (Some (put t)) (value_in c.self.inside.blocks.items c.self.inside.rows.items a)))

@@ -21,14 +21,14 @@ returns-in_ok-put-in-Ok g c =
     let found : None ≡ red_index reds c.args.at =
     c.in_default-index_of.ensures ∙ ap (λ r. red_index r c.args.at) c.as_slice.ensures in
     let none : red_index reds c.args.at ≡ None = sym found in
-    let own : c.is_own-own.result ≡ own_has l c.args.at = c.is_own-own.ensures in
+    let own : c.look-sight.result.own ≡ own_has l c.args.at = c.look-sight.ensures.own in
     store_there (seen l) c.args.self.now.names c.args.self.now.printed x
-    c.args.at c.args.val none c.value-found.result c.value-found.ensures c.is_own-own.result
-    (c.is_own-own.ensures ∙ own_is l reds accumulators marks c.args.at)
-    _ (stored_after c.put.new.self l reds accumulators marks c.store.new.self c.is_own-own.result c.args.at
+    c.args.at c.args.val none c.look-sight.result.value c.look-sight.ensures.value c.look-sight.result.own
+    (c.look-sight.ensures.own ∙ own_is l reds accumulators marks c.args.at)
+    _ (stored_after c.put.new.self l reds accumulators marks c.store.new.self c.look-sight.result.own c.args.at
     c.in_ok-put-in-Ok.ensures.made c.in_ok-put-in-Ok.ensures.freed
     (c.in_ok-put-in-Ok.ensures.touched ∙ ap (λ b. touched_unless b l.touched c.args.at) (sym own)) c.in_ok-store.ensures
-    ∙ ap (λ r. with_stored x c.is_own-own.result c.args.at (is_ok r)) (sym c.in-Ok.is))
+    ∙ ap (λ r. with_stored x c.look-sight.result.own c.args.at (is_ok r)) (sym c.in-Ok.is))
     c.in-Ok.field-0 c.in-Ok.is (seen c.put.new.self)
     (c.in_ok-put-in-Ok.ensures.seen ∙ ap (put (seen l) c.args.at) c.in-Some.ensures.same)
 
@@ -43,9 +43,9 @@ returns-in-Err g c =
     let found : None ≡ red_index reds c.args.at =
     c.in_default-index_of.ensures ∙ ap (λ r. red_index r c.args.at) c.as_slice.ensures in
     let none : red_index reds c.args.at ≡ None = sym found in
-    let recorded : marked rest c.store.new.self ≡ with_stored x c.is_own-own.result c.args.at (is_ok c.value-found.result) =
-    c.in_ok-store.ensures rest ∙ ap (λ r. with_stored x c.is_own-own.result c.args.at (is_ok r)) (sym c.in-Err.is) in
+    let recorded : marked rest c.store.new.self ≡ with_stored x c.look-sight.result.own c.args.at (is_ok c.look-sight.result.value) =
+    c.in_ok-store.ensures rest ∙ ap (λ r. with_stored x c.look-sight.result.own c.args.at (is_ok r)) (sym c.in-Err.is) in
     store_missing (seen l) c.args.self.now.names c.args.self.now.printed x
-    c.args.at c.args.val none c.value-found.result c.value-found.ensures c.is_own-own.result
-    (c.is_own-own.ensures ∙ own_is l reds accumulators marks c.args.at)
+    c.args.at c.args.val none c.look-sight.result.value c.look-sight.ensures.value c.look-sight.result.own
+    (c.look-sight.ensures.own ∙ own_is l reds accumulators marks c.args.at)
     _ recorded c.in-Err.t c.in-Err.is
