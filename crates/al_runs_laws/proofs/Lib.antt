@@ -9,3 +9,4 @@ pub mod Reporting
 pub mod NumbersKept
 pub mod SmallFacts
 pub mod Sourced
+pub mod AcceptedRuns
