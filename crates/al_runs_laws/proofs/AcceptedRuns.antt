@@ -1,5 +1,5 @@
 -- An accepted source is one whose runs are serial.
-use Rattle.std.proofs.Common.{◌≡◌, ℕ, Bool, true, false, List, [], map, Option, Some, None, Result, Ok, Err, slice_get, option_map, refl, sym, ap, subst, ◌∙◌, inl, if◌then◌else◌, nat_lt}
+use Rattle.std.proofs.Common.{◌≡◌, ℕ, Bool, true, false, List, [], Option, Some, None, Result, Ok, Err, slice_get, option_map, refl, sym, ap, subst, ◌∙◌, inl, if◌then◌else◌, nat_lt}
 use Rattle.std.specs.Prelude.{ℤ}
 use Rattle.std.proofs.lemmas.Option.{slice_get-map}
 use Rattle.al_source.specs.Steps.{and_then}
@@ -129,7 +129,6 @@ source_of typed infos input t s i = record {
   annotated = ap fault_of t.entries;
   numbers = record { code = s.code; input_numbers = i.numbers; input_length = i.count };
   starts = s.starts;
-  whole = s.whole;
 }
 
 pub accepted_are_serial : AcceptedAreSerial

@@ -8,5 +8,8 @@ pub mod InCommitOrder
 pub mod Reporting
 pub mod NumbersKept
 pub mod SmallFacts
+pub mod Making
+pub mod MakingStatements
+pub mod WholePlaces
 pub mod Sourced
 pub mod AcceptedRuns

@@ -15,15 +15,12 @@ use Rattle.al_rules.specs.Refusals.{accepted}
 use Rattle.al_rounds_laws.specs.Loops.{LooksAtReads}
 use Rattle.al_graded_laws.specs.InRange.{in_range}
 use Rattle.al_graded_laws.specs.Rules.{stmts_obey}
-use Rattle.al_kinds_laws.specs.Whole.{ScalarsAreWhole}
 use Rattle.al_runs_laws.specs.Reports.{output_and_ending}
 
--- The numbers in a tree, and the starts of its globals, have their sizes, and no place is formed within a global of one
--- word.
+-- The numbers in a tree, and the starts of its globals, have their sizes.
 pub record IsSized (typed : Typed) : Type 0 where
   pub code : (f : ℕ) → stmts_obey in_range (body_of (slice_get typed.funcs f)) ≡ true
   pub starts : (k : ℕ) (g : TGlobal) → slice_get typed.globals k ≡ Some g → FitsSigned w64 g.start
-  pub whole : ScalarsAreWhole typed
 
 -- the numbers of an input have 64 bits, and so has their count
 pub record IsInput (input : List ℤ) : Type 0 where
