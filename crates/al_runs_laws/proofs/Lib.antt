@@ -8,6 +8,7 @@ pub mod InCommitOrder
 pub mod Reporting
 pub mod NumbersKept
 pub mod SmallFacts
+pub mod SmallSized
 pub mod Making
 pub mod MakingStatements
 pub mod WholePlaces
