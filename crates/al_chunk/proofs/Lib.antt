@@ -3,3 +3,4 @@ pub mod Starting
 pub mod Turning
 pub mod InTurn
 pub mod Chunks
+pub mod Footprints

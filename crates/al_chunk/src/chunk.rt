@@ -3,6 +3,7 @@ ghost use Rattle.std.specs.Int.{div_ceil};
 ghost use Rattle.al_core.specs.Chunk.{outcome};
 ghost use Rattle.al_code.specs.Valid.{IsValid};
 ghost use Rattle.al_snap.specs.Changes.{IsOutcome};
+ghost use Rattle.al_chunk.specs.Footprint.{DependsOnReads};
 ghost use Rattle.al_chunk.specs.Loops.{IsBounded, InEachTree};
 
 use crate::env::LoopEnv;
@@ -29,7 +30,8 @@ impl LoopEnv {
 }
 
 /// Runs a chunk of a loop's iterations, one after another up to the first trap, on a private copy of a store's memory.
-/// It is exactly the definition's outcome, on any memory and for any list of reductions.
+/// It is exactly the definition's outcome, on any memory and for any list of reductions. So is it on every other memory
+/// that has as many locals and agrees with this one at each recorded read.
 pub fn run_chunk<S: Store>(
     alloc: Global,
     code: &Code,
@@ -44,8 +46,10 @@ pub fn run_chunk<S: Store>(
     requires one { slice_get code.now.loops info.now.number ≡ Some info.now }
     requires bounded { IsBounded env.now }
     requires there { chunk < div_ceil env.now.trips env.now.chunk }
-    ensures { IfOk result (λ c. InEachTree code.now info.now input.now env.now (λ x.
+    ensures exact { IfOk result (λ c. InEachTree code.now info.now input.now env.now (λ x.
         IsOutcome c (outcome x choice.now.reds (S.memory base.now) chunk))) }
+    ensures footprint { IfOk result (λ c. InEachTree code.now info.now input.now env.now (λ x.
+        DependsOnReads c x choice.now.reds (S.memory base.now) chunk)) }
 {
     let (first, count) = env.range(chunk);
     let names = Names::iteration(env.execution, first);

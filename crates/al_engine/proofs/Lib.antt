@@ -8,3 +8,4 @@ pub mod Mains
 pub mod Stopping
 pub mod Nexts
 pub mod Reports
+pub mod SerialRuns

@@ -6,3 +6,4 @@ pub mod Starts
 pub mod Rests
 pub mod Ends
 pub mod Pending
+pub mod Serial

@@ -13,6 +13,7 @@ ghost use Rattle.al_engine.specs.declared.job.Job.{Job};
 ghost use Rattle.al_engine.specs.Ends.{EndsAs, report_by};
 ghost use Rattle.al_engine.specs.Jobs.{HaveLineSizes, IsCodeOf, MayRun, setting_of};
 ghost use Rattle.al_engine.specs.Rests.{IsAt, IsNext, IsStopped};
+ghost use Rattle.al_engine.specs.Serial.{ShowsPlainRun, ShowsSerialRun};
 ghost use Rattle.al_engine.specs.Worlds.{locals_or, whole_of};
 
 use crate::counts::Counts;
@@ -243,6 +244,10 @@ pub fn run<R: Threads + Sync, G: Gate>(
         → told ≡ report.watched watch (report.report typed input.now (spec.sizes_of knobs.now) choices.now)) }
     ensures rounds { (typed : Typed)
         → RoundsFit (report.report typed input.now (spec.sizes_of knobs.now) choices.now).events }
+    ensures serial { IfOk result (λ told. (typed : Typed) → IsCodeOf typed code.now
+        → ShowsSerialRun typed input.now knobs.now choices.now told) }
+    ensures in_order { IfOk result (λ told. (typed : Typed) → IsCodeOf typed code.now
+        → ShowsPlainRun typed input.now knobs.now choices.now told) }
 {
     let job = Job {
         code,

@@ -2,3 +2,4 @@ mod Tasks
 mod Keeping
 mod Told
 mod Crossing
+mod SerialRounds

@@ -4,6 +4,7 @@ ghost use Rattle.al_core.specs.Verdicts.{is_committed};
 ghost use Rattle.al_core.specs.declared.reports.Verdict.{Verdict};
 ghost use Rattle.al_chunk.specs.Loops.{InEachTree};
 ghost use Rattle.al_round.specs.Rounds.{MayRun, IsRound, HasBegun};
+ghost use Rattle.al_round.specs.Serial.{IsSerialRound, CommitsFirst, CommitsApart, CommitsInAnyOrder};
 
 use crate::commits::settle;
 use crate::piece::Plan;
@@ -41,6 +42,14 @@ pub fn round<R: Threads + Sync, S: Store + Sync, G: Gate>(
         IsRound x choice.now chunks.now (S.memory store.old) (S.memory store.new) r)) }
     ensures first { IfOk result (λ r.
         (v : Verdict) × (rest : List Verdict) × (r.verdicts ≡ v ∷ rest) × (is_committed v ≡ true)) }
+    ensures serial { IfOk result (λ r. InEachTree code.now info.now input.now env.now (λ x.
+        IsSerialRound x choice.now chunks.now (S.memory store.old) (S.memory store.new) r)) }
+    ensures in_order { IfOk result (λ r. InEachTree code.now info.now input.now env.now (λ x.
+        CommitsFirst x choice.now chunks.now (S.memory store.old) (S.memory store.new) r)) }
+    ensures apart { IfOk result (λ r. InEachTree code.now info.now input.now env.now (λ x.
+        CommitsApart x choice.now chunks.now (S.memory store.old) (S.memory store.new) r)) }
+    ensures any_order { IfOk result (λ r. InEachTree code.now info.now input.now env.now (λ x.
+        CommitsInAnyOrder x choice.now chunks.now (S.memory store.old) (S.memory store.new) r)) }
     ensures memory { OnErr result (InEachTree code.now info.now input.now env.now (λ x.
         HasBegun x choice.now chunks.now (S.memory store.old) (S.memory store.new))) }
 {

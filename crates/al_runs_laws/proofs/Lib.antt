@@ -8,4 +8,9 @@ pub mod InCommitOrder
 pub mod Reporting
 pub mod NumbersKept
 pub mod SmallFacts
+pub mod SmallSized
+pub mod Making
+pub mod MakingStatements
+pub mod WholePlaces
 pub mod Sourced
+pub mod AcceptedRuns

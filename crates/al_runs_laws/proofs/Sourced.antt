@@ -20,6 +20,7 @@ use Rattle.al_reductions_laws.proofs.AcceptedReds.{all_at}
 use Rattle.al_kinds_laws.specs.Programs.{IsProgram}
 use Rattle.al_runs_laws.specs.Reports.{ChoicesAreSerializable}
 use Rattle.al_runs_laws.specs.Sources.{IsSource, IsOwnChoice, ChoicesAreOwn, SourcesAreSerial, SourcesInOrderArePlain}
+use Rattle.al_runs_laws.proofs.WholePlaces.{scalars_are_whole}
 use Rattle.al_runs_laws.proofs.Reporting.{reports_are_serial, reports_in_order_are_plain}
 
 -- what each element has one has that is among them
@@ -33,7 +34,12 @@ there (x ∷ xs) (suc n) l e = there xs n (omega (arith, l)) e
 
 module _ (p : Program) (typed : Typed) (input : List ℤ) (h : IsSource p typed input) where
   is_program : IsProgram typed input
-  is_program = record { formed = resolved_is_well_formed p typed h.resolved; numbers = h.numbers; starts = h.starts; whole = h.whole }
+  is_program = record {
+    formed = resolved_is_well_formed p typed h.resolved;
+    numbers = h.numbers;
+    starts = h.starts;
+    whole = scalars_are_whole p typed h.resolved;
+  }
 
   -- a loop has a note
   with_note : (n : ℕ) (l : Loop) (x : Option TNote) (y : Option PlacedLoop) → noted_loop n x y ≡ Some l → (note : TNote) × (x ≡ Some note)

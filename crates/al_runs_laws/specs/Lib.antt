@@ -5,3 +5,4 @@ pub mod Numbers
 pub mod Small
 pub mod Met
 pub mod Sources
+pub mod Accepted

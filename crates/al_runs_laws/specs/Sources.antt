@@ -14,7 +14,6 @@ use Rattle.al_rules.specs.Notes.{note_fault, infos}
 use Rattle.al_rules.specs.Programs.{Resolved}
 use Rattle.al_rounds_laws.specs.Loops.{LooksAtReads}
 use Rattle.al_graded_laws.specs.InRange.{IsInRange}
-use Rattle.al_kinds_laws.specs.Whole.{ScalarsAreWhole}
 use Rattle.al_runs_laws.specs.Reports.{ChoicesAreOrdered, output_and_ending}
 
 -- The typed tree of a source without a fault. The numbers of it and of the input have their sizes.
@@ -23,7 +22,6 @@ pub record IsSource (p : Program) (typed : Typed) (input : List ℤ) : Type 0 wh
   pub annotated : note_fault typed ≡ None
   pub numbers : IsInRange typed input
   pub starts : (k : ℕ) (g : TGlobal) → slice_get typed.globals k ≡ Some g → FitsSigned w64 g.start
-  pub whole : ScalarsAreWhole typed
 
 -- The reductions of a choice are those that the loop's annotation names, or the choice is one that is tried for it.
 abbrev pub IsOwnChoice : Typed → LoopInfo → Choice → Type 0

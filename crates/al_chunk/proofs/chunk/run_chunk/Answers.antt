@@ -2,10 +2,11 @@ use Rattle.std.proofs.Common.{subst}
 use Rattle.al_snap.specs.Changes.{IsOutcome}
 use Rattle.al_chunk.specs.Loops.{execution_of}
 use Rattle.al_chunk.proofs.Chunks.{chunk_starts, chunk_gives}
+use Rattle.al_chunk.proofs.Footprints.{change_depends_on_reads}
 use Rattle.al_chunk.proofs.chunk.run_chunk.Goals as goal
 
-pub returns : goal.returns
-returns g c typed l s =
+pub returns-clause-exact : goal.returns-clause-exact
+returns-clause-exact g c typed l s =
     let x = execution_of typed l c.args.input.now c.args.env.now in
     let reds = c.args.choice.now.reds in
     let m = g.S.Store.memory c.args.base.now in
@@ -14,3 +15,8 @@ returns g c typed l s =
     subst (IsOutcome c.into_change.result)
     (chunk_gives x reds m c.args.chunk _ _ _ _ start first c.range-first.ensures.count (c.in_ok-run.ensures.exact typed l s))
     c.into_change.ensures
+
+pub returns-clause-footprint : goal.returns-clause-footprint
+returns-clause-footprint g c typed l s =
+    change_depends_on_reads c.into_change.result (execution_of typed l c.args.input.now c.args.env.now) c.args.choice.now.reds
+    (g.S.Store.memory c.args.base.now) c.args.chunk (returns-clause-exact g c typed l s)

@@ -3,6 +3,7 @@ use Rattle.std.proofs.lemmas.Result.{IfOk-weaker, on_err_weaker}
 use Rattle.al_snap.specs.Changes.{told}
 use Rattle.al_chunk.specs.Loops.{execution_of}
 use Rattle.al_round.proofs.Told.{judged_length, map_length, first_verdict, round_settled, round_begun}
+use Rattle.al_round.proofs.SerialRounds.{serial_round, commits_first, commits_apart, commits_in_any_order}
 use Rattle.al_round.proofs.rounds.round.Goals as goal
 
 pub settle-requires-clause-each : goal.settle-requires-clause-each
@@ -32,3 +33,35 @@ returns-clause-memory g c =
     round_begun (execution_of typed l c.args.input.now c.args.env.now) c.args.choice.now c.args.chunks.now _ _ _
     (c.in_ok-all.ensures.outcomes typed l stands) _ _ c.as_slice.ensures c.in_ok-all.ensures.verdicts h)
     c.settle.ensures.err
+
+pub returns-clause-serial : goal.returns-clause-serial
+returns-clause-serial g c =
+    IfOk-weaker c.settle.result _ _
+    (λ r exact typed l stands.
+    serial_round (execution_of typed l c.args.input.now c.args.env.now) c.args.choice.now c.args.chunks.now (g.S.Store.memory c.args.store.now) _ r
+    (exact typed l stands))
+    (returns-clause-exact g c)
+
+pub returns-clause-in_order : goal.returns-clause-in_order
+returns-clause-in_order g c =
+    IfOk-weaker c.settle.result _ _
+    (λ r exact typed l stands.
+    commits_first (execution_of typed l c.args.input.now c.args.env.now) c.args.choice.now c.args.chunks.now (g.S.Store.memory c.args.store.now) _ r
+    (exact typed l stands))
+    (returns-clause-exact g c)
+
+pub returns-clause-apart : goal.returns-clause-apart
+returns-clause-apart g c =
+    IfOk-weaker c.settle.result _ _
+    (λ r exact typed l stands.
+    commits_apart (execution_of typed l c.args.input.now c.args.env.now) c.args.choice.now c.args.chunks.now (g.S.Store.memory c.args.store.now) _ r
+    (exact typed l stands))
+    (returns-clause-exact g c)
+
+pub returns-clause-any_order : goal.returns-clause-any_order
+returns-clause-any_order g c =
+    IfOk-weaker c.settle.result _ _
+    (λ r exact typed l stands.
+    commits_in_any_order (execution_of typed l c.args.input.now c.args.env.now) c.args.choice.now c.args.chunks.now (g.S.Store.memory c.args.store.now) _ r
+    (exact typed l stands))
+    (returns-clause-exact g c)
