@@ -1,9 +1,10 @@
 #!/bin/sh
 # Measures what worker threads gain: independent loops of bench/nine with 4 threads against 1 and against `plain`, and
-# beside them the same sources with OpenMP (gcc -O1) on 1 and 4 threads and a spin of pure arithmetic on 1 and 4; the
-# first loop of examples/p15.c with 100,000 points; `demo 1 100000` beside `plain` of the same program and input, at the
-# defaults; and the peak of memory for n, 2n and 4n objects. Times are the least of five runs by turns (RUNS: of so
-# many), on the clock. It needs python3 and gcc. ALTER names another program to measure.
+# beside them the same sources with OpenMP (gcc -O1) on 1 and 4 threads and a spin of pure arithmetic on 1 and 4; a
+# small loop that is executed 2,000 times; the first loop of examples/p15.c with 100,000 points; `demo 1 100000` beside
+# `plain` of the same program and input, at the defaults; and the peak of memory for n, 2n and 4n objects. Times are the
+# least of five runs by turns (RUNS: of so many), on the clock. It needs python3 and gcc. ALTER names another program to
+# measure.
 command -v python3 >/dev/null || {
     echo "bench/threads.sh: python3 is not here" >&2
     exit 1
@@ -76,6 +77,20 @@ def first_loop():
     return re.sub(r"#pragma alter WAW OutOfOrder reduce\(\+: used\).*?\n    }\n", "", text, flags=re.S)
 
 
+# A loop that is executed often, with little to do each time.
+OFTEN = """#include <stdio.h>
+int a[64];
+int main(void) {
+  for (int k = 0; k < 2000; k++) {
+#pragma alter RAW OutOfOrder
+    for (int i = 0; i < 64; i++) { a[i] = i + k; }
+  }
+  printf("%d\\n", a[63]);
+  return 0;
+}
+"""
+
+
 def demo():
     """`demo 1 100000`, which has the defaults of `run`, beside its program plain."""
     numbers, x = [], 1
@@ -132,6 +147,7 @@ loops("par_mandel", text_of("bench/nine/par_mandel.c"), ["--chunk", "1", "--lane
 loops("readset_matmul", text_of("bench/nine/readset_matmul.c"), ["--chunk", "1", "--lanes", "24"])
 loops("small_iters", text_of("bench/nine/small_iters.c"), [])
 loops("small_iters", text_of("bench/nine/small_iters.c"), ["--chunk", "1024", "--lanes", "24"])
+loops("often", OFTEN, [])
 loops("p15", first_loop(), [])
 loops("p15", first_loop(), ["--chunk", "256", "--lanes", "24"])
 demo()
