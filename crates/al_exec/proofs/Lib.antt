@@ -15,3 +15,4 @@ pub mod Starting
 pub mod Beginnings
 pub mod Answering
 pub mod Copied
+pub mod Numbers

@@ -49,7 +49,8 @@ impl Machine {
         requires valid { IsValid code.now }
         requires stands { Stands code.now self.old }
         requires at { slice_get code.now.instrs self.old.active.place ≡ Some i.Return }
-        ensures moves { (input : List ℤ) (w : Content) → Moves input code.now i.Return self.old w (Ok result) self.new w }
+        ensures moves { (input : List ℤ) (w : Content)
+            → Moves input code.now i.Return self.old w (Ok result) self.new w }
         ensures kept { Keeps self.old self.new }
     {
         let _code = code;

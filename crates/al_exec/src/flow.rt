@@ -5,8 +5,8 @@ ghost use Rattle.al_code.specs.declared.instructions.Instr.TheVariants as i;
 ghost use Rattle.al_exec.specs.Meets.{Did, DidAlone};
 
 use crate::active::Active;
-use crate::values::{input_value, packed};
-use al_core::{Trap, ViewFault, truth};
+use crate::values::{holds, input_value, packed};
+use al_core::{Trap, ViewFault};
 use al_values::PackedValue;
 
 /// Steps, jumps, and the input.
@@ -34,12 +34,12 @@ impl Active {
     }
 
     #[inline(always)]
-    pub fn jump_if(&mut self, holds: bool, to: u32) -> Result<(), ViewFault>
+    pub fn jump_if(&mut self, wanted: bool, to: u32) -> Result<(), ViewFault>
         requires place { self.old.place + 1 < 2 ^ 64 }
         requires operands { 1 ≤ self.old.height }
-        ensures { DidAlone (i.JumpIf holds to) self.old result self.new }
+        ensures { DidAlone (i.JumpIf wanted to) self.old result self.new }
     {
-        if truth(self.pop().unpack()) == holds {
+        if holds(self.pop()) == wanted {
             self.goto(to as usize);
         } else {
             self.advance();

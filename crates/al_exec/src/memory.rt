@@ -1,7 +1,8 @@
-ghost use Rattle.std.specs.Prelude.{◌≡◌, ◌+◌, ◌<◌, ◌≤◌, ◌^◌, List, ℤ};
+ghost use Rattle.std.specs.Prelude.{◌≡◌, ◌+◌, ◌<◌, ◌≤◌, ◌^◌, List, ℤ, true, false};
+ghost use Rattle.al_core.specs.Action as action;
 ghost use Rattle.al_code.specs.declared.lowered.Code.{Code};
 ghost use Rattle.al_code.specs.declared.instructions.Instr.TheVariants as i;
-ghost use Rattle.al_exec.specs.Meets.{Did};
+ghost use Rattle.al_exec.specs.Meets.{Did, DidAlone};
 
 use crate::active::Active;
 use crate::values::{object_words, packed, pointer};
@@ -11,6 +12,63 @@ use al_values::PackedValue;
 /// Instructions that go through what the code sees.
 #[tactic(auto, unfolding(al_core::specs::Action::bind, al_core::specs::Action::pure, al_core::specs::Action::lift, al_core::specs::Action::asks, al_core::specs::Action::get_frame, al_core::specs::Action::set_frame))]
 impl Active {
+    /// Puts a local of the function's own.
+    #[inline(always)]
+    fn get_own(&mut self, k: u32) -> Result<(), ViewFault>
+        requires place { self.old.place + 1 < 2 ^ 64 }
+        requires room { self.old.height < self.old.room }
+        requires own { action.is_private self.old.own k ≡ true }
+        ensures { DidAlone (i.GetLocal k) self.old result self.new }
+    {
+        self.push(self.local(k));
+        self.advance();
+        Ok(())
+    }
+
+    /// Puts a local that a loop's iterations share.
+    #[inline(always)]
+    fn get_shared<V: View>(&mut self, k: u32, view: &mut V) -> Result<(), ViewFault>
+        requires place { self.old.place + 1 < 2 ^ 64 }
+        requires room { self.old.height < self.old.room }
+        requires shared { action.is_private self.old.own k ≡ false }
+        ensures { (input : List ℤ) (code : Code)
+            → Did input code (i.GetLocal k) self.old (V.content view.old) result self.new (V.content view.new) }
+    {
+        let v = packed(view.load(Addr::Local(k), Kind::Int)?)?;
+        self.push(v);
+        self.advance();
+        Ok(())
+    }
+
+    /// Sets a local of the function's own.
+    #[inline(always)]
+    fn put_own(&mut self, k: u32) -> Result<(), ViewFault>
+        requires place { self.old.place + 1 < 2 ^ 64 }
+        requires operands { 1 ≤ self.old.height }
+        requires own { action.is_private self.old.own k ≡ true }
+        ensures { DidAlone (i.SetLocal k) self.old result self.new }
+    {
+        let v = self.pop();
+        self.set_local(k, v);
+        self.advance();
+        Ok(())
+    }
+
+    /// Sets a local that a loop's iterations share.
+    #[inline(always)]
+    fn put_shared<V: View>(&mut self, k: u32, view: &mut V) -> Result<(), ViewFault>
+        requires place { self.old.place + 1 < 2 ^ 64 }
+        requires operands { 1 ≤ self.old.height }
+        requires shared { action.is_private self.old.own k ≡ false }
+        ensures { (input : List ℤ) (code : Code)
+            → Did input code (i.SetLocal k) self.old (V.content view.old) result self.new (V.content view.new) }
+    {
+        let v = self.pop();
+        view.store(Addr::Local(k), v.unpack())?;
+        self.advance();
+        Ok(())
+    }
+
     #[inline(always)]
     pub fn get_local<V: View>(&mut self, k: u32, view: &mut V) -> Result<(), ViewFault>
         requires place { self.old.place + 1 < 2 ^ 64 }
@@ -18,14 +76,11 @@ impl Active {
         ensures { (input : List ℤ) (code : Code)
             → Did input code (i.GetLocal k) self.old (V.content view.old) result self.new (V.content view.new) }
     {
-        let v = if self.is_private(k) {
-            self.local(k)
+        if self.is_private(k) {
+            self.get_own(k)
         } else {
-            packed(view.load(Addr::Local(k), Kind::Int)?)?
-        };
-        self.push(v);
-        self.advance();
-        Ok(())
+            self.get_shared(k, view)
+        }
     }
 
     #[inline(always)]
@@ -35,14 +90,11 @@ impl Active {
         ensures { (input : List ℤ) (code : Code)
             → Did input code (i.SetLocal k) self.old (V.content view.old) result self.new (V.content view.new) }
     {
-        let v = self.pop();
         if self.is_private(k) {
-            self.set_local(k, v);
+            self.put_own(k)
         } else {
-            view.store(Addr::Local(k), v.unpack())?;
+            self.put_shared(k, view)
         }
-        self.advance();
-        Ok(())
     }
 
     #[inline(always)]

@@ -1,6 +1,7 @@
 ghost use Rattle.std.specs.Prelude.{◌≡◌, ◌+◌, ◌<◌, ◌≤◌, ◌^◌, MatchResult};
 ghost use Rattle.al_core.specs.declared.view.ViewFault.TheVariants as fault;
 ghost use Rattle.al_source.specs.Steps.{and_then};
+ghost use Rattle.al_core.specs.Arithmetic as arithmetic;
 ghost use Rattle.al_core.specs.Values as spec;
 ghost use Rattle.al_code.specs.Machine.{pointer_in};
 ghost use Rattle.al_code.specs.declared.instructions.Instr.TheVariants as i;
@@ -8,8 +9,8 @@ ghost use Rattle.al_exec.specs.Meets.{DidAlone};
 
 use crate::active::Active;
 use al_core::{
-    BinOp, Obj, RedOp, Trap, UnOp, Val, ViewFault, choose, compare, element, input_at, number,
-    of_test, operate, operate_one, point, shift, truth, words_of,
+    BinOp, Obj, RedOp, Trap, UnOp, Val, ViewFault, binary, choose, compare, element, input_at,
+    number, of_test, operate_one, point, shift, truth, words_of,
 };
 use al_values::PackedValue;
 
@@ -22,6 +23,64 @@ pub fn packed(v: Val) -> Result<PackedValue, ViewFault>
         Some(c) => Ok(c),
         None => Err(ViewFault::Memory),
     }
+}
+
+/// Whether a value holds as a condition.
+#[inline(always)]
+pub fn holds(v: PackedValue) -> bool
+    ensures { result ≡ spec.truth v }
+{
+    match v.int() {
+        Some(n) => truth(Val::Int(n)),
+        None => true,
+    }
+}
+
+/// The number that a value is.
+#[inline(always)]
+fn number_in(v: PackedValue) -> Result<i64, Trap>
+    ensures { result ≡ spec.number v }
+{
+    match v.int() {
+        Some(n) => Ok(n),
+        None => number(v.unpack()),
+    }
+}
+
+/// The value of a binary operator on numbers. The operators of a few instructions are done in place.
+#[inline(always)]
+fn operated(op: BinOp, a: i64, b: i64) -> Result<i64, Trap>
+    ensures { result ≡ arithmetic.operated op a b }
+{
+    match op {
+        BinOp::Add => Ok(a.wrapping_add(b)),
+        BinOp::Sub => Ok(a.wrapping_sub(b)),
+        BinOp::Mul => Ok(a.wrapping_mul(b)),
+        BinOp::Lt => Ok(i64::from(a < b)),
+        BinOp::Le => Ok(i64::from(a <= b)),
+        BinOp::Gt => Ok(i64::from(a > b)),
+        BinOp::Ge => Ok(i64::from(a >= b)),
+        BinOp::Eq => Ok(i64::from(a == b)),
+        BinOp::Ne => Ok(i64::from(a != b)),
+        BinOp::Div
+        | BinOp::Rem
+        | BinOp::Shl
+        | BinOp::Shr
+        | BinOp::BitAnd
+        | BinOp::BitXor
+        | BinOp::BitOr => binary(op, a, b),
+    }
+}
+
+/// The value of a binary operator.
+#[tactic(auto, unfolding(al_core::specs::Values::operate))]
+#[inline(always)]
+fn operate(op: BinOp, a: PackedValue, b: PackedValue) -> Result<PackedValue, Trap>
+    ensures { result ≡ spec.operate op a b }
+{
+    let x = number_in(a)?;
+    let y = number_in(b)?;
+    Ok(PackedValue::from_int(operated(op, x, y)?))
 }
 
 /// Where a pointer leads.
@@ -173,8 +232,8 @@ impl Active {
         requires room { self.old.height ≤ self.old.room }
         ensures { DidAlone i.Truth self.old result self.new }
     {
-        let holds = truth(self.pop().unpack());
-        self.push(packed(of_test(holds))?);
+        let condition = holds(self.pop());
+        self.push(packed(of_test(condition))?);
         self.advance();
         Ok(())
     }
@@ -188,9 +247,9 @@ impl Active {
     {
         let b = self.pop();
         let a = self.pop();
-        match operate(op, a.unpack(), b.unpack()) {
+        match operate(op, a, b) {
             Ok(v) => {
-                self.push(packed(v)?);
+                self.push(v);
                 self.advance();
                 Ok(())
             }
