@@ -1,7 +1,0 @@
-//! Tests of rounds on threads, beside those of the plain interpreter.
-#![tactic(auto)]
-
-#[cfg(test)]
-mod rounds;
-#[cfg(test)]
-mod starts;
