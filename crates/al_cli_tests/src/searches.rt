@@ -49,12 +49,12 @@ fn gathering(alloc: Global, start: i64, update: &str) -> Result<String, AllocErr
 const SEARCH: &str = "infer p9.c n.txt --lanes 4 --chunk 1";
 
 /// Whether the search that words ask for, of a program for an input, has this table.
-fn has_table<R: Threads + Sync>(
+fn has_table<'a, R: Threads + Sync>(
     rt: &R,
     alloc: Global,
-    words: &str,
-    text: &str,
-    numbers: &str,
+    words: &'a str,
+    text: &'a str,
+    numbers: &'a str,
     table: &str,
 ) -> Result<bool, AllocError> {
     let source = File { name: "p9.c", text };

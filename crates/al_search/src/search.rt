@@ -41,26 +41,58 @@ pub fn searched<R: Threads + Sync, G: Gate>(
     requires ranges { AreInRange knobs }
     ensures { IfOk result (λ text. text ≡ spec.searched program.now number tests.now knobs) }
 {
-    let infos = program.1.as_slice();
-    let Some(info) = infos.get(number as usize) else {
+    let Some(info) = program.1.as_slice().get(number as usize) else {
         return Ok(Items::new(alloc));
     };
     let tried = tried(alloc, knobs.line, &program.0, info)?;
-    let search = Search {
-        program: Snapshot::of(program),
-        infos,
+    let table = table_of(
+        rt,
+        alloc,
+        program,
         code,
         number,
-        tried: tried.as_slice(),
+        tried.as_slice(),
         tests,
         knobs,
-    };
-    let table = table_of(rt, alloc, &search, gate)?;
+        gate,
+    )?;
     table_text(alloc, &program.0, info, tried.as_slice(), &table)
 }
 
-/// The table of a search.
+/// The table for the loop of a number.
 fn table_of<R: Threads + Sync, G: Gate>(
+    rt: &R,
+    alloc: Global,
+    program: &Program,
+    code: &Code,
+    number: u32,
+    tried: &[Choice],
+    tests: &[Items<i64>],
+    knobs: Knobs,
+    gate: &G,
+) -> Result<Table, AllocError>
+    requires valid { IsValid code.now }
+    requires code { IsCodeOf program.now.0 code.now }
+    requires tried { length tried.now ≤ 80 }
+    requires lines { (k : ℕ) (c : Choice) → slice_get tried.now k ≡ Some c → c.line ≡ knobs.line }
+    requires tests { (1 ≤ length tests.now) × (length tests.now ≤ MOST_TESTS) }
+    requires ranges { AreInRange knobs }
+    ensures { IfOk result (λ t. t ≡ spec.table_of program.now number tried.now tests.now knobs) }
+{
+    let search = Search {
+        program: Snapshot::of(program),
+        infos: program.1.as_slice(),
+        code,
+        number,
+        tried,
+        tests,
+        knobs,
+    };
+    table_by(rt, alloc, &search, gate)
+}
+
+/// The table of a search.
+fn table_by<R: Threads + Sync, G: Gate>(
     rt: &R,
     alloc: Global,
     search: &Search<'_>,
