@@ -15,7 +15,7 @@ pub small_span : (told r : Report) → told ≡ watched false r → Fit r → to
 small_span told r is fit = subst (λ (x : Report). x.span < 2 ^ 100) (sym is) fit.span
 
 module _ (s : Search) (k : Option ℕ) (t : ℕ) where
-  of_run : List ℤ → List (Option Choice) → Outcome
+  abbrev of_run : List ℤ → List (Option Choice) → Outcome
   of_run input cs = outcome_of (report s.program.value.0 input (sizes_of s.knobs) cs)
 
   pub told_at : (input : List ℤ) (choice : Option Choice) (cs : List (Option Choice)) (r : Result Outcome AllocError)
