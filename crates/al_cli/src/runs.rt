@@ -1,11 +1,13 @@
 //! Runs, and what is written of them.
-ghost use Rattle.std.specs.Prelude.{◌≡◌, IfOk, Ok, length, false};
+ghost use Rattle.std.specs.Prelude.{◌≡◌, ◌≤◌, IfOk, Ok, length, false};
 ghost use Rattle.al_core.specs.Limits.{AreInRange};
 ghost use Rattle.al_core.specs.Report.{watched};
 ghost use Rattle.al_rules.specs.Refusals.{accepted};
 ghost use Rattle.al_rules_laws.specs.FormedLaws.{IsFormedWith};
 ghost use Rattle.al_code.specs.Valid.{IsValid};
 ghost use Rattle.al_engine.specs.Jobs.{IsCodeOf};
+ghost use Rattle.al_search.specs.Search as search_spec;
+ghost use Rattle.al_source.specs.declared.limits.TheConstants.{MOST_TESTS};
 ghost use Rattle.al_words.specs.Jobs.{FitsInputs};
 ghost use Rattle.al_words.specs.Ranges.{HasRanges};
 ghost use Rattle.al_cli.specs.Shown as spec;
@@ -57,7 +59,7 @@ pub fn answer_of<R: Threads + Sync, G: Gate>(
             ended(alloc, name, report.ending, text)
         }
         Command::Infer(job, number) => {
-            let text = searched(rt, alloc, source, program, number, inputs, job.knobs)?;
+            let text = inferred(rt, alloc, program, number, inputs, job.knobs, gate)?;
             Ok(done(alloc, text))
         }
         Command::Check(_) => Ok(done(alloc, Items::from_slice(alloc, b"ok\n")?)),
@@ -172,6 +174,25 @@ fn plain<R: Threads + Sync, G: Gate>(
         false,
         gate,
     )
+}
+
+/// The table of the search for annotations of a loop, as a text.
+fn inferred<R: Threads + Sync, G: Gate>(
+    rt: &R,
+    alloc: Global,
+    program: &Noted,
+    number: u32,
+    inputs: &[Items<i64>],
+    knobs: Knobs,
+    gate: &G,
+) -> Result<Bytes, AllocError>
+    requires formed { IsFormedWith program.now.0 program.now.1 }
+    requires inputs { (1 ≤ length inputs.now) × (length inputs.now ≤ MOST_TESTS) }
+    requires ranges { AreInRange knobs }
+    ensures { IfOk result (λ text. text ≡ search_spec.searched program.now number inputs.now knobs) }
+{
+    let code = lowered(alloc, program)?;
+    searched(rt, alloc, program, &code, number, inputs, knobs, gate)
 }
 
 /// Each loop's own annotation, with lines of so many words.

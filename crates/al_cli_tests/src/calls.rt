@@ -95,6 +95,22 @@ fn two_files(alloc: Global, one: &File<'_>, other: &File<'_>) -> Result<Items<Me
     Ok(files)
 }
 
+fn three_files(
+    alloc: Global,
+    one: &File<'_>,
+    other: &File<'_>,
+    third: &File<'_>,
+) -> Result<Items<MemFile>, AllocError>
+    ensures { IfOk result (λ files. keys_of (named files)
+        ≡ one.now.name.now ∷ other.now.name.now ∷ third.now.name.now ∷ []) }
+{
+    let mut files = Items::new(alloc);
+    files.push(file_of(alloc, one)?)?;
+    files.push(file_of(alloc, other)?)?;
+    files.push(file_of(alloc, third)?)?;
+    Ok(files)
+}
+
 fn sink(alloc: Global, cut: Cut) -> Result<MemSink, AllocError> {
     let mut cuts = Items::new(alloc);
     cuts.push(cut)?;
@@ -117,14 +133,27 @@ pub fn serve_at<R: Threads + Sync, G: Gate>(
     call: &Call<'_>,
     gate: &G,
 ) -> Result<Seen, AllocError> {
-    let words = words_of(alloc, call.words)?;
     let files = two_files(alloc, &call.source, &call.input)?;
     if call.source.name == call.input.name {
         return Err(AllocError);
     }
-    let mut files = MemFiles::new(files, Items::from_slice(alloc, &[call.failing])?);
-    let mut out = sink(alloc, call.out)?;
-    let mut err = sink(alloc, call.err)?;
+    let files = MemFiles::new(files, Items::from_slice(alloc, &[call.failing])?);
+    let out = sink(alloc, call.out)?;
+    let err = sink(alloc, call.err)?;
+    serve_over(rt, alloc, call.words, files, out, err, gate)
+}
+
+/// Makes the call of these words over files and sinks.
+fn serve_over<R: Threads + Sync, G: Gate>(
+    rt: &R,
+    alloc: Global,
+    words: &str,
+    mut files: MemFiles,
+    mut out: MemSink,
+    mut err: MemSink,
+    gate: &G,
+) -> Result<Seen, AllocError> {
+    let words = words_of(alloc, words)?;
     let status = alter(
         rt,
         alloc,
@@ -153,4 +182,31 @@ pub fn gives<R: Threads + Sync>(
             && seen.out.as_slice() == wanted.out.as_bytes()
             && seen.err.as_slice() == wanted.err.as_bytes(),
     )
+}
+
+/// Whether words over a source and two inputs end well, and what they write begins so.
+pub fn begins<R: Threads + Sync>(
+    rt: &R,
+    alloc: Global,
+    words: &str,
+    source: &File<'_>,
+    one: &File<'_>,
+    other: &File<'_>,
+    head: &str,
+) -> Result<bool, AllocError> {
+    let files = three_files(alloc, source, one, other)?;
+    if source.name == one.name || source.name == other.name || one.name == other.name {
+        return Err(AllocError);
+    }
+    let files = MemFiles::new(files, Items::new(alloc));
+    let seen = serve_over(
+        rt,
+        alloc,
+        words,
+        files,
+        sink(alloc, WHOLE)?,
+        sink(alloc, WHOLE)?,
+        &FreeGate,
+    )?;
+    Ok(seen.status == 0 && seen.out.as_slice().starts_with(head.as_bytes()))
 }

@@ -1,5 +1,5 @@
 //! The search for annotations.
-use crate::calls::{Call, File, Wanted, gives};
+use crate::calls::{Call, File, Wanted, begins, gives};
 use crate::rows::{Row, broken, changed, ends_in};
 use al_samples::*;
 use std::alloc::{AllocError, Global};
@@ -45,12 +45,16 @@ fn gathering(alloc: Global, start: i64, update: &str) -> Result<String, AllocErr
     )
 }
 
-/// Whether the search of a program for an input, one iteration a chunk, has this table.
-fn has_table<R: Threads + Sync>(
+/// The search over one input, one iteration a chunk.
+const SEARCH: &str = "infer p9.c n.txt --lanes 4 --chunk 1";
+
+/// Whether the search that words ask for, of a program for an input, has this table.
+fn has_table<'a, R: Threads + Sync>(
     rt: &R,
     alloc: Global,
-    text: &str,
-    numbers: &str,
+    words: &'a str,
+    text: &'a str,
+    numbers: &'a str,
     table: &str,
 ) -> Result<bool, AllocError> {
     let source = File { name: "p9.c", text };
@@ -58,7 +62,7 @@ fn has_table<R: Threads + Sync>(
         name: "n.txt",
         text: numbers,
     };
-    let call = Call::new("infer p9.c n.txt --lanes 4 --chunk 1", source, input);
+    let call = Call::new(words, source, input);
     let wanted = Wanted {
         status: 0,
         out: table,
@@ -72,7 +76,16 @@ fn a_sum_has_its_table(rt: HostRuntime) -> Result<(), Fail> {
     let alloc = rt.alloc();
     let from_zero = changed(alloc, P9, "s = 7", "s = 0")?;
     let table = with_reduction(alloc, "+")?;
-    assert!(rt; has_table(&rt, alloc, from_zero.as_str(), "1 2 3 4\n", table.as_str())?);
+    assert!(rt;
+        has_table(
+            &rt,
+            alloc,
+            SEARCH,
+            from_zero.as_str(),
+            "1 2 3 4\n",
+            table.as_str()
+        )?
+    );
     let rows: [Row; 2] = [
         (
             "infer p9.c n.txt --loop 1",
@@ -92,6 +105,48 @@ fn a_sum_has_its_table(rt: HostRuntime) -> Result<(), Fail> {
         broken(&rt, alloc, "p9.c", from_zero.as_str(), &rows)?,
         None
     );
+    Ok(())
+}
+
+#[test]
+fn threads_change_no_table(rt: HostRuntime) -> Result<(), Fail> {
+    let alloc = rt.alloc();
+    let from_zero = changed(alloc, P9, "s = 7", "s = 0")?;
+    let table = with_reduction(alloc, "+")?;
+    for threads in [1, 2, 8] {
+        let words = format!(in alloc; "{SEARCH} --threads {threads}")?;
+        assert!(rt;
+            has_table(
+                &rt,
+                alloc,
+                words.as_str(),
+                from_zero.as_str(),
+                "1 2 3 4\n",
+                table.as_str()
+            )?
+        );
+    }
+    Ok(())
+}
+
+/// Where all numbers are 0, every annotation prints the start of the sum.
+#[test]
+fn the_second_input_refuses(rt: HostRuntime) -> Result<(), Fail> {
+    let source = File {
+        name: "p9.c",
+        text: P9,
+    };
+    let zeros = File {
+        name: "z.txt",
+        text: "0 0 0 0\n",
+    };
+    let numbers = File {
+        name: "n.txt",
+        text: "1 2 3 4\n",
+    };
+    let words = "infer p9.c z.txt n.txt --lanes 4 --chunk 1";
+    let head = "candidate 0: NONE OutOfOrder: output, test 2\n";
+    assert!(rt; begins(&rt, rt.alloc(), words, &source, &zeros, &numbers, head)?);
     Ok(())
 }
 
@@ -164,7 +219,14 @@ fn each_operator_is_found(rt: HostRuntime) -> Result<(), Fail> {
         let program = gathering(alloc, start, update)?;
         let table = with_reduction(alloc, op)?;
         assert!(rt;
-            has_table(&rt, alloc, program.as_str(), "5 9 1 6\n", table.as_str())?,
+            has_table(
+                &rt,
+                alloc,
+                SEARCH,
+                program.as_str(),
+                "5 9 1 6\n",
+                table.as_str()
+            )?,
             "{op}"
         );
     }
@@ -195,7 +257,7 @@ candidate 6: FULL OutOfOrder: steps, test 1
 candidate 7: FULL InOrder: steps, test 1
 best none
 ";
-    assert!(rt; has_table(&rt, rt.alloc(), SLOW, "\n", table)?);
+    assert!(rt; has_table(&rt, rt.alloc(), SEARCH, SLOW, "\n", table)?);
     Ok(())
 }
 

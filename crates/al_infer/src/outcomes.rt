@@ -26,8 +26,12 @@ pub trait Trial: Sync {
     /// The outcome of a candidate, or of the plain run, at a test.
     ghost told: { Self → Option ℕ → ℕ → Outcome };
 
+    /// Trials can be run.
+    ghost can_try: { Self → Type 0 };
+
     /// Runs a candidate, or where there is none the plain loop, at a test. The error is want of memory.
     fn outcome(&self, candidate: Option<u32>, test: u32) -> Result<Outcome, AllocError>
+        requires can { can_try self.now }
         ensures told { IfOk result (λ o. o ≡ told self.now candidate test) }
         ensures small { IfOk result (λ o. o.span < 2 ^ 100) };
 }

@@ -26,6 +26,7 @@ pub fn infer<R: Threads + Sync, T: Trial>(
 ) -> Result<Table, AllocError>
     requires candidates { candidates ≤ 80 }
     requires tests { (1 ≤ tests) × (tests ≤ 16) }
+    requires can { T.can_try trial.now }
     ensures { IfOk result (λ t. t ≡ table (T.told trial.now) candidates tests) }
 {
     let plains = plain_runs(alloc, tests, trial)?;
@@ -50,6 +51,7 @@ fn tabled(rows: Vec<Found>) -> Table
 
 /// The plain run at each test.
 fn plain_runs<T: Trial>(alloc: Global, tests: u32, trial: &T) -> Result<Vec<Outcome>, AllocError>
+    requires { T.can_try trial.now }
     ensures many { IfOk result (λ v. length v.items ≡ tests) }
     ensures told { IfOk result (λ v. (t : ℕ) (d : _) → t < tests
         → slice_index_or v.items t d ≡ T.told trial.now None t) }
@@ -82,6 +84,7 @@ fn tried<T: Trial>(
     sum: u128,
 ) -> Result<Found, AllocError>
     requires test { test < 16 }
+    requires can { T.can_try trial.now }
     requires plain { plain.now ≡ T.told trial.now None test }
     requires small { plain.now.span < 2 ^ 100 }
     requires found { IsFinding (T.told trial.now) test candidate (Accepted sum) }
@@ -104,6 +107,7 @@ fn found_at<T: Trial>(
     row: Result<Found, AllocError>,
 ) -> Result<Found, AllocError>
     requires test { test < 16 }
+    requires can { T.can_try trial.now }
     requires plain { plain.now ≡ T.told trial.now None test }
     requires small { plain.now.span < 2 ^ 100 }
     requires row { IfOk row (IsFinding (T.told trial.now) test candidate) }
@@ -124,6 +128,7 @@ fn try_all<R: Threads + Sync, T: Trial>(
     rows: &mut Vec<Result<Found, AllocError>>,
 )
     requires test { test < 16 }
+    requires can { T.can_try trial.now }
     requires plain { plain.now ≡ T.told trial.now None test }
     requires small { plain.now.span < 2 ^ 100 }
     requires few { length rows.old.items ≤ 80 }
@@ -138,8 +143,8 @@ fn try_all<R: Threads + Sync, T: Trial>(
         rows.as_mut_slice(),
         SIDE_BY_SIDE,
         &|k: usize, row: &mut Result<Found, AllocError>|
-            requires { (k < 80) × (test < 16) × (plain.now ≡ T.told trial.now None test) × (plain.now.span < 2 ^ 100)
-                × IfOk row.now (IsFinding (T.told trial.now) test k) }
+            requires { (k < 80) × (test < 16) × T.can_try trial.now × (plain.now ≡ T.told trial.now None test)
+                × (plain.now.span < 2 ^ 100) × IfOk row.now (IsFinding (T.told trial.now) test k) }
             ensures { IfOk row.exit.now (IsFinding (T.told trial.entry.now) (test + 1) k) }
         { *row = found_at(trial, plain, test, k as u32, *row) },
     );

@@ -1,4 +1,4 @@
-ghost use Rattle.std.specs.Prelude.{◌≡◌, ◌+◌, ◌*◌, ◌<◌, ◌^◌, []};
+ghost use Rattle.std.specs.Prelude.{⊤, ◌≡◌, ◌+◌, ◌*◌, ◌<◌, ◌^◌, []};
 ghost use Rattle.std.specs.Option.{option_map_or};
 ghost use Rattle.al_core.specs.declared.reports.Ending.TheVariants.{Done};
 
@@ -23,6 +23,8 @@ impl Trial for Sample {
       aborted = 2 * option_map_or (λ k. k) candidate 0;
       span = 5 * (option_map_or (λ k. k) candidate 0 + 1);
     } };
+
+    ghost can_try = { λ s. ⊤ };
 
     fn outcome(&self, candidate: Option<u32>, test: u32) -> Result<Outcome, AllocError> {
         let _ = test;

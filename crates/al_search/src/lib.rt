@@ -7,6 +7,3 @@ mod trials;
 
 pub use choices::{no_choices, with_line};
 pub use search::searched;
-
-#[cfg(test)]
-mod tests;

@@ -1,56 +1,53 @@
-//! What is tried: a program with a candidate for one of its loops, on inputs.
-ghost use Rattle.std.specs.Prelude.{◌≡◌, ◌<◌, ◌^◌, IfOk, Ok};
-ghost use Rattle.al_core.specs.Limits.{AreInRange};
+//! What is tried: the code of a program, with a candidate for one of its loops, on inputs.
+ghost use Rattle.std.specs.Prelude.{ℕ, Option, ◌≡◌, ◌<◌, ◌^◌, IfOk};
 ghost use Rattle.al_core.specs.Report.{report};
 ghost use Rattle.al_core.specs.Run.{sizes_of};
-ghost use Rattle.al_rules.specs.Refusals.{accepted};
+ghost use Rattle.al_engine.specs.Jobs.{HaveLineSizes};
 ghost use Rattle.al_search.specs.Search as spec;
+ghost use Rattle.al_search.specs.Trials.{MayTry, told_by};
 
 use crate::choices::{choices_for, with_line};
-use al_core::{Choice, Knobs};
-use al_front::{Noted, resolve};
+use al_code::Code;
+use al_core::{Choice, Knobs, LoopInfo, Typed};
+use al_engine::{Gate, run};
 use al_infer::{Outcome, Trial};
-use al_plain::run;
 use sqlite_items::Items;
 use std::alloc::{AllocError, Global};
 use std::snapshot::Snapshot;
+use std::thread::Threads;
 
-/// The candidates for the loop of a number, and the inputs on which each runs. A trial resolves the source again: trees
-/// stay with the thread that made them.
+/// A typed tree and its loops.
+pub(crate) type Program = (Typed, Items<LoopInfo>);
+
+/// A program with the candidates for one of its loops, and the inputs on which each runs. All trials share its code.
 #[derive(Drop)]
-pub struct ProgramTrial<'a> {
-    pub alloc: Global,
-    pub source: &'a [u8],
-    pub program: Snapshot<Noted>,
+pub(crate) struct Search<'a> {
+    pub program: Snapshot<Program>,
+    pub infos: &'a [LoopInfo],
+    pub code: &'a Code,
     pub number: u32,
     pub tried: &'a [Choice],
     pub tests: &'a [Items<i64>],
     pub knobs: Knobs,
-    pub ghost ranges: { AreInRange knobs },
-    pub ghost same: { accepted source.now ≡ Ok program.value },
 }
 
-impl<'a> Trial for ProgramTrial<'a> {
-    ghost told = { λ s k t. spec.told s.program.value s.number s.tried.now s.tests.now s.knobs k t };
-
-    fn outcome(&self, candidate: Option<u32>, test: u32) -> Result<Outcome, AllocError> {
-        let program = self.resolved()?;
-        let choice = self.choice(candidate)?;
-        let choices = choices_for(self.alloc, program.1.as_slice(), self.number, choice)?;
-        let input = self.input(test);
-        outcome_of(self.alloc, &program, input, self.knobs, choices.as_slice())
-    }
-}
-
-impl<'a> ProgramTrial<'a> {
-    /// The program of the source. It was accepted before, so that memory alone can be wanting.
-    fn resolved(&self) -> Result<Noted, AllocError>
-        ensures { IfOk result (λ p. p ≡ self.now.program.value) }
+impl<'a> Search<'a> {
+    /// Runs a candidate, or where there is none the plain loop, at a test.
+    pub fn outcome<R: Threads + Sync, G: Gate>(
+        &self,
+        rt: &R,
+        alloc: Global,
+        candidate: Option<u32>,
+        test: u32,
+        gate: &G,
+    ) -> Result<Outcome, AllocError>
+        requires { MayTry self.now }
+        ensures told { IfOk result (λ o. o ≡ told_by self.now candidate test) }
+        ensures small { IfOk result (λ o. o.span < 2 ^ 100) }
     {
-        match resolve(self.alloc, self.source) {
-            Ok(program) => Ok(program),
-            Err(_) => Err(AllocError),
-        }
+        let choice = self.choice(alloc, candidate)?;
+        let choices = choices_for(alloc, self.infos, self.number, choice)?;
+        outcome_of(rt, alloc, self, self.input(test), choices.as_slice(), gate)
     }
 
     /// The input of a test.
@@ -64,34 +61,44 @@ impl<'a> ProgramTrial<'a> {
     }
 
     /// A candidate by its number, again.
-    fn choice(&self, candidate: Option<u32>) -> Result<Option<Choice>, AllocError>
+    fn choice(&self, alloc: Global, candidate: Option<u32>) -> Result<Option<Choice>, AllocError>
         ensures { IfOk result (λ c. c ≡ spec.candidate self.now.tried.now candidate) }
     {
         let Some(k) = candidate else {
             return Ok(None);
         };
         match self.tried.get(k as usize) {
-            Some(choice) => Ok(Some(with_line(self.alloc, choice.line, choice)?)),
+            Some(choice) => Ok(Some(with_line(alloc, choice.line, choice)?)),
             None => Ok(None),
         }
     }
 }
 
-/// What is compared of the run of a program.
-#[tactic(auto, using(al_laws::proofs::Fits::counts_fit))]
-fn outcome_of(
+/// What is compared of a run with these choices.
+fn outcome_of<R: Threads + Sync, G: Gate>(
+    rt: &R,
     alloc: Global,
-    program: &Noted,
+    search: &Search<'_>,
     input: &[i64],
-    knobs: Knobs,
     choices: &[Option<Choice>],
+    gate: &G,
 ) -> Result<Outcome, AllocError>
-    requires { AreInRange knobs }
-    ensures exact { let r = report program.now.0 input.now (sizes_of knobs) choices.now in
+    requires may { MayTry search.now }
+    requires lines { HaveLineSizes choices.now }
+    ensures exact { let r = report search.now.program.value.0 input.now (sizes_of search.now.knobs) choices.now in
         IfOk result (λ o. o ≡ spec.outcome_of r) }
     ensures small { IfOk result (λ o. o.span < 2 ^ 100) }
 {
-    let report = run(alloc, &program.0, input, knobs, choices, false)?;
+    let report = run(
+        rt,
+        alloc,
+        search.code,
+        input,
+        &search.knobs,
+        choices,
+        false,
+        gate,
+    )?;
     Ok(Outcome {
         output: report.output,
         ending: report.ending,
@@ -99,4 +106,23 @@ fn outcome_of(
         aborted: report.aborted,
         span: report.span,
     })
+}
+
+/// The trials of a search, each a call of a closure: a method could not hold the threads that it needs.
+#[derive(Drop)]
+pub(crate) struct Trials<'a, 'b, F> {
+    pub search: &'b Search<'a>,
+    pub outcome: F,
+}
+
+impl<'a, 'b, F: Fn(Option<u32>, u32) -> Result<Outcome, AllocError> + Sync> Trial
+    for Trials<'a, 'b, F> {
+    ghost told = { λ s. told_by s.search.now };
+
+    ghost can_try = { λ s. F.IsAlwaysCallable s.outcome × ((k : Option ℕ) (t : ℕ) (r : _) → F.post s.outcome k t r
+        → IfOk r (λ o. (o ≡ told_by s.search.now k t) × (o.span < 2 ^ 100))) };
+
+    fn outcome(&self, candidate: Option<u32>, test: u32) -> Result<Outcome, AllocError> {
+        (self.outcome)(candidate, test)
+    }
 }

@@ -12,3 +12,6 @@ in_lockstep-requires-in-Trace-clause-formed g c κs within = formed_of c.args.so
 
 pub in_lockstep-requires-in-Demo-clause-formed : goal.in_lockstep-requires-in-Demo-clause-formed
 in_lockstep-requires-in-Demo-clause-formed g c κs within = formed_of c.args.source.now c.args.program.now c.requires.source
+
+pub inferred-requires-clause-formed : goal.inferred-requires-clause-formed
+inferred-requires-clause-formed g c κs within = formed_of c.args.source.now c.args.program.now c.requires.source
