@@ -6,4 +6,6 @@ pub mod Comings
 pub mod Told
 pub mod Clauses
 mod LockstepRounds
+mod Inputs
+mod SerialRuns
 pub mod Promised

@@ -1,5 +1,6 @@
 pub mod Lines
 pub mod Shown
+pub mod Serial
 pub mod Steps
 pub mod Why
 pub mod Headline
