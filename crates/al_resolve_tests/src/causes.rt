@@ -1,12 +1,8 @@
 //! Why a source is refused. The expected causes follow the table of faults and the order in which they are told.
 
 use al_front::resolve;
-use al_rules::{NoteCause, NoteKind, Refusal, TypeCause, TypeKind};
+use al_rules::{NoteCause, NoteKind, Refusal};
 use std::alloc::{AllocError, Global};
-
-pub fn at(kind: TypeKind, line: u32) -> Refusal {
-    Refusal::Types(TypeCause { kind, line })
-}
 
 pub fn note(kind: NoteKind, line: u32) -> Refusal {
     Refusal::Notes(NoteCause { kind, line })
