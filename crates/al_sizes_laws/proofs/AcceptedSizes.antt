@@ -1,7 +1,6 @@
 -- The numbers in the tree of an accepted source have their sizes.
-use Rattle.std.proofs.Common.{◌≡◌, ℕ, zero, suc, ◌+◌, ◌*◌, ◌^◌, ◌≤◌, ◌<◌, Bool, true, false, nat_lt, if◌then◌else◌, List, [], ◌∷◌, map, length, Option, Some, None, Result, Ok, Err, slice_get, refl, sym, ap, ◌∙◌, subst, arith}
-use Rattle.std.specs.Prelude.{ℤ, pos, FitsSigned}
-use Rattle.std.specs.Int.{w64}
+use Rattle.std.proofs.Common.{◌≡◌, ℕ, zero, suc, ◌+◌, ◌*◌, ◌^◌, ◌≤◌, ◌<◌, Bool, true, false, nat_lt, if◌then◌else◌, List, [], ◌∷◌, map, length, Some, Result, Ok, Err, slice_get, refl, sym, ap, ◌∙◌, subst, arith}
+use Rattle.std.specs.Prelude.{pos}
 use Rattle.std.specs.List.{AllByRecursion}
 use Rattle.std.proofs.lemmas.Option.{slice_get_within}
 use Rattle.al_source.specs.Steps.{and_then}
@@ -49,7 +48,7 @@ use Rattle.al_rules.specs.Layouts.{no_layout, layout_of}
 use Rattle.al_rules.specs.Notes.{notes_of}
 use Rattle.al_rules.specs.Walks.{Progress}
 use Rattle.al_rules.specs.Statements as w
-use Rattle.al_rules.specs.Programs.{items_checked, main_of, begun, func_typed, funcs_typed, start_of, global_typed, globals_typed, typed_with}
+use Rattle.al_rules.specs.Programs.{items_checked, main_of, begun, func_typed, funcs_typed, globals_typed, typed_with}
 use Rattle.al_rules.specs.Refusals.{because, lexical_cause, tokens_of, derived, program_of, tree_of, small_enough, annotated_well, accepted}
 use Rattle.al_rules_laws.proofs.Logic.{then_ok, and_both}
 use Rattle.al_graded_laws.specs.Rules.{every, expr_obeys, place_obeys, obeys, obeys_at, stmts_obey}
@@ -60,7 +59,7 @@ use Rattle.al_runs_laws.proofs.Making.{GlobalAt}
 use Rattle.al_sizes_laws.specs.Sized.{AcceptedAreSized}
 use Rattle.al_sizes_laws.proofs.TokenNumbers.{TokenSized, reading_sized}
 use Rattle.al_sizes_laws.proofs.TreesOfTokens.{ExprCases, StmtCases}
-use Rattle.al_sizes_laws.proofs.ProgramNumbers.{StartSized, BodySized, few_globals, bodies_sized, starts_sized}
+use Rattle.al_sizes_laws.proofs.ProgramNumbers.{StartSized, few_globals, bodies_sized, starts_sized}
 use Rattle.al_sizes_laws.proofs.SizeBounds.{laid_small, words_small}
 use Rattle.al_sizes_laws.proofs.MakingExpressions.{Kept, FineAnywhere, fine_anywhere}
 use Rattle.al_sizes_laws.proofs.MakingStatements as made

@@ -26,7 +26,7 @@ use Rattle.al_rules.specs.declared.operands.Value.{Value as Used}
 use Rattle.al_rules.specs.declared.operands.Value.TheVariants.{Int, Pointer, Useless}
 use Rattle.al_rules.specs.Names.{Name, AllOf, place_named}
 use Rattle.al_rules.specs.Names as n
-use Rattle.al_rules.specs.Checks.{Checked, ◌>>=◌, ◌>>◌, each, ensure, some_or}
+use Rattle.al_rules.specs.Checks.{◌>>=◌, ◌>>◌, each, ensure, some_or}
 use Rattle.al_rules.specs.Types.{element, struct_name}
 use Rattle.al_rules.specs.Scopes.{Binding, Known, Callee, size, Function, Input, Inputs, Choose, first_some, global_named, field_of, variable_named, callee_named, frees}
 use Rattle.al_rules.specs.Scopes.{Variable as Named, Local as named_local, Global as named_global}

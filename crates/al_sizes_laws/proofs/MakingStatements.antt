@@ -34,7 +34,7 @@ use Rattle.al_rules.specs.Expressions as x
 use Rattle.al_rules.specs.Walks.{Progress, Walk, bind, pure, checks, lift, fails, add_local, begin_loop, end_loop, within}
 use Rattle.al_rules.specs.Statements as w
 use Rattle.al_rules.proofs.StatementNodes as nodes
-use Rattle.al_rules_laws.proofs.SourceInduction.{IfAny, absent, present}
+use Rattle.al_rules_laws.proofs.SourceInduction.{IfAny, present}
 use Rattle.al_rules_laws.proofs.WalkFacts.{Ends, bind_ends, pure_is, check_is, within_ends, never_ends}
 use Rattle.al_runs_laws.proofs.Making.{Gives, gives_value, gives_then, gives_after}
 use Rattle.al_sizes_laws.proofs.TreesOfTokens.{StmtCases}

@@ -1,8 +1,7 @@
 -- The numbers of the items that the grammar derives from tokens whose numbers have 64 bits, and how many globals there
 -- are.
-use Rattle.std.proofs.Common.{◌≡◌, ℕ, zero, suc, ◌+◌, ◌≤◌, ◌<◌, List, [], ◌∷◌, ◌++◌, length, refl, sym, ap, ◌∙◌, subst, arith}
-use Rattle.std.specs.Prelude.{ℤ, pos, neg_ℤ}
-use Rattle.std.specs.List.{AllByRecursion}
+use Rattle.std.proofs.Common.{◌≡◌, ℕ, zero, suc, ◌+◌, ◌≤◌, true, List, [], ◌∷◌, ◌++◌, length, refl, arith}
+use Rattle.std.specs.Prelude.{pos, neg_ℤ}
 use Rattle.al_source.specs.declared.source_tree.CType.{CType}
 use Rattle.al_source.specs.declared.source_tree.CType.TheVariants as t
 use Rattle.al_source.specs.declared.source_tree.Field.{Field}
@@ -10,7 +9,6 @@ use Rattle.al_source.specs.declared.source_tree.Expr.{Expr}
 use Rattle.al_source.specs.declared.source_tree.Stmt.{Stmt}
 use Rattle.al_source.specs.declared.source_tree.StmtKind.{StmtKind}
 use Rattle.al_source.specs.declared.source_tree.Start.{Start}
-use Rattle.al_source.specs.declared.source_tree.Start.TheVariants as start
 use Rattle.al_source.specs.declared.source_tree.GlobalDef.{GlobalDef}
 use Rattle.al_source.specs.declared.source_tree.Func.{Func}
 use Rattle.al_source.specs.declared.source_tree.Item.{Item}

@@ -1,14 +1,13 @@
 -- Where no layout fault is, what `sizeof` and `calloc` take has no more words than an object may have.
-use Rattle.std.proofs.Common.{◌≡◌, ℕ, zero, suc, ◌+◌, ◌*◌, ◌≤◌, Bool, true, false, nat_lt, if◌then◌else◌, cond, List, [], ◌∷◌, ◌++◌, find, Option, Some, None, Result, Ok, Err, refl, sym, ap, ◌∙◌, subst, arith}
-use Rattle.std.specs.List.{AllByRecursion, list_any, sum}
+use Rattle.std.proofs.Common.{◌≡◌, ℕ, zero, suc, ◌≤◌, Bool, true, false, nat_lt, if◌then◌else◌, cond, List, [], ◌∷◌, ◌++◌, find, Option, Some, None, Result, Ok, refl, sym, ap, ◌∙◌, subst, arith}
+use Rattle.std.specs.List.{AllByRecursion, list_any}
 use Rattle.std.specs.Str.{bytes_eq}
 use Rattle.al_source.specs.declared.limits.TheConstants.{OBJECT_WORDS}
 use Rattle.al_source.specs.declared.source_tree.CType.{CType}
-use Rattle.al_source.specs.declared.source_tree.CType.TheVariants as t
 use Rattle.al_source.specs.declared.source_tree.Item.{Item}
 use Rattle.al_source.specs.declared.source_tree.Item.TheVariants as item
 use Rattle.al_rules.specs.declared.faults.LayoutCause.{LayoutCause}
-use Rattle.al_rules.specs.declared.faults.LayoutCause.TheVariants.{SelfHolding}
+use Rattle.al_rules.specs.declared.faults.LayoutCause.TheVariants.{SelfHolding, TooLarge}
 use Rattle.al_rules.specs.declared.layout.Layout.{Layout}
 use Rattle.al_rules.specs.declared.layout.StructLayout.{StructLayout}
 use Rattle.al_rules.specs.Names.{Name}
@@ -17,7 +16,7 @@ use Rattle.al_rules.specs.Layouts.{words_or_none, words_of, words_of_fields, str
 use Rattle.al_rules.proofs.LayoutNodes.{words-Int, words-Void, words-Struct, words-Ptr}
 use Rattle.al_rules.proofs.TypeNodes.{form-Array}
 use Rattle.al_rules_laws.proofs.LayoutFacts.{unless_ok}
-use Rattle.al_rules_laws.proofs.SourceInduction.{TypeCases, type_induct}
+use Rattle.al_rules_laws.proofs.SourceInduction.{type_induct}
 
 abbrev pub StructSmall : StructLayout → Type 0
 StructSmall s = s.words ≤ OBJECT_WORDS
@@ -32,7 +31,7 @@ each_both P (x ∷ xs) ys h k = (h.0, each_both P xs ys h.1 k)
 no_fault : (words line : ℕ) → too_large words line ≡ None → words ≤ OBJECT_WORDS
 no_fault words line e = by (nat_lt OBJECT_WORDS words) refl e
   where
-    by : (b : Bool) → nat_lt OBJECT_WORDS words ≡ b → (if b then Some _ else None) ≡ None → words ≤ OBJECT_WORDS
+    by : (b : Bool) → nat_lt OBJECT_WORDS words ≡ b → ◌≡◌ {A = Option LayoutCause} (if b then Some (TooLarge line) else None) None → words ≤ OBJECT_WORDS
     by true is e = absurd cc
     by false is e = grind arith
 
@@ -58,13 +57,14 @@ laid_small l (i ∷ is) m h e =
 
 -- ---- the words of a type
 
+first_small : (b : Bool) (s : StructLayout) (o : Option StructLayout) → StructSmall s → words_or_none o ≤ OBJECT_WORDS
+    → words_or_none (cond b (Some s) o) ≤ OBJECT_WORDS
+first_small true s o h k = h
+first_small false s o h k = k
+
 found_small : (name : Name) (ss : List StructLayout) → AllByRecursion StructSmall ss → words_or_none (find (λ s. bytes_eq s.name name) ss) ≤ OBJECT_WORDS
 found_small name [] h = omega arith
-found_small name (s ∷ ss) h = by (bytes_eq s.name name)
-  where
-    by : (b : Bool) → words_or_none (cond b (Some s) (find (λ s. bytes_eq s.name name) ss)) ≤ OBJECT_WORDS
-    by true = h.0
-    by false = found_small name ss h.1
+found_small name (s ∷ ss) h = first_small (bytes_eq s.name name) s (find (λ s. bytes_eq s.name name) ss) h.0 (found_small name ss h.1)
 
 no_array : (n : ℕ) (f : Form) → is_sized (array_form n f) ≡ true → ⊥
 no_array zero f e = absurd cc

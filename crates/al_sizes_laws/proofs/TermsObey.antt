@@ -1,9 +1,6 @@
 -- The numbers of a statement have 64 bits as soon as those of the terms in it have.
-use Rattle.std.proofs.Common.{◌≡◌, ℕ, List, [], ◌∷◌, ◌++◌, map, Option, Some, None, Bool, true, false, ◌&&◌, ◌||◌, refl, sym, ap, subst, ◌∙◌}
-use Rattle.std.specs.Prelude.{pos}
+use Rattle.std.proofs.Common.{◌≡◌, ℕ, List, [], ◌∷◌, map, Option, Some, None, Bool, true, ◌&&◌, refl, sym, subst, ◌∙◌}
 use Rattle.std.specs.List.{AllByRecursion}
-use Rattle.al_core.specs.declared.choices.Bound.{Bound}
-use Rattle.al_core.specs.declared.choices.Bound.TheVariants as bound
 use Rattle.al_core.specs.declared.typed_tree.TExpr.{TExpr, out-TExpr, map-TExpr, fold_out-TExpr}
 use Rattle.al_core.specs.declared.typed_tree.TExpr.TheOpen.{TExpr-F}
 use Rattle.al_core.specs.declared.typed_tree.TPlace.{TPlace}

@@ -1,10 +1,9 @@
 -- The numbers of a source's tokens have 64 bits, and there are hardly more tokens than bytes.
-use Rattle.std.proofs.Common.{◌≡◌, ℕ, zero, suc, ◌+◌, ◌-◌, ◌≤◌, ◌<◌, ◌&&◌, ◌==◌, Bool, true, false, not, if◌then◌else◌, List, [], ◌∷◌, ◌++◌, length, take, Option, Some, None, Result, Ok, Err, refl, subst, arith, nat_le, nat_lt}
-use Rattle.std.specs.Prelude.{ℤ, pos, slice_index, option_to_list, codes}
+use Rattle.std.proofs.Common.{◌≡◌, ℕ, zero, suc, ◌-◌, ◌≤◌, ◌&&◌, ◌==◌, Bool, true, false, not, if◌then◌else◌, [], ◌∷◌, length, take, Option, Some, None, Result, Ok, Err, refl, subst, arith, nat_le}
+use Rattle.std.specs.Prelude.{pos, slice_index, option_to_list, codes}
 use Rattle.std.specs.List.{AllByRecursion}
 use Rattle.std.specs.Char.{is_ascii_digit}
 use Rattle.std.specs.Str.{bytes_eq}
-use Rattle.al_source.specs.declared.limits.TheConstants.{SOURCE_BYTES}
 use Rattle.al_source.specs.declared.tokens.Key.{Key}
 use Rattle.al_source.specs.declared.tokens.Mark.{Mark}
 use Rattle.al_source.specs.declared.tokens.Token.{Token}
@@ -19,7 +18,7 @@ use Rattle.al_grammar.specs.Characters.{Bytes, is_letter, is_blank}
 use Rattle.al_grammar.specs.Phrases.{Tokens}
 use Rattle.al_grammar.specs.Words.{key_of, mark_at}
 use Rattle.al_grammar.specs.Lexemes.{Lexeme, named, name, number_value, number_len, has_digits, spoils_number, is_number, number_at, number_token, number, quoted, text, marked, inside_len, lexeme, begins_line_comment, begins_block_comment, block_comment_len, name_len}
-use Rattle.al_grammar.specs.Spelling.{end_at, line_end_at, closed, directive, pragma, token_at, matter_at, next, spot_after, first_spot}
+use Rattle.al_grammar.specs.Spelling.{end_at, line_end_at, closed, token_at, matter_at, next, spot_after, first_spot}
 use Rattle.al_grammar.specs.Reading.{with_front, reading_from, reading}
 use Rattle.al_rules_laws.proofs.Logic.{and_parts}
 use Rattle.al_graded_laws.specs.InRange.{has_64_bits}

@@ -1,7 +1,7 @@
 -- Induction over the trees that the grammar derives from tokens whose numbers have 64 bits: each number in such a tree
 -- has 64 bits.
-use Rattle.std.proofs.Common.{◌≡◌, ℕ, zero, suc, ◌+◌, ◌≤◌, ◌<◌, List, [], ◌∷◌, ◌++◌, length, Option, Some, None, refl, subst, arith}
-use Rattle.std.specs.Prelude.{ℤ, pos, neg_ℤ}
+use Rattle.std.proofs.Common.{◌≡◌, ℕ, true, List, [], ◌∷◌, ◌++◌, Option, Some, None, refl, subst}
+use Rattle.std.specs.Prelude.{ℤ, pos}
 use Rattle.std.specs.List.{AllByRecursion}
 use Rattle.al_source.specs.declared.tokens.TokenKind.{TokenKind}
 use Rattle.al_source.specs.declared.tokens.Key.TheVariants as key
