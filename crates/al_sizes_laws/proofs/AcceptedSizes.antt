@@ -250,9 +250,10 @@ module _ (ts : Tokens) (sized : AllByRecursion TokenSized ts) (short : length ts
   typed_sized : (typed : Typed) → typed_with layout p ≡ Ok typed → IsSized typed
   unfolding typed_with
   typed_sized typed e =
-      let a = then_ok (items_checked p.items [] p.items)
-      (λ _. and_then (main_of (funcs_in p.items)) (λ main. and_then (funcs_typed at 0 (funcs_in p.items) []) (λ fs. Ok (tree_with layout p main fs)))) typed e in
-      let b = then_ok (main_of (funcs_in p.items)) (λ main. and_then (funcs_typed at 0 (funcs_in p.items) []) (λ fs. Ok (tree_with layout p main fs))) typed a.2 in
+      let a = then_ok (items_checked p.items [] p.items) (λ _. and_then (main_of (funcs_in p.items))
+      (λ main. and_then (funcs_typed at 0 (funcs_in p.items) []) (λ fs. Ok (tree_with layout p main fs)))) typed e in
+      let b = then_ok (main_of (funcs_in p.items))
+      (λ main. and_then (funcs_typed at 0 (funcs_in p.items) []) (λ fs. Ok (tree_with layout p main fs))) typed a.2 in
       let c = then_ok (funcs_typed at 0 (funcs_in p.items) []) (λ fs. Ok (tree_with layout p b.0 fs)) typed b.2 in
       subst IsSized (same (tree_with layout p b.0 c.0) c.2) (record {
         code = bodies_obey c.0.0 (funcs_sized at few small 0 (funcs_in p.items) [] c.0 funcs_fine c.1);

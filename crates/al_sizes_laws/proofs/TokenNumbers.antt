@@ -92,21 +92,22 @@ token_sized : (s : Spot) (place : Place) (r : Result Lexeme LexFault) → Lexeme
 token_sized s place (Ok t) h = h
 token_sized s place (Err f) h = tt
 
-directive_by : (line start : ℕ) (z : Bytes) (a b : Bool) (r s : Next) → AnySized r.token → AnySized s.token → (f : LexFault)
+directive_by : (a b : Bool) (r s : Next) → AnySized r.token → AnySized s.token → (f : LexFault)
     → NextSized (if a then Ok r else (if b then Ok s else Err f))
-directive_by line start z true b r s h k f = h
-directive_by line start z false true r s h k f = k
-directive_by line start z false false r s h k f = tt
+directive_by true b r s h k f = h
+directive_by false true r s h k f = k
+directive_by false false r s h k f = tt
 
 pragma_by : (b : Bool) (r s : Next) → AnySized r.token → AnySized s.token → NextSized (if b then Ok r else Ok s)
 pragma_by true r s h k = h
 pragma_by false r s h k = k
 
 matter_sized : (place : Place) (s : Spot) (z : Bytes) → NextSized (matter_at place s z)
-matter_sized Fresh s z = choose (slice_index z 0 == 35) _ (token_at s Inside (lexeme s.line z)) tt (token_sized s Inside (lexeme s.line z) (lexeme_sized s.line z))
+matter_sized Fresh s z =
+    choose (slice_index z 0 == 35) _ (token_at s Inside (lexeme s.line z)) tt (token_sized s Inside (lexeme s.line z) (lexeme_sized s.line z))
 matter_sized Inside s z = token_sized s Inside (lexeme s.line z) (lexeme_sized s.line z)
 matter_sized (Hash start line) s z =
-    directive_by line start z (bytes_eq (take (name_len z) z) (codes "include")) (bytes_eq (take (name_len z) z) (codes "pragma")) _ _ tt tt _
+    directive_by (bytes_eq (take (name_len z) z) (codes "include")) (bytes_eq (take (name_len z) z) (codes "pragma")) _ _ tt tt _
 matter_sized (Pragma start line) s z = pragma_by (bytes_eq (take (name_len z) z) (codes "alter")) _ _ tt tt
 matter_sized Skipped s z = tt
 matter_sized Note s z = token_sized s Note (lexeme s.line z) (lexeme_sized s.line z)
