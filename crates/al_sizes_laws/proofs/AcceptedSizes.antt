@@ -1,0 +1,324 @@
+-- The numbers in the tree of an accepted source have their sizes.
+use Rattle.std.proofs.Common.{◌≡◌, ℕ, zero, suc, ◌+◌, ◌*◌, ◌^◌, ◌≤◌, ◌<◌, Bool, true, false, nat_lt, if◌then◌else◌, List, [], ◌∷◌, map, length, Some, Result, Ok, Err, slice_get, refl, sym, ap, ◌∙◌, subst, arith}
+use Rattle.std.specs.Prelude.{pos}
+use Rattle.std.specs.List.{AllByRecursion}
+use Rattle.std.proofs.lemmas.Option.{slice_get_within}
+use Rattle.al_source.specs.Steps.{and_then}
+use Rattle.al_source.specs.declared.limits.TheConstants.{SOURCE_BYTES, SOURCE_NODES, OBJECT_WORDS}
+use Rattle.al_source.specs.declared.source_tree.CType.{CType}
+use Rattle.al_source.specs.declared.source_tree.Expr.{Expr}
+use Rattle.al_source.specs.declared.source_tree.Stmt.{Stmt}
+use Rattle.al_source.specs.declared.source_tree.StmtKind.{StmtKind}
+use Rattle.al_source.specs.declared.source_tree.GlobalDef.{GlobalDef}
+use Rattle.al_source.specs.declared.source_tree.Func.{Func}
+use Rattle.al_source.specs.declared.source_tree.Item.{Item}
+use Rattle.al_source.specs.declared.source_tree.Program.{Program}
+use Rattle.al_ast.specs.Nodes.{capped, program_nodes}
+use Rattle.al_grammar.specs.Characters.{Bytes}
+use Rattle.al_grammar.specs.Phrases.{Tokens}
+use Rattle.al_grammar.specs.Steps.{Read}
+use Rattle.al_grammar.specs.Programs.{AllItems}
+use Rattle.al_grammar.specs.ProgramParser as parser
+use Rattle.al_grammar.specs.Reading.{reading}
+use Rattle.al_grammar.proofs.ProgramFacts.{sound_program}
+use Rattle.al_core.specs.declared.choices.LoopInfo.{LoopInfo}
+use Rattle.al_core.specs.declared.typed_tree.TExpr.{TExpr, map-TExpr, fold-TExpr, fold-roll-TExpr}
+use Rattle.al_core.specs.declared.typed_tree.TPlace.{TPlace, map-TPlace, fold-TPlace, fold-roll-TPlace}
+use Rattle.al_core.specs.declared.typed_tree.TExpr.TheViews.{roll-TExpr, roll-TPlace}
+use Rattle.al_core.specs.declared.typed_tree.TExpr.TheOpen.{TExpr-F, TPlace-F}
+use Rattle.al_core.specs.declared.typed_tree.TExpr.TheVariants as te
+use Rattle.al_core.specs.declared.typed_tree.TPlace.TheVariants as tp
+use Rattle.al_core.specs.declared.typed_tree.TFunc.{TFunc}
+use Rattle.al_core.specs.declared.typed_tree.TGlobal.{TGlobal}
+use Rattle.al_core.specs.declared.typed_tree.TNote.{TNote}
+use Rattle.al_core.specs.declared.typed_tree.TStmt.{TStmt}
+use Rattle.al_core.specs.declared.typed_tree.Typed.{Typed}
+use Rattle.al_core.specs.Accepted.{terms_of}
+use Rattle.al_core.specs.Meaning.{body_of}
+use Rattle.al_rules.specs.declared.faults.TypeCause.{TypeCause}
+use Rattle.al_rules.specs.declared.faults.Refusal.{Refusal}
+use Rattle.al_rules.specs.declared.faults.Refusal.TheVariants.{Lexical, Layout, Types, Notes, TooManyNodes}
+use Rattle.al_rules.specs.declared.faults.LexicalCause.TheVariants.{TooLong}
+use Rattle.al_rules.specs.declared.layout.Layout as the_layout
+use Rattle.al_rules.specs.Names.{AllOf}
+use Rattle.al_rules.specs.Names as n
+use Rattle.al_rules.specs.Types.{form, is_sized}
+use Rattle.al_rules.specs.Scopes.{Known, size, globals_in, funcs_in, known_of}
+use Rattle.al_rules.specs.Layouts.{no_layout, layout_of}
+use Rattle.al_rules.specs.Notes.{notes_of}
+use Rattle.al_rules.specs.Walks.{Progress}
+use Rattle.al_rules.specs.Statements as w
+use Rattle.al_rules.specs.Programs.{items_checked, main_of, begun, func_typed, funcs_typed, globals_typed, typed_with}
+use Rattle.al_rules.specs.Refusals.{because, lexical_cause, tokens_of, derived, program_of, tree_of, small_enough, annotated_well, accepted}
+use Rattle.al_rules_laws.proofs.Logic.{then_ok, and_both}
+use Rattle.al_graded_laws.specs.Rules.{every, expr_obeys, place_obeys, obeys, obeys_at, stmts_obey}
+use Rattle.al_graded_laws.specs.InRange.{has_64_bits, in_range}
+use Rattle.al_graded_laws.proofs.Values.{fits_64}
+use Rattle.al_runs_laws.specs.Accepted.{IsSized}
+use Rattle.al_runs_laws.proofs.Making.{GlobalAt}
+use Rattle.al_sizes_laws.specs.Sized.{AcceptedAreSized}
+use Rattle.al_sizes_laws.proofs.TokenNumbers.{TokenSized, reading_sized}
+use Rattle.al_sizes_laws.proofs.TreesOfTokens.{ExprCases, StmtCases}
+use Rattle.al_sizes_laws.proofs.ProgramNumbers.{StartSized, few_globals, bodies_sized, starts_sized}
+use Rattle.al_sizes_laws.proofs.SizeBounds.{laid_small, words_small}
+use Rattle.al_sizes_laws.proofs.MakingExpressions.{Kept, FineAnywhere, fine_anywhere}
+use Rattle.al_sizes_laws.proofs.MakingStatements as made
+use Rattle.al_sizes_laws.proofs.TermsObey.{ExprObeys, PlaceObeys, stmts_of_terms}
+
+-- ---- what typing makes
+
+below : (k : ℕ) → k < 2 ^ 32 → nat_lt k (2 ^ 32) ≡ true
+below k h = grind arith
+
+words_fit : (k : ℕ) → k ≤ OBJECT_WORDS → has_64_bits (pos (8 * k)) ≡ true
+words_fit k h = grind arith
+
+module _ (known : Known) (few : length known.globals < 2 ^ 32) (small : (a : CType) → is_sized (form a) ≡ true → size known a ≤ OBJECT_WORDS) where
+  abbrev P : TExpr → Type 0
+  P v = obeys in_range v ≡ true
+
+  -- a place obeys, and its address may be taken
+  abbrev R : TPlace → Type 0
+  R q = ((obeys_at in_range q).0 ≡ true) × ((obeys_at in_range q).1 ≡ true)
+
+  abbrev Q : CType → TPlace → Type 0
+  Q a q = R q
+
+  of_expr : (x : TExpr-F TExpr TPlace) (d : TExpr) → roll-TExpr x ≡ d
+      → obeys in_range d ≡ expr_obeys in_range (map-TExpr TExpr TPlace Bool (Bool × Bool) (obeys in_range) (obeys_at in_range) x)
+  unfolding obeys obeys_at
+  of_expr x d is =
+      ap (λ d. fold-TExpr Bool (Bool × Bool) (expr_obeys in_range) (place_obeys in_range) d) (sym is)
+      ∙ fold-roll-TExpr Bool (Bool × Bool) (expr_obeys in_range) (place_obeys in_range) x
+
+  of_place : (x : TPlace-F TExpr TPlace) (d : TPlace) → roll-TPlace x ≡ d
+      → obeys_at in_range d ≡ place_obeys in_range (map-TPlace TExpr TPlace Bool (Bool × Bool) (obeys in_range) (obeys_at in_range) x)
+  unfolding obeys obeys_at
+  of_place x d is =
+      ap (λ d. fold-TPlace Bool (Bool × Bool) (expr_obeys in_range) (place_obeys in_range) d) (sym is)
+      ∙ fold-roll-TPlace Bool (Bool × Bool) (expr_obeys in_range) (place_obeys in_range) x
+
+  as_place : (q : TPlace) (b : Bool × Bool) → obeys_at in_range q ≡ b → b.0 ≡ true → b.1 ≡ true → R q
+  as_place q b is h i = (ap (λ (z : Bool × Bool). z.0) is ∙ h, ap (λ (z : Bool × Bool). z.1) is ∙ i)
+
+  every_true : (vs : List TExpr) → AllOf P vs → every (map (obeys in_range) vs) ≡ true
+  every_true [] n.none = refl
+  every_true (v ∷ vs) (n.more h hs) = and_both h (every_true vs hs)
+
+  global_fits : (k : ℕ) (a : CType) → GlobalAt known k a → nat_lt k (2 ^ 32) ≡ true
+  global_fits k a g = let lt = slice_get_within known.globals k g.global g.there in below k (omega arith)
+
+  kept : Kept known P Q R
+  kept = record {
+    number = λ m h. of_expr (TExpr-F.Number m) _ (te.rolls-Number m) ∙ h;
+    sizes = λ a h. of_expr (TExpr-F.Number (pos (8 * size known a))) _ (te.rolls-Number (pos (8 * size known a))) ∙ words_fit (size known a) (small a h);
+    local = λ k. of_expr (TExpr-F.Local k) _ (te.rolls-Local k);
+    load = λ a k q h. of_expr (TExpr-F.Load k q) _ (te.rolls-Load k q) ∙ h.0;
+    addr = λ a q h. of_expr (TExpr-F.Addr q) _ (te.rolls-Addr q) ∙ and_both h.0 h.1;
+    unary = λ op v h. of_expr (TExpr-F.Unary op v) _ (te.rolls-Unary op v) ∙ h;
+    binary = λ op v w h i. of_expr (TExpr-F.Binary op v w) _ (te.rolls-Binary op v w) ∙ and_both h i;
+    same = λ equal v w h i. of_expr (TExpr-F.Same equal v w) _ (te.rolls-Same equal v w) ∙ and_both h i;
+    both = λ v w h i. of_expr (TExpr-F.And v w) _ (te.rolls-And v w) ∙ and_both h i;
+    either = λ v w h i. of_expr (TExpr-F.Or v w) _ (te.rolls-Or v w) ∙ and_both h i;
+    called = λ f vs hs. of_expr (TExpr-F.Call f vs) _ (te.rolls-Call f vs) ∙ every_true vs hs;
+    input = λ v h. of_expr (TExpr-F.Input v) _ (te.rolls-Input v) ∙ h;
+    inputs = of_expr TExpr-F.Inputs _ te.rolls-Inputs;
+    choose = λ op v w h i. of_expr (TExpr-F.Choose op v w) _ (te.rolls-Choose op v w) ∙ and_both h i;
+    calloc = λ v words h. of_expr (TExpr-F.Calloc v words) _ (te.rolls-Calloc v words) ∙ h;
+    free = λ v h. of_expr (TExpr-F.Free v) _ (te.rolls-Free v) ∙ h;
+    global = λ k a g. as_place (tp.Global k) _ (of_place (TPlace-F.Global k) _ (tp.rolls-Global k)) (global_fits k a g) (global_fits k a g);
+    at = λ a v h. as_place (tp.At v) _ (of_place (TPlace-F.At v) _ (tp.rolls-At v)) h refl;
+    plus = λ a q m r. as_place (tp.Plus q m) _ (of_place (TPlace-F.Plus q m) _ (tp.rolls-Plus q m)) r.0 r.1;
+    elem = λ a q v words r h.
+        as_place (tp.Elem q v words) _ (of_place (TPlace-F.Elem q v words) _ (tp.rolls-Elem q v words)) (and_both r.0 h) r.1;
+    of_struct = λ a q name is h. h;
+    of_array = λ a b q is h. h;
+    of_pointer = λ v h. as_place (tp.At v) _ (of_place (TPlace-F.At v) _ (tp.rolls-At v)) h refl;
+  }
+
+  -- ---- functions
+
+  abbrev FineExpr : Expr → Type 0
+  FineExpr = FineAnywhere known P Q R kept
+
+  abbrev FineStmt : ℕ → CType → Stmt → Type 0
+  FineStmt m a = made.Fine known P Q R kept m a
+
+  abbrev FineKind : ℕ → CType → StmtKind → Type 0
+  FineKind m a = made.KindFine known P Q R kept m a
+
+  fine_exprs : ExprCases FineExpr
+  fine_exprs = fine_anywhere known P Q R kept
+
+  fine_stmts : (m : ℕ) (a : CType) → StmtCases FineExpr (FineStmt m a) (FineKind m a)
+  fine_stmts m a = made.fine_cases known P Q R kept m a
+
+  abbrev FineFunc : Func → Type 0
+  FineFunc f = (m : ℕ) (a : CType) → AllOf (FineStmt m a) f.body
+
+  exprs_of : (vs : List TExpr) → AllOf P vs → AllByRecursion ExprObeys vs
+  exprs_of [] n.none = tt
+  exprs_of (v ∷ vs) (n.more h hs) = (h, exprs_of vs hs)
+
+  places_of : (qs : List TPlace) → AllOf (λ q. (a : CType) × Q a q) qs → AllByRecursion PlaceObeys qs
+  places_of [] n.none = tt
+  places_of (q ∷ qs) (n.more h hs) = (h.1.0, places_of qs hs)
+
+  abbrev FuncSized : TFunc → Type 0
+  FuncSized t = stmts_obey in_range t.body ≡ true
+
+  func_sized : (m : ℕ) (f : Func) (loops : List TNote) (t : TFunc × List TNote) → FineFunc f → func_typed known m f loops ≡ Ok t → FuncSized t.0
+  func_sized m f loops t fine e =
+      let q = then_ok (w.statements known m f.result false f.body (begun f.params loops))
+      (λ r. Ok (record { params = length f.params; locals = r.1.locals; body = r.0; line = f.line }, r.1.loops)) t e in
+      let h = made.statements_made known P Q R kept m f.result f.body false (fine m f.result) (begun f.params loops) q.0 q.1 in
+      subst (λ (t : TFunc × List TNote). FuncSized t.0) (same q.0 q.2)
+      (stmts_of_terms q.0.0 (record { exprs = exprs_of (terms_of q.0.0).exprs h.exprs; places = places_of (terms_of q.0.0).places h.places }))
+    where
+      same : (r : List TStmt × Progress)
+          → ◌≡◌ {A = Result (TFunc
+          × List TNote) TypeCause} (Ok (record { params = length f.params; locals = r.1.locals; body = r.0; line = f.line }, r.1.loops)) (Ok t)
+          → ◌≡◌ {A = TFunc × List TNote} (record { params = length f.params; locals = r.1.locals; body = r.0; line = f.line }, r.1.loops) t
+      same r e = cc
+
+  funcs_sized : (m : ℕ) (fs : List Func) (loops : List TNote) (z : List TFunc × List TNote) → AllOf FineFunc fs → funcs_typed known m fs loops ≡ Ok z
+      → AllOf FuncSized z.0
+  funcs_sized m [] loops z fine e = subst (λ (z : List TFunc × List TNote). AllOf FuncSized z.0) (same e) n.none
+    where
+      same : ◌≡◌ {A = Result (List TFunc × List TNote) TypeCause} (Ok ([], loops)) (Ok z) → ◌≡◌ {A = List TFunc × List TNote} ([], loops) z
+      same e = cc
+  funcs_sized m (f ∷ fs) loops z (n.more fine rest) e =
+      let a = then_ok (func_typed known m f loops) (λ t. and_then (funcs_typed known (m + 1) fs t.1) (λ ts. Ok (t.0 ∷ ts.0, ts.1))) z e in
+      let b = then_ok (funcs_typed known (m + 1) fs a.0.1) (λ ts. Ok (a.0.0 ∷ ts.0, ts.1)) z a.2 in
+      subst (λ (z : List TFunc × List TNote). AllOf FuncSized z.0) (same a.0 b.0 b.2)
+      (n.more (func_sized m f loops a.0 fine a.1) (funcs_sized (m + 1) fs a.0.1 b.0 rest b.1))
+    where
+      same : (a : TFunc × List TNote) (b : List TFunc × List TNote) → ◌≡◌ {A = Result (List TFunc × List TNote) TypeCause} (Ok (a.0 ∷ b.0, b.1)) (Ok z)
+          → ◌≡◌ {A = List TFunc × List TNote} (a.0 ∷ b.0, b.1) z
+      same a b e = cc
+
+-- ---- the whole tree
+
+at_index : {A : Type 0} (P : A → Type 0) (xs : List A) (k : ℕ) (x : A) → AllOf P xs → slice_get xs k ≡ Some x → P x
+at_index P [] k x h e = absurd cc
+at_index P (y ∷ ys) zero x (n.more h hs) e = subst P (same e) h
+  where
+    same : Some y ≡ Some x → y ≡ x
+    same e = cc
+at_index P (y ∷ ys) (suc k) x (n.more h hs) e = at_index P ys k x hs e
+
+bodies_obey : (fs : List TFunc) → AllOf (λ t. stmts_obey in_range t.body ≡ true) fs → (f : ℕ) → stmts_obey in_range (body_of (slice_get fs f)) ≡ true
+bodies_obey [] h f = refl
+bodies_obey (t ∷ ts) (n.more h hs) zero = h
+bodies_obey (t ∷ ts) (n.more h hs) (suc f) = bodies_obey ts hs f
+
+global_starts : (known : Known) (gs : List GlobalDef) → AllOf (λ (x : GlobalDef). StartSized x.start) gs
+    → AllOf (λ (x : TGlobal). has_64_bits x.start ≡ true) (globals_typed known gs)
+global_starts known [] n.none = n.none
+global_starts known (g ∷ gs) (n.more h hs) = n.more h (global_starts known gs hs)
+
+abbrev tree_with : the_layout.Layout → Program → ℕ → List TFunc × List TNote → Typed
+tree_with layout p main fs = record {
+  globals = globals_typed (known_of layout p.items) (globals_in p.items);
+  funcs = fs.0;
+  main = main;
+  loops = fs.1;
+  nodes = capped (program_nodes p);
+}
+
+-- a program that the grammar derives from tokens whose numbers have 64 bits
+module _ (ts : Tokens) (sized : AllByRecursion TokenSized ts) (short : length ts ≤ 2 ^ 21) (p : Program) (derives : AllItems ts p.items)
+    (layout : the_layout.Layout) (laid : layout_of p ≡ Ok layout) where
+  few : length (globals_in p.items) < 2 ^ 32
+  few = let le = few_globals derives in omega arith
+
+  small : (a : CType) → is_sized (form a) ≡ true → size (known_of layout p.items) a ≤ OBJECT_WORDS
+  unfolding layout_of
+  small = words_small layout.structs (laid_small no_layout p.items layout tt laid)
+
+  abbrev at : Known
+  at = known_of layout p.items
+
+  funcs_fine : AllOf (FineFunc at few small) (funcs_in p.items)
+  funcs_fine =
+      bodies_sized (FineExpr at few small) (fine_exprs at few small) (FineStmt at few small) (FineKind at few small) (fine_stmts at few small) derives sized
+
+  starts_fine : AllOf (λ (x : GlobalDef). StartSized x.start) (globals_in p.items)
+  starts_fine =
+      starts_sized (FineExpr at few small) (fine_exprs at few small) (FineStmt at few small) (FineKind at few small) (fine_stmts at few small) derives sized
+
+  typed_sized : (typed : Typed) → typed_with layout p ≡ Ok typed → IsSized typed
+  unfolding typed_with
+  typed_sized typed e =
+      let a = then_ok (items_checked p.items [] p.items) (λ _. and_then (main_of (funcs_in p.items))
+      (λ main. and_then (funcs_typed at 0 (funcs_in p.items) []) (λ fs. Ok (tree_with layout p main fs)))) typed e in
+      let b = then_ok (main_of (funcs_in p.items))
+      (λ main. and_then (funcs_typed at 0 (funcs_in p.items) []) (λ fs. Ok (tree_with layout p main fs))) typed a.2 in
+      let c = then_ok (funcs_typed at 0 (funcs_in p.items) []) (λ fs. Ok (tree_with layout p b.0 fs)) typed b.2 in
+      subst IsSized (same (tree_with layout p b.0 c.0) c.2) (record {
+        code = bodies_obey c.0.0 (funcs_sized at few small 0 (funcs_in p.items) [] c.0 funcs_fine c.1);
+        starts = λ k g is.
+            fits_64 g.start (at_index (λ (x : TGlobal). has_64_bits x.start ≡ true) (globals_typed at (globals_in p.items)) k g
+            (global_starts at (globals_in p.items) starts_fine) is);
+      })
+    where
+      same : (u : Typed) → ◌≡◌ {A = Result Typed TypeCause} (Ok u) (Ok typed) → u ≡ typed
+      same u e = cc
+
+-- ---- accepted sources
+
+because_ok : {A F : Type 0} (cause : F → Refusal) (r : Result A F) (a : A) → because cause r ≡ Ok a → r ≡ Ok a
+because_ok cause (Ok b) a e = ap Ok (same e)
+  where
+    same : ◌≡◌ {A = Result _ Refusal} (Ok b) (Ok a) → b ≡ a
+    same e = cc
+because_ok cause (Err f) a e = absurd cc
+
+-- the tokens of a source that is short enough
+record ReadTokens (source : Bytes) (ts : Tokens) : Type 0 where
+  read : reading source ≡ Ok ts
+  short : length source ≤ SOURCE_BYTES
+
+tokens_read : (source : Bytes) (ts : Tokens) → tokens_of source ≡ Ok ts → ReadTokens source ts
+tokens_read source ts e = by (nat_lt SOURCE_BYTES (length source)) refl e
+  where
+    by : (b : Bool) → nat_lt SOURCE_BYTES (length source) ≡ b
+        → (if b then Err (Lexical TooLong) else because (λ fault. Lexical (lexical_cause fault)) (reading source)) ≡ Ok ts → ReadTokens source ts
+    by true is e = absurd cc
+    by false is e = record { read = because_ok (λ fault. Lexical (lexical_cause fault)) (reading source) ts e; short = grind arith }
+
+items_derived : (ts : Tokens) (p : Program) → program_of ts ≡ Ok p → AllItems ts p.items
+items_derived ts p e = by (parser.all_items ts) refl e
+  where
+    by : (r : Read (List Item)) → parser.all_items ts ≡ r → derived r ≡ Ok p → AllItems ts p.items
+    by (Ok q) is e = subst (AllItems ts) (same q e) (sound_program ts q is)
+      where
+        same : (q : List Item × Tokens) → ◌≡◌ {A = Result Program Refusal} (Ok (record { items = q.0 })) (Ok p) → q.0 ≡ p.items
+        same q e = cc
+    by (Err rest) is e = absurd cc
+
+small_is : (b : Bool) (t u : Typed × List LoopInfo) → (if b then Err TooManyNodes else Ok t) ≡ Ok u → t ≡ u
+small_is true t u e = absurd cc
+small_is false t u e = cc
+
+noted_is : (typed : Typed) (t : Typed × List LoopInfo) → annotated_well typed ≡ Ok t → typed ≡ t.0
+noted_is typed t e =
+    let q = then_ok (because Notes (notes_of typed)) (λ infos. small_enough (typed, infos)) t e in
+    ap (λ (t : Typed × List LoopInfo). t.0) (small_is (nat_lt SOURCE_NODES typed.nodes) (typed, q.0) t q.2)
+
+tree_sized : (source : Bytes) (ts : Tokens) (p : Program) (typed : Typed) → ReadTokens source ts → AllItems ts p.items → tree_of p ≡ Ok typed → IsSized typed
+tree_sized source ts p typed r d e =
+    let read = reading_sized source ts r.read in
+    let short : length ts ≤ 2 ^ 21 = let a = read.1 in let b = r.short in omega arith in
+    let l = then_ok (because Layout (layout_of p)) (λ layout. because Types (typed_with layout p)) typed e in
+    typed_sized ts read.0 short p d l.0 (because_ok Layout (layout_of p) l.0 l.1) typed (because_ok Types (typed_with l.0 p) typed l.2)
+
+pub accepted_are_sized : AcceptedAreSized
+unfolding accepted
+accepted_are_sized source typed infos e =
+    let tokens = then_ok (tokens_of source)
+    (λ tokens. and_then (program_of tokens) (λ p. and_then (tree_of p) annotated_well)) (typed, infos) e in
+    let program = then_ok (program_of tokens.0) (λ p. and_then (tree_of p) annotated_well) (typed, infos) tokens.2 in
+    let tree = then_ok (tree_of program.0) annotated_well (typed, infos) program.2 in
+    subst IsSized (noted_is tree.0 (typed, infos) tree.2)
+    (tree_sized source tokens.0 program.0 tree.0 (tokens_read source tokens.0 tokens.1) (items_derived tokens.0 program.0 program.1) tree.1)

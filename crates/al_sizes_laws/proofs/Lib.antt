@@ -1,0 +1,8 @@
+mod TokenNumbers
+mod TreesOfTokens
+mod ProgramNumbers
+mod SizeBounds
+mod MakingExpressions
+mod MakingStatements
+mod TermsObey
+mod AcceptedSizes
