@@ -28,10 +28,10 @@ module _ (words : List (List ℕ)) (c : Call) (outcome : Outcome (plan words) c)
         headline = λ job program inputs is quiet fed. headline words f g o p e q s outcome job program inputs is quiet.files quiet.out quiet.err fed;
         table = λ job k program inputs is quiet fed there.
             table words f g o p e q s outcome job k program inputs is quiet.files quiet.out quiet.err fed there;
-        serial = λ job program inputs is sized look quiet fed.
-            serial words f g o p e q s outcome job program inputs is sized look quiet.files quiet.out quiet.err fed;
-        in_order = λ job program inputs is sized look ordered quiet fed.
-            as_plain words f g o p e q s outcome job program inputs is sized look ordered quiet.files quiet.out quiet.err fed;
+        serial = λ job program inputs is look quiet fed.
+            serial words f g o p e q s outcome job program inputs is look quiet.files quiet.out quiet.err fed;
+        in_order = λ job program inputs is look ordered quiet fed.
+            as_plain words f g o p e q s outcome job program inputs is look ordered quiet.files quiet.out quiet.err fed;
         rounds = λ job program input is. lockstep_fits program input job.knobs;
         shows = λ quiet fed. is_as_played w f g o p e q s outcome quiet.files quiet.out quiet.err fed;
         bad_token = λ job source bad is h quiet fed. bad_token words f g o p e q s outcome job source bad is h quiet.files quiet.out quiet.err fed;

@@ -4,8 +4,9 @@ use Rattle.al_core.specs.Limits.{AreInRange}
 use Rattle.al_core.specs.Report.{OutputAndEnding}
 use Rattle.al_core.specs.Run.{sizes_of}
 use Rattle.al_rules.specs.Refusals.{Noted}
-use Rattle.al_runs_laws.specs.Accepted.{IsSized, LookAtReads, AreInOrder}
+use Rattle.al_runs_laws.specs.Accepted.{LookAtReads, AreInOrder}
 use Rattle.al_runs_laws.proofs.AcceptedRuns.{accepted_are_serial, accepted_in_order_are_plain}
+use Rattle.al_sizes_laws.proofs.AcceptedSizes.{accepted_are_sized}
 use Rattle.al_io.specs.Contents.{Contents}
 use Rattle.al_io.specs.Counts.{DidNotRise}
 use Rattle.al_answers.specs.declared.answers.Answer.{Answer}
@@ -37,7 +38,7 @@ bytes_by : List ℕ → OutputAndEnding → Answer
 bytes_by name s = ended name s.ending s.output
 
 module _ (words : List (List ℕ)) (files : Contents) (job : Job) (program : Noted) (inputs : List (List ℤ)) (is : command words ≡ Ok (Run job))
-    (sized : IsSized program.0) (look : LookAtReads program.1) (h : Holds words files job program inputs) where
+    (look : LookAtReads program.1) (h : Holds words files job program inputs) where
   abbrev name : List ℕ
   name = source_name words job
 
@@ -49,7 +50,8 @@ module _ (words : List (List ℕ)) (files : Contents) (job : Job) (program : Not
   lockstep_is_serial =
       let range = knobs_of words job is in
       ap (bytes_by name)
-      (accepted_are_serial h.source program.0 program.1 job.knobs.line input (sizes_of job.knobs) h.is_accepted sized
+      (accepted_are_serial h.source program.0 program.1 job.knobs.line input (sizes_of job.knobs) h.is_accepted
+      (accepted_are_sized h.source program.0 program.1 h.is_accepted)
       (first_is_input files (input_names words job) inputs h.have_inputs) (omega (arith, range.chunk.0)) look)
 
   lockstep_is_plain : AreInOrder program.1
@@ -58,17 +60,18 @@ module _ (words : List (List ℕ)) (files : Contents) (job : Job) (program : Not
   lockstep_is_plain ordered =
       let range = knobs_of words job is in
       ap (bytes_by name)
-      (accepted_in_order_are_plain h.source program.0 program.1 job.knobs.line input (sizes_of job.knobs) h.is_accepted sized
+      (accepted_in_order_are_plain h.source program.0 program.1 job.knobs.line input (sizes_of job.knobs) h.is_accepted
+      (accepted_are_sized h.source program.0 program.1 h.is_accepted)
       (first_is_input files (input_names words job) inputs h.have_inputs) (omega (arith, range.chunk.0)) (omega (arith, range.lanes.0)) look ordered)
 
 module _ (words : List (List ℕ)) (f g : FilesSeen) (o p e q : SinkSeen) (s : ℕ) (outcome : Outcome (plan words) (at f g o p e q s)) (job : Job)
-    (program : Noted) (inputs : List (List ℤ)) (is : command words ≡ Ok (Run job)) (sized : IsSized program.0) (look : LookAtReads program.1) where
+    (program : Noted) (inputs : List (List ℤ)) (is : command words ≡ Ok (Run job)) (look : LookAtReads program.1) where
   pub serial : DidNotRise f.faults g.faults → DidNotRise o.faults p.faults → DidNotRise e.faults q.faults → s ≢ 6
       → IfSome f.contents (λ files. Holds words files job program inputs
       → Writes (serial_bytes (source_name words job) program (first_input inputs) job.knobs) (at f g o p e q s))
   serial still still_out still_err not_six =
       if_so f.contents _ _
-      (λ files w h. subst (λ a. Writes a (at f g o p e q s)) (lockstep_is_serial words files job program inputs is sized look h) (w h))
+      (λ files w h. subst (λ a. Writes a (at f g o p e q s)) (lockstep_is_serial words files job program inputs is look h) (w h))
       (headline words f g o p e q s outcome job program inputs is still still_out still_err not_six)
 
   pub in_order : AreInOrder program.1 → DidNotRise f.faults g.faults → DidNotRise o.faults p.faults → DidNotRise e.faults q.faults → s ≢ 6
@@ -76,5 +79,5 @@ module _ (words : List (List ℕ)) (f g : FilesSeen) (o p e q : SinkSeen) (s : �
       → Writes (answer_of (Plain job) (source_name words job) program inputs) (at f g o p e q s))
   in_order ordered still still_out still_err not_six =
       if_so f.contents _ _
-      (λ files w h. subst (λ a. Writes a (at f g o p e q s)) (lockstep_is_plain words files job program inputs is sized look h ordered) (w h))
+      (λ files w h. subst (λ a. Writes a (at f g o p e q s)) (lockstep_is_plain words files job program inputs is look h ordered) (w h))
       (headline words f g o p e q s outcome job program inputs is still still_out still_err not_six)

@@ -5,7 +5,7 @@ use Rattle.al_rules.specs.Refusals.{Noted}
 use Rattle.al_front.specs.declared.fault.BadTokens.{BadTokens}
 use Rattle.al_front.specs.Places.{IsBadIn}
 use Rattle.al_io.specs.Contents.{contents_of}
-use Rattle.al_runs_laws.specs.Accepted.{IsSized, LookAtReads, AreInOrder}
+use Rattle.al_runs_laws.specs.Accepted.{LookAtReads, AreInOrder}
 use Rattle.al_words.specs.declared.command.Command.TheVariants.{Run, Plain, Infer, Check}
 use Rattle.al_words.specs.declared.command.Job.{Job}
 use Rattle.al_words.specs.Words.{command}
@@ -30,12 +30,12 @@ pub record Promises (words : List (List ℕ)) (c : Call) : Type 0 where
   -- Where each annotation is RAW or FULL, status and bytes are those of the run in which each execution of a loop runs
   -- its chunks one after another, in the order in which it commits them.
   pub serial : (job : Job) (program : Noted) (inputs : List (List ℤ)) → command words ≡ Ok (Run job)
-      → IsSized program.0 → LookAtReads program.1 → IsQuiet c → HasMemory c
+      → LookAtReads program.1 → IsQuiet c → HasMemory c
       → OverTold c (λ files. Holds words files job program inputs
       → Writes (serial_bytes (source_name words job) program (first_input inputs) job.knobs) c)
   -- Where each commits in order as well, they are those of `plain`.
   pub in_order : (job : Job) (program : Noted) (inputs : List (List ℤ)) → command words ≡ Ok (Run job)
-      → IsSized program.0 → LookAtReads program.1 → AreInOrder program.1 → IsQuiet c → HasMemory c
+      → LookAtReads program.1 → AreInOrder program.1 → IsQuiet c → HasMemory c
       → OverTold c (λ files. Holds words files job program inputs
       → Writes (answer_of (Plain job) (source_name words job) program inputs) c)
   -- In that run no execution of a loop has more rounds than chunks.

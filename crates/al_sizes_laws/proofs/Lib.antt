@@ -5,4 +5,4 @@ mod SizeBounds
 mod MakingExpressions
 mod MakingStatements
 mod TermsObey
-mod AcceptedSizes
+pub mod AcceptedSizes
