@@ -54,13 +54,13 @@ pub(crate) fn chunks(x: &Entered<'_>) -> u64
 }
 
 /// All chunks of an execution.
-fn all_chunks(x: &Entered<'_>) -> Result<Plan, AllocError>
+fn all_chunks(x: &Entered<'_>) -> Plan
     requires { MayEnter x.now }
-    ensures { IfOk result (λ plan. plan ≡ spec.up_from (div_ceil x.now.env.trips x.now.env.chunk) 0) }
+    ensures { result ≡ spec.up_from (div_ceil x.now.env.trips x.now.env.chunk) 0 }
 {
     match Plan::new(x.env.lo, x.hi, x.env.chunk) {
-        Ok(plan) => Ok(plan),
-        Err(PlanFault::Trips) => Err(AllocError),
+        Ok(plan) => plan,
+        Err(PlanFault::Trips) => unreachable!(),
     }
 }
 
@@ -152,10 +152,6 @@ impl Rounds {
         let report = round(
             rt, alloc, store, job.code, x.info, choice, &x.env, job.input, chunks, threads, gate,
         )?;
-        // a round judges each of its chunks
-        if report.verdicts.len() != chunks.len() {
-            return Err(AllocError);
-        }
         plan.settle(report.verdicts.as_slice());
         let longest = report.longest;
         self.add(alloc, chunks, report)?;
@@ -188,7 +184,7 @@ pub(crate) fn lockstep<R: Threads + Sync, S: Store + Sync, G: Gate>(
         rounds_of (S.memory store.new) r
         ≡ spec.lockstep e choice.now x.now.job.knobs.lanes (S.memory store.old))) }
 {
-    let mut plan = all_chunks(x)?;
+    let mut plan = all_chunks(x);
     let count = plan.len() as u64;
     let mut threads = x.job.knobs.threads;
     let mut so_far = Rounds::none(alloc);

@@ -59,7 +59,7 @@ pub(crate) fn main_call(alloc: Global, code: &Code) -> Result<Machine, AllocErro
         × StartsFunction code.now e (no_arguments e.params) m) }
 {
     let Some(entry) = code.funcs.get(code.main as usize) else {
-        return Err(AllocError);
+        unreachable!()
     };
     let args = zeros(alloc, entry.params)?;
     let m = Machine::call(alloc, code, code.main, args.as_slice())?;

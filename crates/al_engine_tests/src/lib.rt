@@ -1,6 +1,10 @@
 //! Tests of whole runs of lowered code, beside those of the plain interpreter.
 #![tactic(auto)]
 
-pub mod running;
 #[cfg(test)]
-mod samples;
+mod covers;
+pub mod running;
+pub mod same;
+pub mod texts;
+#[cfg(test)]
+mod traps;

@@ -1,10 +1,12 @@
 //! A source run by lowered code and by the plain interpreter.
-
-ghost use Rattle.std.specs.Prelude.{IfOk};
+ghost use Rattle.std.specs.Prelude.{IfOk, IfSome};
+ghost use Rattle.al_code.specs.Valid.{IsValid};
 ghost use Rattle.al_core.specs.Limits.{AreInRange};
+ghost use Rattle.al_core.specs.Lines.{IsLineSize};
 ghost use Rattle.al_engine.specs.Jobs.{HaveLineSizes};
 
-use al_core::{Choice, Event, Knobs, LoopInfo, Red, Report};
+use al_code::Code;
+use al_core::{Choice, CommitOrder, Knobs, LoopInfo, Policy, Report, Typed, is_line_size};
 use al_engine::run;
 use al_front::{FrontFault, resolve};
 use al_lower::{LowerFault, lower};
@@ -13,107 +15,111 @@ use sqlite_items::Items;
 use std::alloc::{AllocError, Global};
 use std::thread::Threads;
 
+/// How a run goes: the policy and the order of each loop, lanes, chunk factor, words of a line, and threads.
+pub type Row = (Policy, CommitOrder, u32, u32, u32, u32);
+
+/// The budgets of an iteration, and of all other code.
+#[derive(Clone, Copy)]
+pub struct Budgets {
+    pub iter_steps: u64,
+    pub serial_steps: u64,
+}
+
+/// A program's tree, its code and its annotated loops.
+#[derive(Drop)]
+pub struct Source {
+    pub typed: Typed,
+    pub code: Code,
+    pub infos: Items<LoopInfo>,
+}
+
+/// A source lowered, or none where it is refused.
+pub fn lower_source(alloc: Global, source: &str) -> Result<Option<Source>, AllocError>
+    ensures { IfOk result (λ made. IfSome made (λ s. IsValid s.code)) }
+{
+    match resolve(alloc, source.as_bytes()) {
+        Ok((typed, infos)) => match lower(alloc, &typed, infos.as_slice()) {
+            Ok(code) => Ok(Some(Source { typed, code, infos })),
+            Err(LowerFault::TooLarge) => Ok(None),
+            Err(LowerFault::Memory) => Err(AllocError),
+        },
+        Err(FrontFault::Refused(_) | FrontFault::NoProgram(_)) => Ok(None),
+        Err(FrontFault::Memory) => Err(AllocError),
+    }
+}
+
+/// The words of a line, or 1 where they are none.
+fn line_of(words: u32) -> u32
+    ensures { IsLineSize result }
+{
+    if is_line_size(words) { words } else { 1 }
+}
+
 /// The numbers of a run, brought into their ranges.
-pub fn knobs(lanes: u32, chunk: u32, threads: u32) -> Knobs
+fn knobs(row: &Row, budgets: Budgets) -> Knobs
     ensures { AreInRange result }
 {
+    let (_, _, lanes, chunk, line, threads) = *row;
     Knobs {
-        lanes: lanes.max(1).min(64),
-        chunk: chunk.max(1).min(65_536),
-        threads: threads.max(1).min(64),
-        line: 1,
-        iter_steps: 100,
-        serial_steps: 10_000,
+        lanes: lanes.clamp(1, 64),
+        chunk: chunk.clamp(1, 65_536),
+        threads: threads.clamp(1, 64),
+        line: line_of(line),
+        iter_steps: budgets.iter_steps.clamp(1, 1_000_000_000),
+        serial_steps: budgets.serial_steps.clamp(1, 1_000_000_000),
     }
 }
 
-fn same_event(a: &Event, b: &Event) -> bool {
-    match (a, b) {
-        (
-            Event::Enter {
-                number,
-                execution,
-                line,
-                trips,
-                chunks,
-            },
-            Event::Enter {
-                number: n,
-                execution: e,
-                line: l,
-                trips: t,
-                chunks: c,
-            },
-        ) => number == n && execution == e && line == l && trips == t && chunks == c,
-        (Event::Round(r), Event::Round(s)) => r.as_slice() == s.as_slice(),
-        _ => false,
-    }
+/// A loop's choice by a row, with the reductions of its own annotation.
+fn choice(alloc: Global, info: &LoopInfo, row: &Row) -> Result<Choice, AllocError>
+    ensures { IfOk result (λ c. IsLineSize c.line) }
+{
+    let (policy, order, _, _, line, _) = *row;
+    Ok(Choice {
+        policy,
+        order,
+        reds: Items::from_slice(alloc, info.own.reds.as_slice())?,
+        line: line_of(line),
+    })
 }
 
-/// Whether two reports are the same.
-pub fn same(a: &Report, b: &Report) -> bool {
-    let counts = (a.loops, a.rounds, a.attempts, a.aborted, a.span);
-    if counts != (b.loops, b.rounds, b.attempts, b.aborted, b.span) || a.ending != b.ending {
-        return false;
-    }
-    if a.output.as_slice() != b.output.as_slice() || a.events.len() != b.events.len() {
-        return false;
-    }
-    for i in 0..a.events.len() {
-        if let (Some(x), Some(y)) = (a.events.get(i), b.events.get(i)) {
-            if !same_event(x, y) {
-                return false;
-            }
-        }
-    }
-    true
-}
-
-/// The written choices of a program's loops, or for each loop none.
-fn choices_of(
+/// For each loop its choice, or none where loops run plain.
+fn choices(
     alloc: Global,
     infos: &[LoopInfo],
-    written: bool,
+    row: &Row,
+    plain: bool,
 ) -> Result<Items<Option<Choice>>, AllocError>
     ensures { IfOk result (λ choices. HaveLineSizes choices) }
 {
-    let mut choices = Items::new(alloc);
+    let mut all = Items::new(alloc);
     for info in infos {
-        let own = &info.own;
-        choices.push(if written {
-            let reds: Items<Red> = Items::from_slice(alloc, own.reds.as_slice())?;
-            Some(Choice::by_words(own.policy, own.order, reds))
-        } else {
+        all.push(if plain {
             None
+        } else {
+            Some(choice(alloc, info, row)?)
         })?;
     }
-    Ok(choices)
+    Ok(all)
 }
 
-/// The reports of lowered code and of the plain interpreter, or none where the source is refused.
+/// The reports of lowered code and of the plain interpreter.
 pub fn both<R: Threads + Sync>(
     rt: &R,
     alloc: Global,
-    source: &str,
+    source: &Source,
     input: &[i64],
-    knobs: Knobs,
-    written: bool,
-) -> Result<Option<(Report, Report)>, AllocError>
-    requires { AreInRange knobs }
+    row: &Row,
+    budgets: Budgets,
+    plain: bool,
+) -> Result<(Report, Report), AllocError>
+    requires { IsValid source.now.code }
 {
-    let (typed, infos) = match resolve(alloc, source.as_bytes()) {
-        Ok(found) => found,
-        Err(FrontFault::Memory) => return Err(AllocError),
-        Err(_) => return Ok(None),
-    };
-    let code = match lower(alloc, &typed, infos.as_slice()) {
-        Ok(code) => code,
-        Err(LowerFault::TooLarge) => return Ok(None),
-        Err(LowerFault::Memory) => return Err(AllocError),
-    };
-    let choices = choices_of(alloc, infos.as_slice(), written)?;
+    let choices = choices(alloc, source.infos.as_slice(), row, plain)?;
     let choices = choices.as_slice();
-    let here = run(rt, alloc, &code, input, &knobs, choices, true, &FreeGate)?;
-    let there = al_plain::run(alloc, &typed, input, knobs, choices, true)?;
-    Ok(Some((here, there)))
+    let knobs = knobs(row, budgets);
+    let code = &source.code;
+    let here = run(rt, alloc, code, input, &knobs, choices, true, &FreeGate)?;
+    let there = al_plain::run(alloc, &source.typed, input, knobs, choices, true)?;
+    Ok((here, there))
 }

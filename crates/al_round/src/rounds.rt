@@ -39,6 +39,7 @@ pub fn round<R: Threads + Sync, S: Store + Sync, G: Gate>(
     requires threads { (1 ≤ threads) × (threads ≤ 64) }
     ensures exact { IfOk result (λ r. InEachTree code.now info.now input.now env.now (λ x.
         IsRound x choice.now chunks.now (S.memory store.old) (S.memory store.new) r)) }
+    ensures each { IfOk result (λ r. length r.verdicts ≡ length chunks.now) }
     ensures first { IfOk result (λ r.
         (v : Verdict) × (rest : List Verdict) × (r.verdicts ≡ v ∷ rest) × (is_committed v ≡ true)) }
     ensures memory { OnErr result (InEachTree code.now info.now input.now env.now (λ x.

@@ -1,3 +1,4 @@
+//! The rounds of a program's first annotated loop, beside those of the plain interpreter.
 ghost use Rattle.std.specs.Prelude.{◌≡◌, ◌≤◌, ◌<◌, Some, IfSome, IfOk, All, length, slice_get};
 ghost use Rattle.std.specs.Int.{div_ceil};
 ghost use Rattle.al_code.specs.Valid.{IsValid};
@@ -5,22 +6,20 @@ ghost use Rattle.al_chunk.specs.Loops.{IsBounded};
 ghost use Rattle.al_core.specs.Lines.{IsLineSize};
 ghost use Rattle.al_plain.specs.Executions.{IsBounded as IsPlainBounded};
 
-use crate::starts::{AtLoop, Lowered, lowered, plain_memory, run_to_loop};
+use crate::places::{addresses, is_same};
+use crate::starts::{AtLoop, Lowered, plain_memory, run_to_loop};
 use al_chunk::LoopEnv;
 use al_code::Code;
 use al_core::{
-    Addr, Choice, CommitOrder, Ending, Knobs, LoopInfo, Obj, Policy, Val, Verdict, trips,
+    Choice, CommitOrder, Ending, Judged, Knobs, LoopInfo, Policy, Verdict, is_line_size, trips,
 };
-use al_heap::Store;
 use al_interpreter::{Program, Setting};
 use al_pages::PageStore;
 use al_plain::{Execution, Memory, Round, loop_at};
 use al_round::{FreeGate, RoundReport, round};
-use al_samples::*;
 use al_source::limits::LOOP_TRIPS;
 use sqlite_items::Items;
 use std::alloc::{AllocError, Global};
-use std::test::Fail;
 use std::thread::Threads;
 
 const STEPS: u64 = 10_000;
@@ -29,9 +28,10 @@ const INPUT: [i64; 4] = [3, -1, 40, 5];
 
 /// How a round runs.
 #[derive(Clone, Copy)]
-pub(crate) struct Case {
+pub struct Case {
     pub policy: Policy,
     pub order: CommitOrder,
+    pub line: u32,
     pub lanes: u64,
     pub threads: u32,
 }
@@ -85,103 +85,198 @@ fn plain_execution<'a>(
     })
 }
 
+/// A choice by a case, with the reductions of the loop's own annotation.
 fn choice_of(alloc: Global, info: &LoopInfo, case: &Case) -> Result<Choice, AllocError>
     ensures { IfOk result (λ c. IsLineSize c.line) }
 {
     let reds = Items::from_slice(alloc, info.own.reds.as_slice())?;
+    let line = if is_line_size(case.line) {
+        case.line
+    } else {
+        1
+    };
     Ok(Choice {
         policy: case.policy,
         order: case.order,
         reds,
-        line: 1,
+        line,
     })
 }
 
-/// The first chunks, at most so many.
-fn first_chunks(alloc: Global, env: &LoopEnv, lanes: u64) -> Result<Vec<u64>, AllocError>
+/// The first of these chunks that the execution has, at most so many.
+fn first_of(
+    alloc: Global,
+    env: &LoopEnv,
+    pending: &[u64],
+    lanes: u64,
+) -> Result<Vec<u64>, AllocError>
     requires { IsBounded env.now }
     ensures there { IfOk result (λ v. All (λ c. c < div_ceil env.now.trips env.now.chunk) v.items) }
     ensures few { IfOk result (λ v. length v.items ≤ lanes) }
 {
-    let count = env.trips.div_ceil(u64::from(env.chunk)).min(lanes);
+    let count = env.trips.div_ceil(u64::from(env.chunk));
     let mut chunks = Vec::new(alloc);
-    for c in 0..count {
-        chunks.push(c)?;
+    for chunk in pending {
+        if *chunk < count && (chunks.len() as u64) < lanes {
+            chunks.push(*chunk)?;
+        }
     }
     Ok(chunks)
 }
 
-fn value<S: Store>(store: &S, at: Addr) -> Option<Val> {
-    match at {
-        Addr::Word(obj, w) => Some(store.word(obj, w)?.unpack()),
-        Addr::Head(obj) => Some(Val::Int(i64::from(store.length(obj)?))),
-        Addr::Local(k) => Some(store.local(k)?.unpack()),
-    }
-}
-
-fn plain_value(memory: &Memory, at: Addr) -> Option<Val> {
-    match at {
-        Addr::Word(_, _) | Addr::Local(_) => memory.value_at(at),
-        Addr::Head(obj) => {
-            let words = memory.words(obj)?;
-            Some(Val::Int(words.len() as i64))
+/// What stays pending after a round.
+fn left_of(
+    alloc: Global,
+    judged: &[Judged],
+    pending: &[u64],
+    lanes: usize,
+) -> Result<Vec<u64>, AllocError> {
+    let mut left = Vec::new(alloc);
+    for j in judged {
+        match j.verdict {
+            Verdict::Commit | Verdict::CommitTrap => {}
+            Verdict::Fail | Verdict::After => left.push(j.chunk)?,
         }
     }
+    for chunk in pending.iter().skip(lanes) {
+        left.push(*chunk)?;
+    }
+    Ok(left)
 }
 
-/// The addresses of the globals, of some locals, and of the objects of the first iterations.
-fn addresses(alloc: Global, code: &Code) -> Result<Vec<Addr>, AllocError> {
+/// Where the rounds of an execution stand.
+#[derive(Drop)]
+pub struct Standing {
+    pub store: PageStore,
+    /// The plain interpreter's memory.
+    pub memory: Memory,
+    pub pending: Vec<u64>,
+    /// The verdicts of the last round.
+    pub verdicts: Items<Verdict>,
+    /// The most steps of a chunk in the last round.
+    pub longest: u64,
+    pub ending: Ending,
+}
+
+/// One round. It answers whether it is that of the plain interpreter.
+fn go_on<R: Threads + Sync>(
+    rt: &R,
+    alloc: Global,
+    code: &Code,
+    info: &LoopInfo,
+    env: &LoopEnv,
+    x: &Execution<'_>,
+    case: &Case,
+    there: &mut Standing,
+) -> Result<bool, AllocError>
+    requires valid { IsValid code.now }
+    requires one { slice_get code.now.loops info.now.number ≡ Some info.now }
+    requires bounded { IsBounded env.now }
+    requires plain { IsPlainBounded x.now }
+    requires lanes { case.now.lanes ≤ 64 }
+    requires threads { (1 ≤ case.now.threads) × (case.now.threads ≤ 64) }
+{
+    let choice = choice_of(alloc, info, case)?;
+    let chunks = first_of(alloc, env, there.pending.as_slice(), case.lanes)?;
+    if chunks.is_empty() {
+        return Ok(false);
+    }
+    let chunks = chunks.as_slice();
+    let plain = Round::run(alloc, x, &choice, chunks, &there.memory)?;
+    let (store, threads) = (&mut there.store, case.threads);
+    let report = round(
+        rt, alloc, store, code, info, &choice, env, &INPUT, chunks, threads, &FreeGate,
+    )?;
+    let at = addresses(alloc, code)?;
+    let same = is_same(&report, &there.store, &plain, at.as_slice());
+    let judged = plain.verdicts.as_slice();
+    there.pending = left_of(alloc, judged, there.pending.as_slice(), chunks.len())?;
+    keep(there, report, plain);
+    Ok(same)
+}
+
+fn keep(there: &mut Standing, report: RoundReport, plain: Round) {
+    there.memory = plain.memory;
+    there.verdicts = report.verdicts;
+    there.longest = report.longest;
+    there.ending = report.ending;
+}
+
+/// So many rounds at most. It answers whether each is that of the plain interpreter.
+fn go_far<R: Threads + Sync>(
+    rt: &R,
+    alloc: Global,
+    code: &Code,
+    info: &LoopInfo,
+    env: &LoopEnv,
+    x: &Execution<'_>,
+    case: &Case,
+    there: &mut Standing,
+    most: u32,
+) -> Result<bool, AllocError>
+    requires valid { IsValid code.now }
+    requires one { slice_get code.now.loops info.now.number ≡ Some info.now }
+    requires bounded { IsBounded env.now }
+    requires plain { IsPlainBounded x.now }
+    requires lanes { case.now.lanes ≤ 64 }
+    requires threads { (1 ≤ case.now.threads) × (case.now.threads ≤ 64) }
+{
+    for _round in 0..most {
+        if there.pending.is_empty() || there.ending != Ending::Done {
+            return Ok(true);
+        }
+        if !go_on(rt, alloc, code, info, env, x, case, there)? {
+            return Ok(false);
+        }
+    }
+    Ok(true)
+}
+
+/// All chunks of an execution.
+fn all_chunks(alloc: Global, env: &LoopEnv) -> Result<Vec<u64>, AllocError> {
     let mut all = Vec::new(alloc);
-    for k in 0..8u32 {
-        all.push(Addr::Local(k))?;
-        let objects = [
-            Obj::Global(k),
-            Obj::Serial(k),
-            Obj::Iter(0, u64::from(k), 0),
-        ];
-        for obj in objects {
-            all.push(Addr::Head(obj))?;
-            for w in 0..code.globals.len().min(8) as u32 {
-                all.push(Addr::Word(obj, w))?;
-            }
-        }
+    for chunk in 0..env.trips {
+        all.push(chunk)?;
     }
     Ok(all)
 }
 
-/// Whether a round is that of the plain interpreter, and leaves its memory.
-fn is_same<S: Store>(report: &RoundReport, store: &S, plain: &Round, others: &[Addr]) -> bool {
-    let verdicts = report.verdicts.as_slice();
-    let judged = plain.verdicts.as_slice();
-    verdicts.len() == judged.len()
-        && verdicts.iter().zip(judged).all(|(v, j)| *v == j.verdict)
-        && report.printed.as_slice() == plain.printed.as_slice()
-        && report.ending == plain.ending
-        && u128::from(report.longest) == plain.longest
-        && others
-            .iter()
-            .all(|at| value(store, *at) == plain_value(&plain.memory, *at))
+/// Where the rounds of a loop stand at its start.
+fn standing(
+    alloc: Global,
+    code: &Code,
+    env: &LoopEnv,
+    there: &AtLoop,
+    store: PageStore,
+) -> Result<Standing, AllocError>
+    requires { IsValid code.now }
+{
+    Ok(Standing {
+        store,
+        memory: plain_memory(alloc, code, there.locals.as_slice())?,
+        pending: all_chunks(alloc, env)?,
+        verdicts: Items::new(alloc),
+        longest: 0,
+        ending: Ending::Done,
+    })
 }
 
-/// What the first round of a program's first annotated loop came to, the store that it left, and the plain
-/// interpreter's round. `None`: there is no such loop.
-fn first_round<R: Threads + Sync>(
+/// Rounds of an execution, beside those of a program of the plain interpreter.
+fn compare<R: Threads + Sync>(
     rt: &R,
     alloc: Global,
-    program: &Lowered,
+    code: &Code,
+    program: &Program<'_>,
+    there: &AtLoop,
+    store: PageStore,
     case: &Case,
-) -> Result<Option<(RoundReport, PageStore, Round)>, AllocError>
-    requires valid { IsValid program.now.code }
+    most: u32,
+) -> Result<Option<(bool, Standing)>, AllocError>
+    requires valid { IsValid code.now }
     requires lanes { case.now.lanes ≤ 64 }
     requires threads { (1 ≤ case.now.threads) × (case.now.threads ≤ 64) }
 {
-    let code = &program.code;
-    let (there, mut store) = run_to_loop(alloc, code, PageStore::new(alloc))?;
-    let Some(there) = there else {
-        return Ok(None);
-    };
-    let memory = plain_memory(alloc, code, there.locals.as_slice())?;
-    let Some(env) = env_at(&there) else {
+    let Some(env) = env_at(there) else {
         return Ok(None);
     };
     let Some(info) = code.loops.get(there.number as usize) else {
@@ -190,123 +285,32 @@ fn first_round<R: Threads + Sync>(
     if info.number != there.number {
         return Ok(None);
     }
-    let tree = Program::new(alloc, &program.typed)?;
-    let Some(x) = plain_execution(&tree, &env, there.number) else {
+    let Some(x) = plain_execution(program, &env, there.number) else {
         return Ok(None);
     };
-    let choice = choice_of(alloc, info, case)?;
-    let chunks = first_chunks(alloc, &env, case.lanes)?;
-    if chunks.is_empty() {
-        return Ok(None);
-    }
-    let chunks = chunks.as_slice();
-    let plain = Round::run(alloc, &x, &choice, chunks, &memory)?;
-    let (threads, gate) = (case.threads, FreeGate);
-    let report = round(
-        rt, alloc, &mut store, code, info, &choice, &env, &INPUT, chunks, threads, &gate,
-    )?;
-    Ok(Some((report, store, plain)))
+    let mut stand = standing(alloc, code, &env, there, store)?;
+    let same = go_far(rt, alloc, code, info, &env, &x, case, &mut stand, most)?;
+    Ok(Some((same, stand)))
 }
 
-/// Whether the first round of a program's first annotated loop is that of the plain interpreter.
-fn round_is_as_plain<R: Threads + Sync>(
+/// The rounds of a program's first annotated loop, at most so many: whether each is that of the plain interpreter, and
+/// where they stand. `None`: there is no such loop.
+pub fn compare_rounds<R: Threads + Sync>(
     rt: &R,
     alloc: Global,
     program: &Lowered,
     case: &Case,
-) -> Result<Option<bool>, AllocError>
+    most: u32,
+) -> Result<Option<(bool, Standing)>, AllocError>
     requires valid { IsValid program.now.code }
     requires lanes { case.now.lanes ≤ 64 }
     requires threads { (1 ≤ case.now.threads) × (case.now.threads ≤ 64) }
 {
-    let Some((report, store, plain)) = first_round(rt, alloc, program, case)? else {
+    let code = &program.code;
+    let (there, store) = run_to_loop(alloc, code, PageStore::new(alloc))?;
+    let Some(there) = there else {
         return Ok(None);
     };
-    let others = addresses(alloc, &program.code)?;
-    Ok(Some(is_same(&report, &store, &plain, others.as_slice())))
-}
-
-const POLICIES: [Policy; 4] = [Policy::Full, Policy::Raw, Policy::Waw, Policy::None];
-
-const ORDERS: [CommitOrder; 2] = [CommitOrder::InOrder, CommitOrder::OutOfOrder];
-
-#[test]
-fn rounds_are_as_plain(rt: HostRuntime) -> Result<(), Fail> {
-    for source in [P4, P5, P6, P9, P10, P13, FREES_IN_A_LOOP] {
-        let program = lowered(rt.alloc(), source)?.ok_or("refused")?;
-        for policy in POLICIES {
-            for order in ORDERS {
-                let case = Case {
-                    policy,
-                    order,
-                    lanes: 4,
-                    threads: 2,
-                };
-                let same = round_is_as_plain(&rt, rt.alloc(), &program, &case)?;
-                assert!(rt; same.ok_or("no loop")?);
-            }
-        }
-    }
-    Ok(())
-}
-
-#[test]
-fn threads_make_no_difference(rt: HostRuntime) -> Result<(), Fail> {
-    let program = lowered(rt.alloc(), P10)?.ok_or("refused")?;
-    for threads in [1, 2, 4, 64] {
-        for lanes in [1, 3, 64] {
-            let case = Case {
-                policy: Policy::Raw,
-                order: CommitOrder::OutOfOrder,
-                lanes,
-                threads,
-            };
-            let same = round_is_as_plain(&rt, rt.alloc(), &program, &case)?;
-            assert!(rt; same.ok_or("no loop")?);
-        }
-    }
-    Ok(())
-}
-
-#[test]
-fn a_round_of_two_chunks(rt: HostRuntime) -> Result<(), Fail> {
-    let program = lowered(rt.alloc(), P4)?.ok_or("refused")?;
-    let case = Case {
-        policy: Policy::Raw,
-        order: CommitOrder::InOrder,
-        lanes: 2,
-        threads: 2,
-    };
-    let (report, store, _) = first_round(&rt, rt.alloc(), &program, &case)?.ok_or("no loop")?;
-    assert!(rt; report.verdicts.as_slice() == [Verdict::Commit, Verdict::Fail].as_slice());
-    assert!(rt; report.longest == 4 && report.ending == Ending::Done);
-    let (x, y) = (Addr::Word(Obj::Global(0), 0), Addr::Word(Obj::Global(1), 0));
-    assert!(rt; value(&store, x) == Some(Val::Int(1)) && value(&store, y) == Some(Val::Int(0)));
-    Ok(())
-}
-
-// Each of its chunks traps.
-const ALL_TRAP: &str = "long *p;
-int main(void) {
-#pragma alter NONE OutOfOrder
-  for (long i = 0; i < 3; i++) { *p = i; }
-}
-";
-
-#[test]
-fn chunks_that_all_trap(rt: HostRuntime) -> Result<(), Fail> {
-    let program = lowered(rt.alloc(), ALL_TRAP)?.ok_or("refused")?;
-    for policy in POLICIES {
-        for order in ORDERS {
-            let case = Case {
-                policy,
-                order,
-                lanes: 3,
-                threads: 2,
-            };
-            let same = round_is_as_plain(&rt, rt.alloc(), &program, &case)?;
-            assert!(rt; same.ok_or("no loop")?);
-        }
-    }
-    Ok(())
+    let tree = Program::new(alloc, &program.typed)?;
+    compare(rt, alloc, code, &tree, &there, store, case, most)
 }

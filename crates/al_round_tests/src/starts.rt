@@ -16,13 +16,13 @@ use std::alloc::{AllocError, Global};
 
 /// A program's tree and its code.
 #[derive(Drop)]
-pub(crate) struct Lowered {
+pub struct Lowered {
     pub typed: Typed,
     pub code: Code,
 }
 
 /// A source lowered, or none where it is refused.
-pub(crate) fn lowered(alloc: Global, source: &str) -> Result<Option<Lowered>, AllocError>
+pub fn lower_source(alloc: Global, source: &str) -> Result<Option<Lowered>, AllocError>
     ensures { IfOk result (λ made. IfSome made (λ p. IsValid p.code)) }
 {
     match resolve(alloc, source.as_bytes()) {
@@ -31,8 +31,8 @@ pub(crate) fn lowered(alloc: Global, source: &str) -> Result<Option<Lowered>, Al
             Err(LowerFault::TooLarge) => Ok(None),
             Err(LowerFault::Memory) => Err(AllocError),
         },
+        Err(FrontFault::Refused(_) | FrontFault::NoProgram(_)) => Ok(None),
         Err(FrontFault::Memory) => Err(AllocError),
-        Err(_) => Ok(None),
     }
 }
 
@@ -64,7 +64,7 @@ fn plain_globals(alloc: Global, code: &Code) -> Result<Memory, AllocError> {
 
 /// An annotated loop at which a program stands: its number, its start, its bound and the locals.
 #[derive(Drop)]
-pub(crate) struct AtLoop {
+pub struct AtLoop {
     pub number: u32,
     pub lo: i64,
     pub hi: i64,
@@ -74,7 +74,7 @@ pub(crate) struct AtLoop {
 const STEPS: u64 = 10_000_000;
 
 /// Runs a program on a store to its first annotated loop, where there is one, and answers the store.
-pub(crate) fn run_to_loop<S: Store + Drop>(
+pub fn run_to_loop<S: Store + Drop>(
     alloc: Global,
     code: &Code,
     mut store: S,
@@ -104,7 +104,7 @@ pub(crate) fn run_to_loop<S: Store + Drop>(
 }
 
 /// Runs a program on a plain memory to its first annotated loop, and answers that memory, with these locals.
-pub(crate) fn plain_memory(
+pub fn plain_memory(
     alloc: Global,
     code: &Code,
     locals: &[PackedValue],

@@ -16,10 +16,10 @@ loop-round-init g c =
     let m = g.S.Store.memory c.args.store.now in
     record {
       runs = λ typed l h.
-          first_round (execution_of typed l x.job.input.now x.env) c.args.choice.now x.job.knobs.lanes m c.len-count.result c.in_ok-plan.plan
-          (rounds_of m c.none-so_far.result) (c.len-count.ensures ∙ ap length c.in_ok-plan.ensures ∙ length-up_from n 0) c.in_ok-plan.ensures
+          first_round (execution_of typed l x.job.input.now x.env) c.args.choice.now x.job.knobs.lanes m c.len-count.result c.all_chunks-plan.result
+          (rounds_of m c.none-so_far.result) (c.len-count.ensures ∙ ap length c.all_chunks-plan.ensures ∙ length-up_from n 0) c.all_chunks-plan.ensures
           (c.none-so_far.ensures m);
-      pending = subst (ArePending n) (sym c.in_ok-plan.ensures) (all_pending n);
+      pending = subst (ArePending n) (sym c.all_chunks-plan.ensures) (all_pending n);
       threads = c.requires.may.job.range.threads;
     }
 

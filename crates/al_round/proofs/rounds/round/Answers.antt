@@ -1,4 +1,4 @@
-use Rattle.std.proofs.Common.{◌∙◌, ◌≤◌, map, length, arith}
+use Rattle.std.proofs.Common.{ap, ◌∙◌, ◌≤◌, map, length, arith}
 use Rattle.std.proofs.lemmas.Result.{IfOk-weaker, on_err_weaker}
 use Rattle.al_snap.specs.Changes.{told}
 use Rattle.al_chunk.specs.Loops.{execution_of}
@@ -15,6 +15,14 @@ returns-clause-exact g c =
     (λ r s typed l stands.
     round_settled (execution_of typed l c.args.input.now c.args.env.now) c.args.choice.now c.args.chunks.now _ _ _
     (c.in_ok-all.ensures.outcomes typed l stands) _ _ r c.as_slice.ensures c.in_ok-all.ensures.verdicts s)
+    c.settle.ensures.settled
+
+pub returns-clause-each : goal.returns-clause-each
+returns-clause-each g c =
+    IfOk-weaker c.settle.result _ _
+    (λ r s. ap length s.verdicts_are
+    ∙ judged_length (λ d. told d.change) c.args.choice.now c.in_ok-all.all.items c.in_ok-all.verdicts c.in_ok-all.ensures.verdicts
+    ∙ c.in_ok-all.ensures.each)
     c.settle.ensures.settled
 
 pub returns-clause-first : goal.returns-clause-first
