@@ -2,7 +2,5 @@
 #![tactic(auto)]
 
 mod commits;
-#[cfg(test)]
-mod tests;
 
 pub use commits::commit;

@@ -5,8 +5,6 @@ mod law;
 mod outcomes;
 mod search;
 mod tables;
-#[cfg(test)]
-mod tests;
 
 pub use law::tables_say;
 pub use outcomes::{Outcome, Trial};

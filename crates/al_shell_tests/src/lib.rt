@@ -1,4 +1,4 @@
-//! Tests of texts, command lines, answers and generated jobs.
+//! Tests of texts, command lines, answers, generated jobs and searches.
 #![tactic(auto)]
 
 #[cfg(test)]
@@ -9,5 +9,7 @@ mod command_lines;
 mod generated;
 #[cfg(test)]
 mod reports;
+#[cfg(test)]
+mod searches;
 #[cfg(test)]
 mod texts;

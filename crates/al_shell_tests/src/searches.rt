@@ -1,9 +1,10 @@
+//! A search over trials whose outcomes are given.
 ghost use Rattle.std.specs.Prelude.{⊤, ◌≡◌, ◌+◌, ◌*◌, ◌<◌, ◌^◌, []};
 ghost use Rattle.std.specs.Option.{option_map_or};
 ghost use Rattle.al_core.specs.declared.reports.Ending.TheVariants.{Done};
 
-use crate::{Found, Outcome, Table, Trial, Why, infer};
 use al_core::Ending;
+use al_infer::{Found, Outcome, Table, Trial, Why, infer};
 use sqlite_items::Items;
 use std::alloc::{AllocError, Global};
 use std::test::Fail;

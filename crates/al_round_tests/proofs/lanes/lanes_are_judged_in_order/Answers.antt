@@ -1,7 +1,7 @@
 use Rattle.std.proofs.Common.{rules}
 use Rattle.al_board.specs.Seen.{view}
 use Rattle.al_board.proofs.Works.{has_drawn_some}
-use Rattle.al_book_tests.proofs.lanes.lanes_are_judged_in_order.Goals as goal
+use Rattle.al_round_tests.proofs.lanes.lanes_are_judged_in_order.Goals as goal
 
 pub put-requires-clause-drawn : goal.put-requires-clause-drawn
 put-requires-clause-drawn g c κs =

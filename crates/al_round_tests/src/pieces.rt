@@ -2,7 +2,7 @@
 ghost use Rattle.std.specs.Prelude.{◌≡◌, []};
 ghost use Rattle.al_core.specs.Lines.{IsLineSize};
 ghost use Rattle.al_book.specs.Shelves.{pieces_on, IsShelfFor};
-ghost use Rattle.al_book_tests.specs.Outcomes.{accessed};
+ghost use Rattle.al_round_tests.specs.Outcomes.{accessed};
 
 use al_board::Piece;
 use al_book::{BookPiece, Bookshelf, Weigh};

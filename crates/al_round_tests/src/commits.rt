@@ -1,4 +1,5 @@
-use crate::commit;
+//! What a chunk did, laid over a store.
+use al_commit::commit;
 use al_core::{Addr, Ending, Obj, Red, RedOp, Trap};
 use al_heap::{MapStore, Slots, Store};
 use al_sets::{AddrMap, AddrSet};

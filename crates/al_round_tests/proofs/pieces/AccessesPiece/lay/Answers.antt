@@ -1,7 +1,7 @@
 use Rattle.std.proofs.Common.{◌≡◌}
 use Rattle.al_book.proofs.Shelves.{shelf_grows}
-use Rattle.al_book_tests.specs.Outcomes.{accessed}
-use Rattle.al_book_tests.proofs.pieces.AccessesPiece.lay.Goals as goal
+use Rattle.al_round_tests.specs.Outcomes.{accessed}
+use Rattle.al_round_tests.proofs.pieces.AccessesPiece.lay.Goals as goal
 
 pub returns-clause-stands : goal.returns-clause-stands
 returns-clause-stands c =
