@@ -1,11 +1,9 @@
 //! Whole programs of the language, and what their sizes, types and loops are.
 
 use crate::causes::{note, refusal, refusal_of};
-use al_core::Bound;
 use al_front::resolve;
 use al_layout::layout;
 use al_lexer::lex;
-use al_loops::candidates;
 use al_parser::parse;
 use al_rules::{NoteKind, Refusal};
 use al_samples::*;
@@ -47,24 +45,6 @@ fn a_program_has_its_globals_functions_and_locals(rt: HostRuntime) -> Result<(),
     let main = typed.funcs.get(0).ok_or("no function")?;
     let counts = (typed.globals.len(), typed.funcs.len(), main.locals.len());
     assert_eq!(rt; counts, (1, 1, 1));
-    Ok(())
-}
-
-#[test]
-fn an_annotated_loop_has_its_entry(rt: HostRuntime) -> Result<(), Fail> {
-    let (_, infos) = resolve(rt.alloc(), P4.as_bytes())?;
-    let info = infos.get(0).ok_or("no loop")?;
-    assert_eq!(rt; (infos.len(), info.line, info.counter), (1, 5, 0));
-    assert_eq!(rt; info.bound, Bound::Number(2));
-    Ok(())
-}
-
-#[test]
-fn sixteen_choices_are_tried_for_a_loop_with_one_update(rt: HostRuntime) -> Result<(), Fail> {
-    let (typed, infos) = resolve(rt.alloc(), P9.as_bytes())?;
-    let info = infos.get(0).ok_or("no loop")?;
-    let choices = candidates(rt.alloc(), &typed, info)?;
-    assert_eq!(rt; choices.len(), 16);
     Ok(())
 }
 

@@ -2,3 +2,4 @@ pub mod DigitLemmas
 pub mod WordLemmas
 pub mod DecimalLemmas
 pub mod ReadingBack
+pub mod NumbersFit
