@@ -1,0 +1,5 @@
+pub mod Memories
+pub mod Stands
+pub mod FirstLoop
+pub mod SecondLoop
+pub mod WholeRuns

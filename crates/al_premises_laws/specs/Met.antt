@@ -1,5 +1,5 @@
 -- What the laws of the serial order ask is met by the small program: its two loops, and memories in which they run.
-use Rattle.std.specs.Prelude.{◌≡◌, ◌≢◌, ℕ, ◌+◌, ◌<◌, ◌≤◌, true, List, [], ◌∷◌, length, is_some, reverse, map, slice_get, IsPermutation, ℤ, pos, negsuc, FitsSigned}
+use Rattle.std.specs.Prelude.{◌≡◌, ◌≢◌, ℕ, ◌+◌, ◌<◌, ◌≤◌, true, List, [], ◌∷◌, length, Some, is_some, reverse, map, slice_get, IsPermutation, ℤ, pos, negsuc, FitsSigned}
 use Rattle.std.specs.Int.{w64}
 use Rattle.std.specs.List.{AllByRecursion}
 use Rattle.std.specs.FinSet as set
@@ -53,7 +53,7 @@ FirstIsUnnamed = IsUnnamed first at_first
 
 -- a chunk, and another one
 abbrev pub FirstChunksAreFresh : Type 0
-FirstChunksAreFresh = (0 ≢ 1) × IsFresh first at_first 0 × IsFresh first at_first 1
+FirstChunksAreFresh = (◌≢◌ {A = ℕ} 0 1) × IsFresh first at_first 0 × IsFresh first at_first 1
 
 -- ---- rounds of the first loop
 
@@ -102,7 +102,7 @@ ReadsAgree =
 -- a chunk, and another one
 abbrev pub SecondChunksAreReducible : Type 0
 SecondChunksAreReducible =
-    RunsReducing second small_reductions × (0 ≢ 1)
+    RunsReducing second small_reductions × (◌≢◌ {A = ℕ} 0 1)
     × IsReducible second small_reductions at_second 0 × IsReducible second small_reductions at_second 1
 
 -- what the engine's calls ask of a memory
