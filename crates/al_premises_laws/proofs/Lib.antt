@@ -1,5 +1,6 @@
 pub mod Memories
 pub mod Stands
+pub mod Ranges
 pub mod FirstLoop
 pub mod SecondLoop
 pub mod WholeRuns
