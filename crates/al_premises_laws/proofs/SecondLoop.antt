@@ -80,7 +80,7 @@ second_reducible c = record {
   fresh = second_fresh c;
   values = second_has_values;
   reductions = all_of HoldsNumber small_reductions numbers;
-  unaliased = held (pos 1) (pos 1) (pos 3) (pos 0) IsNoWay (no_way _) (no_way _) (no_way _) (no_way _);
+  unaliased = held (pos 1) (pos 1) (pos 3) (pos 0) IsNoWay (no_way (pos 1)) (no_way (pos 1)) (no_way (pos 3)) (no_way (pos 0));
 }
 
 all_reducible : (cs : List ℕ) → Each (IsReducible second small_reductions at_second) cs
