@@ -30,7 +30,7 @@ three_differ =
 pub first_is_unnamed : FirstIsUnnamed
 first_is_unnamed = is_unnamed (pos 0) (pos 0) (pos 0) (pos 0) 0 0 3
 
-fresh : (c : ℕ) → IsFresh first at_first c
+pub fresh : (c : ℕ) → IsFresh first at_first c
 fresh c = is_unnamed (pos 0) (pos 0) (pos 0) (pos 0) 0 (chunk_start first c) (chunk_end first c)
 
 all_fresh : (cs : List ℕ) → Each (IsFresh first at_first) cs

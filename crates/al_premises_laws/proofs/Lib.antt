@@ -4,3 +4,4 @@ pub mod Ranges
 pub mod FirstLoop
 pub mod SecondLoop
 pub mod WholeRuns
+pub mod Outcomes

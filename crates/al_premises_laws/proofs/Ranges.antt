@@ -10,7 +10,7 @@ use Rattle.al_graded_laws.specs.InRange.{in_range, RunsInRange}
 use Rattle.al_graded_laws.specs.Rules.{stmt_obeys, obeys, obeys_at}
 use Rattle.al_runs_laws.specs.Small.{first_body, second_body}
 use Rattle.al_runs_laws.proofs.SmallFacts.{small_is_program}
-use Rattle.al_premises_laws.specs.Executions.{first, second, at_first, at_second}
+use Rattle.al_premises_laws.specs.Executions.{first, second, at_first, at_second, reduced}
 use Rattle.al_premises_laws.proofs.Memories.{held}
 
 pub small_number : (n j : ℕ) → n < 100 → j < n → FitsSigned w64 (pos 0 +ℤ pos j)
@@ -54,3 +54,8 @@ pub second_has_values : HasValues at_second
 second_has_values =
     held (pos 1) (pos 1) (pos 3) (pos 0) IsVal
     (fits 1 (omega arith)) (fits 1 (omega arith)) (fits 3 (omega arith)) (fits 0 (omega arith))
+
+pub reduced_has_values : HasValues reduced
+reduced_has_values =
+    held (pos 8) (pos 1) (pos 3) (pos 36) IsVal
+    (fits 8 (omega arith)) (fits 1 (omega arith)) (fits 3 (omega arith)) (fits 36 (omega arith))

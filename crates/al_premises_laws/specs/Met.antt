@@ -23,6 +23,7 @@ use Rattle.al_laws.specs.Names.{HasNames}
 use Rattle.al_rounds_laws.specs.InOrder.{Ascend}
 use Rattle.al_rounds_laws.specs.Loops.{Each, AreDistinct, LooksAtReads, LooksAtWrites}
 use Rattle.al_rounds_laws.specs.Serial.{IsUnnamed}
+use Rattle.al_rounds_laws.specs.Writes.{AreApart}
 use Rattle.al_graded_laws.specs.Commits.{GivesValues}
 use Rattle.al_graded_laws.specs.InRange.{RunsInRange, SeesValues}
 use Rattle.al_reductions_laws.specs.Reducible.{IsReducible}
@@ -133,6 +134,24 @@ SecondInAnyOrderIsMet =
     RunsReducing second second_choice.reds × LooksAtWrites second_choice.policy × HasValues at_second
     × AreDistinct (0 ∷ 1 ∷ 2 ∷ 3 ∷ []) × Each (IsFresh second at_second) (0 ∷ 1 ∷ 2 ∷ 3 ∷ [])
     × IsPermutation cs (reverse cs)
+
+-- ---- outcomes
+
+-- The first chunk of the first loop touches x, and its last one nothing.
+abbrev pub FirstOutcomesAreMet : Type 0
+FirstOutcomesAreMet =
+    (◌≢◌ {A = ℕ} 0 2) × IsFresh first at_first 0 × IsFresh first at_first 2
+    × AreApart (outcome first [] at_first 0).touched (outcome first [] at_first 2).touched
+
+-- Two chunks of the second loop touch nothing but reduction variables.
+abbrev pub SecondOutcomesAreMet : Type 0
+SecondOutcomesAreMet =
+    RunsReducing second small_reductions × HasValues at_second × (◌≢◌ {A = ℕ} 3 4) × IsFresh second at_second 3
+    × IsFresh second at_second 4
+    × AreApart
+    (outcome second small_reductions at_second 3).touched
+    (outcome second small_reductions at_second 4).touched
+    × HasValues reduced
 
 -- ---- numbers and values
 

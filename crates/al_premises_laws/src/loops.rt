@@ -1,6 +1,7 @@
 ghost use Rattle.al_premises_laws.specs.Met.{ChunksAscend, FirstChunksAreFresh, FirstInAnyOrderIsMet, FirstInOrderIsMet};
 ghost use Rattle.al_premises_laws.specs.Met.{FirstIsAtStart, FirstIsUnnamed, FirstLockstepIsMet, FirstRoundIsMet};
 ghost use Rattle.al_premises_laws.specs.Met.{LoopsStand, ReadsAgree, SecondChunksAreReducible, SecondInAnyOrderIsMet};
+ghost use Rattle.al_premises_laws.specs.Met.{FirstOutcomesAreMet, SecondOutcomesAreMet};
 ghost use Rattle.al_premises_laws.specs.Met.{SecondInOrderIsMet, SecondIsReady, SecondRoundIsMet, VariablesAreReduced};
 
 /// There is a loop without reductions that meets what the laws of chunks and rounds ask: the first one of the small
@@ -27,4 +28,10 @@ pub fn second_loop_meets()
     ensures round { SecondRoundIsMet }
     ensures in_order { SecondInOrderIsMet }
     ensures any_order { SecondInAnyOrderIsMet }
+{}
+
+/// There are two chunks of each loop that touch no address in common.
+pub fn outcomes_meet()
+    ensures plain { FirstOutcomesAreMet }
+    ensures reducing { SecondOutcomesAreMet }
 {}
