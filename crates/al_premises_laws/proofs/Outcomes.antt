@@ -1,5 +1,5 @@
 -- Chunks that touch nothing: they print, or change reduction variables alone.
-use Rattle.std.proofs.Common.{◌≡◌, ◌≢◌, ℕ, true, List, [], ◌∷◌, refl, sym, ap, ◌∙◌, arith}
+use Rattle.std.proofs.Common.{◌≡◌, ◌≢◌, ℕ, true, false, List, [], ◌∷◌, refl, sym, ap, ◌∙◌, arith}
 use Rattle.std.proofs.Math.Bool.{true≢false}
 use Rattle.std.specs.FinSet as set
 use Rattle.std.specs.FinSet.{FinSet}
@@ -11,6 +11,9 @@ use Rattle.al_core.specs.declared.typed_tree.TKind.{TKind, map-TKind, para-TKind
 use Rattle.al_core.specs.declared.typed_tree.TKind.TheOpen.{TKind-F}
 use Rattle.al_core.specs.declared.typed_tree.TKind.TheViews.{roll-TStmt, roll-TKind}
 use Rattle.al_core.specs.declared.typed_tree.TStmt.{TStmt, para-TStmt, para-roll-TStmt}
+use Rattle.al_core.specs.declared.values.Addr.{Addr}
+use Rattle.al_core.specs.declared.values.Addr.TheVariants.{Word, Head}
+use Rattle.al_core.specs.declared.values.Obj.TheVariants.{Global}
 use Rattle.al_core.specs.declared.values.Val.{Val}
 use Rattle.al_core.specs.World.{Pointer}
 use Rattle.al_core.specs.Orders.{addr_cmp}
@@ -23,6 +26,7 @@ use Rattle.al_core.specs.Chunk.{outcome}
 use Rattle.al_rounds_laws.specs.Writes.{AreApart}
 use Rattle.al_runs_laws.specs.Small.{small_reductions}
 use Rattle.al_premises_laws.specs.Executions.{first, second, at_first, at_second}
+use Rattle.al_premises_laws.specs.Met.{UntouchedIsMet}
 
 -- ---- what a statement does in an iteration, a node at a time
 
@@ -77,7 +81,7 @@ module _ (call : Call) where
 
 third_touches_nothing : (outcome first [] at_first 2).touched ≡ set.empty
 unfolding outcome iteration execute value place bind pure lift asks spend get_frame set_frame load store print operate choose
-third_touches_nothing = simp (stmt_roll, kind_roll, expr_roll, place_roll)
+third_touches_nothing = simp (stmt_roll, kind_roll, expr_roll)
 
 last_touches_nothing : (outcome second small_reductions at_second 4).touched ≡ set.empty
 unfolding outcome iteration execute value place bind pure lift asks spend get_frame set_frame load store print operate choose
@@ -91,3 +95,9 @@ first_apart = nothing_apart _ _ third_touches_nothing
 
 pub second_apart : AreApart (outcome second small_reductions at_second 3).touched (outcome second small_reductions at_second 4).touched
 second_apart = nothing_apart _ _ last_touches_nothing
+
+untouched : (a : Addr) → set.contains (outcome second small_reductions at_second 4).touched a ≡ false
+untouched a = ap (λ z. set.contains z a) last_touches_nothing ∙ set.contains-empty addr_cmp a
+
+pub untouched_is_met : UntouchedIsMet
+untouched_is_met = ((untouched (Word (Global 1) 0), untouched (Head (Global 1))), refl)

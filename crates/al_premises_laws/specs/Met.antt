@@ -1,5 +1,5 @@
 -- What the laws of the serial order ask is met by the small program: its two loops, and memories in which they run.
-use Rattle.std.specs.Prelude.{◌≡◌, ◌≢◌, ℕ, ◌+◌, ◌<◌, ◌≤◌, true, List, [], ◌∷◌, length, Some, is_some, reverse, map, slice_get, IsPermutation, ℤ, pos, negsuc, FitsSigned}
+use Rattle.std.specs.Prelude.{◌≡◌, ◌≢◌, ℕ, ◌+◌, ◌<◌, ◌≤◌, true, List, [], ◌∷◌, length, Some, None, is_some, reverse, map, slice_get, IsPermutation, ℤ, pos, negsuc, FitsSigned}
 use Rattle.std.specs.Int.{w64}
 use Rattle.std.specs.List.{AllByRecursion}
 use Rattle.std.specs.FinSet as set
@@ -18,8 +18,9 @@ use Rattle.al_core.specs.Readiness.{IsFresh, IsRunnable, IsReady, HasValues}
 use Rattle.al_core.specs.Round.{outcomes, round}
 use Rattle.al_core.specs.Run.{start}
 use Rattle.al_core.specs.Verdicts.{is_in_order}
-use Rattle.al_laws.specs.Commits.{IsVariable}
+use Rattle.al_laws.specs.Commits.{IsVariable, IsUntouched}
 use Rattle.al_laws.specs.Names.{HasNames}
+use Rattle.al_laws.specs.Recording.{HasNoReds}
 use Rattle.al_rounds_laws.specs.InOrder.{Ascend}
 use Rattle.al_rounds_laws.specs.Loops.{Each, AreDistinct, LooksAtReads, LooksAtWrites}
 use Rattle.al_rounds_laws.specs.Serial.{IsUnnamed}
@@ -152,6 +153,16 @@ SecondOutcomesAreMet =
     (outcome second small_reductions at_second 3).touched
     (outcome second small_reductions at_second 4).touched
     × HasValues reduced
+
+-- another global is not touched, and is no reduction variable
+abbrev pub UntouchedIsMet : Type 0
+UntouchedIsMet =
+    IsUntouched (outcome second small_reductions at_second 4).touched (Word (Global 1) 0)
+    × (red_index small_reductions (Word (Global 1) 0) ≡ None)
+
+-- a chunk of the first loop begins with a record and no reductions
+abbrev pub RecordIsMet : Type 0
+RecordIsMet = HasNoReds (chunk_from first [] at_first 0).accesses
 
 -- ---- numbers and values
 

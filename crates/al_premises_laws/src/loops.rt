@@ -1,7 +1,7 @@
 ghost use Rattle.al_premises_laws.specs.Met.{ChunksAscend, FirstChunksAreFresh, FirstInAnyOrderIsMet, FirstInOrderIsMet};
 ghost use Rattle.al_premises_laws.specs.Met.{FirstIsAtStart, FirstIsUnnamed, FirstLockstepIsMet, FirstRoundIsMet};
 ghost use Rattle.al_premises_laws.specs.Met.{LoopsStand, ReadsAgree, SecondChunksAreReducible, SecondInAnyOrderIsMet};
-ghost use Rattle.al_premises_laws.specs.Met.{FirstOutcomesAreMet, SecondOutcomesAreMet};
+ghost use Rattle.al_premises_laws.specs.Met.{FirstOutcomesAreMet, RecordIsMet, SecondOutcomesAreMet, UntouchedIsMet};
 ghost use Rattle.al_premises_laws.specs.Met.{SecondInOrderIsMet, SecondIsReady, SecondRoundIsMet, VariablesAreReduced};
 
 /// There is a loop without reductions that meets what the laws of chunks and rounds ask: the first one of the small
@@ -30,8 +30,11 @@ pub fn second_loop_meets()
     ensures any_order { SecondInAnyOrderIsMet }
 {}
 
-/// There are two chunks of each loop that touch no address in common.
+/// There are two chunks of each loop that touch no address in common, one that leaves a global untouched, and one that
+/// begins with a record and no reductions.
 pub fn outcomes_meet()
     ensures plain { FirstOutcomesAreMet }
     ensures reducing { SecondOutcomesAreMet }
+    ensures untouched { UntouchedIsMet }
+    ensures recorded { RecordIsMet }
 {}

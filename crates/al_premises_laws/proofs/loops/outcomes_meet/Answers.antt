@@ -1,8 +1,8 @@
-use Rattle.std.proofs.Common.{arith}
+use Rattle.std.proofs.Common.{refl, arith}
 use Rattle.al_premises_laws.proofs.Ranges.{second_has_values, reduced_has_values}
 use Rattle.al_premises_laws.proofs.FirstLoop.{fresh}
 use Rattle.al_premises_laws.proofs.SecondLoop.{second_reduces, second_fresh}
-use Rattle.al_premises_laws.proofs.Outcomes.{first_apart, second_apart}
+use Rattle.al_premises_laws.proofs.Outcomes.{first_apart, second_apart, untouched_is_met}
 use Rattle.al_premises_laws.proofs.loops.outcomes_meet.Goals as goal
 
 pub returns-clause-plain : goal.returns-clause-plain
@@ -18,3 +18,9 @@ returns-clause-reducing c = (
   second_apart,
   reduced_has_values,
 )
+
+pub returns-clause-untouched : goal.returns-clause-untouched
+returns-clause-untouched c = untouched_is_met
+
+pub returns-clause-recorded : goal.returns-clause-recorded
+returns-clause-recorded c = refl
