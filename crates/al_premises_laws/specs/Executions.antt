@@ -1,0 +1,110 @@
+-- Executions of the two loops of a small program, and memories in which they run.
+use Rattle.std.specs.Prelude.{ℕ, List, [], ◌∷◌, Option, Some, ℤ, pos}
+use Rattle.std.specs.FinMap as map
+use Rattle.al_source.specs.declared.annotations.Policy.TheVariants as policy
+use Rattle.al_source.specs.declared.annotations.CommitOrder.TheVariants as order
+use Rattle.al_core.specs.declared.choices.Bound.TheVariants as bound
+use Rattle.al_core.specs.declared.choices.Choice.{Choice}
+use Rattle.al_core.specs.declared.choices.Knobs.{Knobs}
+use Rattle.al_core.specs.declared.choices.LoopInfo.{LoopInfo}
+use Rattle.al_core.specs.declared.values.Obj.TheVariants.{Global}
+use Rattle.al_core.specs.declared.values.Val.TheVariants.{Int}
+use Rattle.al_core.specs.Memory.{Memory}
+use Rattle.al_core.specs.Loops.{Loop}
+use Rattle.al_core.specs.Iteration.{Execution}
+use Rattle.al_core.specs.Run.{Sizes, Setting, sizes_of}
+use Rattle.al_core.specs.Report.{by_choices}
+use Rattle.al_runs_laws.specs.Small.{small, first_body, second_body, first_choice, second_choice, small_choices}
+
+-- ---- the loops
+
+abbrev pub info : ℕ → ℕ → ℕ → Choice → LoopInfo
+info n line top choice = record {
+  number = n;
+  func = 0;
+  line = line;
+  counter = 0;
+  bound = bound.Number (pos top);
+  first = 2;
+  last = 2;
+  own = choice;
+}
+
+abbrev pub first_loop : Loop
+first_loop = record { info = info 0 6 3 first_choice; locals = 2; body = first_body }
+
+abbrev pub second_loop : Loop
+second_loop = record { info = info 1 11 9 second_choice; locals = 2; body = second_body }
+
+-- for (i = 0; i < 3; i += 1), in chunks of one iteration
+abbrev pub first : Execution
+first = record {
+  typed = small;
+  input = [];
+  loop = first_loop;
+  number = 0;
+  lo = pos 0;
+  trips = 3;
+  factor = 1;
+  iter_steps = 100;
+}
+
+-- for (i = 0; i < 9; i += 1), in chunks of two iterations, the last one of one
+abbrev pub second : Execution
+second = record {
+  typed = small;
+  input = [];
+  loop = second_loop;
+  number = 1;
+  lo = pos 0;
+  trips = 9;
+  factor = 2;
+  iter_steps = 100;
+}
+
+-- ---- memories
+
+-- the globals x and y, and the locals i and s
+abbrev pub holding : ℤ → ℤ → ℤ → ℤ → Memory
+holding x y i s = record {
+  objects = map.insert (map.insert map.empty (Global 1) (Int y ∷ [])) (Global 0) (Int x ∷ []);
+  locals = Int i ∷ Int s ∷ [];
+}
+
+-- before the first loop, and before the second one
+abbrev pub at_first : Memory
+at_first = holding (pos 0) (pos 0) (pos 0) (pos 0)
+
+abbrev pub at_second : Memory
+at_second = holding (pos 1) (pos 1) (pos 3) (pos 0)
+
+-- another one, with other numbers in x and s alone
+abbrev pub reduced : Memory
+reduced = holding (pos 8) (pos 1) (pos 3) (pos 36)
+
+-- ---- choices
+
+-- the first loop under RAW in order, and under FULL out of order
+abbrev pub raw_in_order : Choice
+raw_in_order = record first_choice { order = order.InOrder }
+
+abbrev pub full_out_of_order : Choice
+full_out_of_order = record first_choice { policy = policy.Full }
+
+abbrev pub ordered_choices : List (Option Choice)
+ordered_choices = Some raw_in_order ∷ Some second_choice ∷ []
+
+-- ---- settings
+
+abbrev pub knobs : Knobs
+knobs = record { lanes = 2; chunk = 2; threads = 2; line = 1; iter_steps = 100; serial_steps = 100 }
+
+abbrev pub setting : List (Option Choice) → Setting
+setting choices = record { typed = small; input = []; sizes = sizes_of knobs; modes = by_choices choices }
+
+-- the entries of both loops
+abbrev pub own_infos : List LoopInfo
+own_infos = first_loop.info ∷ second_loop.info ∷ []
+
+abbrev pub ordered_infos : List LoopInfo
+ordered_infos = info 0 6 3 raw_in_order ∷ second_loop.info ∷ []
