@@ -28,16 +28,25 @@ impl File {
     }
 }
 
-/// The program of this name beside the cases, with another text for the first old one where `s/OLD/NEW/` follows.
+/// A text in which the first such piece is another.
+fn changed(alloc: Global, text: &str, old: &str, new: &str) -> Result<String, AllocError> {
+    let (before, behind) = text.split_once(old).unwrap_or((text, ""));
+    format!(in alloc; "{before}{new}{behind}")
+}
+
+/// The program of this name beside the cases. With `s/OLD/NEW/` behind the name the first such piece of it is changed.
 pub fn program<R: Files + Alloc>(rt: &R, alloc: Global, told: &str) -> Result<File, Error> {
-    let (name, change) = told.split_once(" s/").unwrap_or((told, "//"));
-    let (old, new) = change.split_once('/').unwrap_or((change, ""));
-    let new = new.strip_suffix('/').unwrap_or(new);
+    let (name, change) = told.split_once(" s/").unwrap_or((told, ""));
     let (_, place) = name.rsplit_once('/').unwrap_or(("", name));
     let text = fs::read_to_string(rt, place)?;
-    let (before, behind) = text.as_str().split_once(old).unwrap_or((text.as_str(), ""));
-    let changed = format!(in alloc; "{before}{new}{behind}")?;
-    Ok(File::new(alloc, name, changed.as_str())?)
+    match change.split_once('/') {
+        Some((old, new)) => {
+            let new = new.strip_suffix('/').unwrap_or(new);
+            let text = changed(alloc, text.as_str(), old, new)?;
+            Ok(File::new(alloc, name, text.as_str())?)
+        }
+        None => Ok(File::new(alloc, name, text.as_str())?),
+    }
 }
 
 /// Adds a line in which `N**WORD` stands for so many times the word. A blank follows each word.
@@ -60,7 +69,9 @@ fn differ(files: &[MemFile]) -> bool
     match files.split_first() {
         None => true,
         Some((file, rest)) => {
-            rest.iter().all(|other| file.name.as_str() != other.name.as_str()) && differ(rest)
+            rest.iter()
+                .all(|other| file.name.as_str() != other.name.as_str())
+                && differ(rest)
         }
     }
 }

@@ -172,7 +172,8 @@ impl<'a, R: Files + Alloc + Print + Threads + Sync> Script<'a, R> {
                 last = line;
             }
             if is_word || behind == Behind::Byte {
-                self.files.push(File::new(self.alloc, file.name.as_str(), begun)?)?;
+                self.files
+                    .push(File::new(self.alloc, file.name.as_str(), begun)?)?;
                 let err = self.asked.err.at_line(self.alloc, last)?;
                 let told = mem::replace(&mut self.asked.err, err);
                 self.make()?;
@@ -188,7 +189,14 @@ impl<'a, R: Files + Alloc + Print + Threads + Sync> Script<'a, R> {
     /// Makes the calls, and says which give something else than they are to.
     fn make(&mut self) -> Result<(), Error> {
         for words in &self.calls {
-            let holds = gives(self.rt, self.alloc, words.as_str(), self.files.as_slice(), &self.asked, &FreeGate)?;
+            let holds = gives(
+                self.rt,
+                self.alloc,
+                words.as_str(),
+                self.files.as_slice(),
+                &self.asked,
+                &FreeGate,
+            )?;
             if !holds {
                 println!(self.rt; "does not hold: {}: {words}", self.title)?;
             }

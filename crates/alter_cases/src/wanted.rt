@@ -60,7 +60,16 @@ impl Wanted {
 
     /// The same with this number in place of the first `LINE`.
     pub fn at_line(&self, alloc: Global, line: u32) -> Result<Wanted, AllocError> {
-        let (before, behind) = self.text.as_str().split_once("LINE").unwrap_or((self.text.as_str(), ""));
-        Ok(Wanted { text: format!(in alloc; "{before}{line}{behind}")?, before: self.before, behind: self.behind, taken: self.taken })
+        let text = self.text.as_str();
+        let text = match text.split_once("LINE") {
+            Some((before, behind)) => format!(in alloc; "{before}{line}{behind}")?,
+            None => String::from_str(alloc, text)?,
+        };
+        Ok(Wanted {
+            text,
+            before: self.before,
+            behind: self.behind,
+            taken: self.taken,
+        })
     }
 }
