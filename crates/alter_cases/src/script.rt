@@ -29,6 +29,7 @@ pub struct Script<'a, R> {
     /// Whether it was said what is to come of the calls.
     is_answered: bool,
     cut: Option<Behind>,
+    lines: u64,
     many: u64,
 }
 
@@ -59,6 +60,7 @@ impl<'a, R: Files + Alloc + Print + Threads + Sync> Script<'a, R> {
             asked: Asked::new(alloc),
             is_answered: false,
             cut: None,
+            lines: 0,
             many: 0,
         }
     }
@@ -70,6 +72,7 @@ impl<'a, R: Files + Alloc + Print + Threads + Sync> Script<'a, R> {
 
     /// Reads a line, and says so where it is none.
     pub fn take(&mut self, line: &str) -> Result<(), Error> {
+        self.lines = self.lines.saturating_add(1);
         let (mark, rest) = line.split_once(' ').unwrap_or((line, ""));
         let is_known = match mark {
             "" | "#" => true,
@@ -81,7 +84,7 @@ impl<'a, R: Files + Alloc + Print + Threads + Sync> Script<'a, R> {
             _ => self.answer(mark, rest)?,
         };
         if !is_known {
-            println!(self.rt; "no such line: {line}")?;
+            println!(self.rt; "{}: no such line: {line}", self.lines)?;
         }
         Ok(())
     }
@@ -198,7 +201,10 @@ impl<'a, R: Files + Alloc + Print + Threads + Sync> Script<'a, R> {
                 &FreeGate,
             )?;
             if !holds {
-                println!(self.rt; "does not hold: {}: {words}", self.title)?;
+                println!(self.rt;
+                    "above {}: {}: does not hold: {words}",
+                    self.lines, self.title
+                )?;
             }
             self.many = self.many.saturating_add(1);
         }
