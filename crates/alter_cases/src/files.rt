@@ -62,7 +62,7 @@ pub fn add_repeated(text: &mut String, line: &str) -> Result<(), AllocError> {
 }
 
 /// Whether no two files have one name.
-#[tactic(auto)]
+#[tactic(auto, using(crate::proofs::Names::all_names))]
 fn differ(files: &[MemFile]) -> bool
     ensures { result ≡ are_distinct bytes_eq (keys_of (named files.now)) }
 {
