@@ -7,18 +7,13 @@ use Rattle.al_rules.specs.Refusals.{Noted, accepted}
 use Rattle.al_rules_laws.specs.FormedLaws.{IsFormedWith}
 use Rattle.al_rules_laws.proofs.AcceptedSources.{accepted_is_formed}
 use Rattle.al_engine.specs.Jobs.{HaveLineSizes}
-use Rattle.al_search.specs.Search.{no_choices}
-use Rattle.al_cli.specs.Shown.{own_choices}
+use Rattle.al_runs_laws.specs.Accepted.{annotated, unannotated}
+use Rattle.al_search.proofs.LineSizes.{none_has}
 
 pub formed_of : (source : List ℕ) (program : Noted) → accepted source ≡ Ok program → IsFormedWith program.0 program.1
 formed_of source program is = accepted_is_formed source program.0 program.1 is
 
-none_has : (infos : List LoopInfo) → HaveLineSizes (no_choices infos)
-none_has [] k c h = absurd cc
-none_has (i ∷ is) zero c h = absurd cc
-none_has (i ∷ is) (suc k) c h = none_has is k c h
-
-pub none_lined : (infos : List LoopInfo) (cs : List (Option Choice)) → cs ≡ no_choices infos → HaveLineSizes cs
+pub none_lined : (infos : List LoopInfo) (cs : List (Option Choice)) → cs ≡ unannotated infos → HaveLineSizes cs
 none_lined infos cs is = subst HaveLineSizes (sym is) (none_has infos)
 
 own_has : (line : ℕ) (infos : List LoopInfo) → IsLineSize line
@@ -27,5 +22,5 @@ own_has line [] is k c h = absurd cc
 own_has line (i ∷ is) size zero c h = let same : with_line line i.own ≡ c = cc in subst (λ (x : Choice). IsLineSize x.line) same size
 own_has line (i ∷ is) size (suc k) c h = own_has line is size k c h
 
-pub own_lined : (line : ℕ) (program : Noted) (cs : List (Option Choice)) → IsLineSize line → cs ≡ own_choices line program → HaveLineSizes cs
+pub own_lined : (line : ℕ) (program : Noted) (cs : List (Option Choice)) → IsLineSize line → cs ≡ annotated line program.1 → HaveLineSizes cs
 own_lined line program cs size is = subst HaveLineSizes (sym is) (own_has line program.1 size)

@@ -1,14 +1,11 @@
 -- What words show, over files of known contents: a status, and what is written to standard output and standard error.
-use Rattle.std.specs.Prelude.{ℕ, ◌+◌, nat_lt, length, if◌then◌else◌, List, [], ◌∷◌, ◌++◌, map, codes, Option, Some, None, Result, Ok, Err, ℤ}
+use Rattle.std.specs.Prelude.{ℕ, ◌+◌, nat_lt, length, if◌then◌else◌, List, [], ◌∷◌, ◌++◌, codes, Option, Some, None, Result, Ok, Err, ℤ}
 use Rattle.al_source.specs.declared.limits.TheConstants.{SOURCE_BYTES, INPUT_BYTES}
-use Rattle.al_core.specs.declared.choices.Choice.{Choice}
 use Rattle.al_core.specs.declared.choices.Knobs.{Knobs}
-use Rattle.al_core.specs.declared.choices.LoopInfo.{LoopInfo}
 use Rattle.al_core.specs.declared.reports.Ending.{Ending}
 use Rattle.al_core.specs.declared.reports.Ending.TheVariants as ending
 use Rattle.al_core.specs.declared.reports.Report.{Report}
 use Rattle.al_rules.specs.Refusals.{Noted, accepted}
-use Rattle.al_core.specs.Lines.{with_line}
 use Rattle.al_core.specs.Run.{sizes_of}
 use Rattle.al_core.specs.Report.{report}
 use Rattle.al_gen.specs.Generated.{source as made_source, input as made_input}
@@ -31,21 +28,18 @@ use Rattle.al_words.specs.declared.command.Job.{Job}
 use Rattle.al_words.specs.declared.command.WordFault.{WordFault}
 use Rattle.al_words.specs.Words.{command}
 use Rattle.al_words.specs.Jobs.{job_of, source_name, input_names}
-use Rattle.al_search.specs.Search.{no_choices, searched}
+use Rattle.al_runs_laws.specs.Accepted.{annotated, unannotated}
+use Rattle.al_search.specs.Search.{searched}
 use Rattle.al_cli.specs.Lines.{word_line}
 
 -- ---- runs
 
--- every annotated loop in rounds, by its own annotation with lines of so many words
-abbrev pub own_choices : ℕ → Noted → List (Option Choice)
-own_choices line program = map (λ (info : LoopInfo). Some (with_line line info.own)) program.1
-
 -- the report of a program's run in lockstep, on one thread
 abbrev pub lockstep_report : Noted → List ℤ → Knobs → Report
-lockstep_report program input knobs = report program.0 input (sizes_of knobs) (own_choices knobs.line program)
+lockstep_report program input knobs = report program.0 input (sizes_of knobs) (annotated knobs.line program.1)
 
 abbrev pub plain_report : Noted → List ℤ → Knobs → Report
-plain_report program input knobs = report program.0 input (sizes_of knobs) (no_choices program.1)
+plain_report program input knobs = report program.0 input (sizes_of knobs) (unannotated program.1)
 
 -- ---- answers
 

@@ -6,6 +6,7 @@ ghost use Rattle.al_rules.specs.Refusals.{accepted};
 ghost use Rattle.al_rules_laws.specs.FormedLaws.{IsFormedWith};
 ghost use Rattle.al_code.specs.Valid.{IsValid};
 ghost use Rattle.al_engine.specs.Jobs.{IsCodeOf};
+ghost use Rattle.al_runs_laws.specs.Accepted.{annotated};
 ghost use Rattle.al_search.specs.Search as search_spec;
 ghost use Rattle.al_source.specs.declared.limits.TheConstants.{MOST_TESTS};
 ghost use Rattle.al_words.specs.Jobs.{FitsInputs};
@@ -201,7 +202,7 @@ fn own_choices(
     line: u32,
     program: &Noted,
 ) -> Result<Items<Option<Choice>>, AllocError>
-    ensures { IfOk result (λ cs. cs ≡ spec.own_choices line program.now) }
+    ensures { IfOk result (λ cs. cs ≡ annotated line program.now.1) }
 {
     let mut choices = Items::new(alloc);
     for info in program.1.as_slice() {

@@ -4,7 +4,8 @@ use Rattle.al_core.specs.declared.choices.Choice.{Choice}
 use Rattle.al_core.specs.declared.choices.LoopInfo.{LoopInfo}
 use Rattle.al_core.specs.Lines.{IsLineSize, with_line}
 use Rattle.al_engine.specs.Jobs.{HaveLineSizes}
-use Rattle.al_search.specs.Search.{candidate, choices_for, no_choices}
+use Rattle.al_runs_laws.specs.Accepted.{unannotated}
+use Rattle.al_search.specs.Search.{candidate, choices_for}
 use Rattle.std.specs.declared.alloc.AllocError.{AllocError}
 
 lined : (line : ℕ) (xs : List Choice) (k : ℕ) (c : Choice) → slice_get (map (with_line line) xs) k ≡ Some c → c.line ≡ line
@@ -17,7 +18,7 @@ pub have_line : (line : ℕ) (xs : List Choice) (r : Result (List Choice) AllocE
 have_line line xs (Ok cs) is = λ k c h. lined line xs k c (subst (λ l. slice_get l k ≡ Some c) is h)
 have_line line xs (Err e) is = tt
 
-none_has : (infos : List LoopInfo) → HaveLineSizes (no_choices infos)
+pub none_has : (infos : List LoopInfo) → HaveLineSizes (unannotated infos)
 none_has [] k c h = absurd cc
 none_has (i ∷ is) zero c h = absurd cc
 none_has (i ∷ is) (suc k) c h = none_has is k c h
@@ -42,7 +43,7 @@ pub trial_has : (infos : List LoopInfo) (number : ℕ) (tried : List Choice) (k 
     → (choice : Option Choice) → choice ≡ candidate tried k
     → (cs : List (Option Choice)) → cs ≡ choices_for infos number choice → HaveLineSizes cs
 trial_has infos number tried k all choice is cs set =
-    subst HaveLineSizes (sym set) (set_has (no_choices infos) number choice (candidate_has tried k all choice (sym is)) (none_has infos))
+    subst HaveLineSizes (sym set) (set_has (unannotated infos) number choice (candidate_has tried k all choice (sym is)) (none_has infos))
 
 -- a list whose lines have one size has sizes that a run may have
 pub all_sized : (line : ℕ) (cs : List Choice) → IsLineSize line → ((k : ℕ) (c : Choice) → slice_get cs k ≡ Some c → c.line ≡ line)

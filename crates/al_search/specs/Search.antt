@@ -10,6 +10,7 @@ use Rattle.al_core.specs.Report.{report}
 use Rattle.al_core.specs.Run.{sizes_of}
 use Rattle.al_rules.specs.Candidates.{choices}
 use Rattle.al_rules.specs.Refusals.{Noted}
+use Rattle.al_runs_laws.specs.Accepted.{unannotated}
 use Rattle.al_infer.specs.declared.outcomes.Outcome.{Outcome}
 use Rattle.al_infer.specs.declared.tables.Table.{Table}
 use Rattle.al_infer.specs.Findings.{table}
@@ -34,13 +35,9 @@ abbrev pub candidate : List Choice → Option ℕ → Option Choice
 candidate cs (Some k) = slice_get cs k
 candidate cs None = None
 
--- every loop plain
-abbrev pub no_choices : List LoopInfo → List (Option Choice)
-no_choices infos = map (λ (info : LoopInfo). None) infos
-
 -- the loop of a number runs by a candidate, or plain where there is none; every other loop runs plain
 abbrev pub choices_for : List LoopInfo → ℕ → Option Choice → List (Option Choice)
-choices_for infos number choice = slice_set (no_choices infos) number choice
+choices_for infos number choice = slice_set (unannotated infos) number choice
 
 abbrev pub input_of : List (List ℤ) → ℕ → List ℤ
 input_of tests t = unwrap_or (slice_get tests t) []

@@ -1,6 +1,7 @@
 //! Lists of choices, one for each loop of a program.
 ghost use Rattle.std.specs.Prelude.{◌≡◌, IfOk, map, slice_set};
 ghost use Rattle.al_core.specs.Lines.{with_line};
+ghost use Rattle.al_runs_laws.specs.Accepted.{unannotated};
 ghost use Rattle.al_search.specs.Search as spec;
 
 use al_core::{Choice, LoopInfo};
@@ -23,7 +24,7 @@ pub fn choices_for(
 
 /// No choice, for each loop.
 pub fn no_choices(alloc: Global, infos: &[LoopInfo]) -> Result<Vec<Option<Choice>>, AllocError>
-    ensures { IfOk result (λ cs. cs.items ≡ spec.no_choices infos.now) }
+    ensures { IfOk result (λ cs. cs.items ≡ unannotated infos.now) }
 {
     let mut choices = Vec::with_capacity(alloc, infos.len())?;
     for _ in infos {
