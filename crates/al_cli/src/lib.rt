@@ -12,6 +12,3 @@ pub use al_engine::{FreeGate, Gate};
 pub use al_words::{Command, Job, WordFault, read_words};
 pub use entry::{NoWords, program, words};
 pub use top_call::alter;
-
-#[cfg(test)]
-mod tests;
