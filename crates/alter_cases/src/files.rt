@@ -1,5 +1,6 @@
 //! The files that lie there in a case.
-ghost use Rattle.std.specs.Prelude.{◌≡◌, IsTrue, IfOk};
+ghost use Rattle.std.specs.Prelude.{◌≡◌, not, IsTrue, IfOk};
+ghost use Rattle.std.specs.List.{list_all};
 ghost use Rattle.std.specs.Map.{keys_of};
 ghost use Rattle.std.specs.Str.{bytes_eq};
 ghost use Rattle.al_io.specs.Distinct.{are_distinct};
@@ -61,18 +62,33 @@ pub fn add_repeated(text: &mut String, line: &str) -> Result<(), AllocError> {
     Ok(())
 }
 
+/// Whether no file has this name.
+fn has_none(files: &[MemFile], name: &str) -> bool
+    ensures { result ≡ list_all (λ other. not (bytes_eq name.now other)) (keys_of (named files.now)) }
+{
+    match files {
+        [file, files @ ..] => {
+            if name == file.name.as_str() {
+                return false;
+            }
+            has_none(files, name)
+        }
+        [] => true,
+    }
+}
+
 /// Whether no two files have one name.
-#[tactic(auto, using(crate::proofs::Names::all_names))]
 fn differ(files: &[MemFile]) -> bool
     ensures { result ≡ are_distinct bytes_eq (keys_of (named files.now)) }
 {
-    match files.split_first() {
-        None => true,
-        Some((file, rest)) => {
-            rest.iter()
-                .all(|other| file.name.as_str() != other.name.as_str())
-                && differ(rest)
+    match files {
+        [file, files @ ..] => {
+            if !has_none(files, file.name.as_str()) {
+                return false;
+            }
+            differ(files)
         }
+        [] => true,
     }
 }
 
