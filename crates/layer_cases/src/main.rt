@@ -6,8 +6,10 @@ ghost use Rattle.al_code.specs.Valid.{IsValid};
 mod beside;
 mod choices;
 mod chunks;
+mod endings;
 mod engine;
 mod globals;
+mod made;
 mod places;
 mod plain;
 mod rounds;
@@ -20,6 +22,7 @@ mod walk;
 
 use crate::chunks::check_loops;
 use crate::engine::check_reports;
+use crate::made::check_made;
 use crate::rounds::{check_first_round, check_rounds};
 use crate::rows::{Row, rows_of};
 use crate::runs::check_run;
@@ -69,14 +72,20 @@ fn check_layers<R: Threads + Sync>(
         iter_steps: budget(budgets.as_slice(), 0, DEFAULT_ITERATION_STEPS),
         serial_steps: budget(budgets.as_slice(), 1, DEFAULT_SERIAL_STEPS),
     };
+    let whole = Trial {
+        iter_steps: budget(budgets.as_slice(), 2, DEFAULT_ITERATION_STEPS),
+        serial_steps: budget(budgets.as_slice(), 3, DEFAULT_SERIAL_STEPS),
+        ..trial
+    };
     for layer in said.layers.split(' ') {
         match layer {
             "machine" => check_run(alloc, &trial, said.wanted, false, tally)?,
             "alone" => check_run(alloc, &trial, said.wanted, true, tally)?,
             "chunks" => check_loops(alloc, &trial, tally)?,
+            "made" => check_made(alloc, &trial, said.wanted, tally)?,
             "rounds" => check_rounds(rt, alloc, &trial, rows.of_rounds.as_slice(), MOST_ROUNDS, tally)?,
             "first" => check_first_round(rt, alloc, &trial, said.wanted, tally)?,
-            "engine" => check_reports(rt, alloc, &trial, rows.of_engine.as_slice(), tally)?,
+            "engine" => check_reports(rt, alloc, &whole, rows.of_engine.as_slice(), tally)?,
             _ => {}
         }
     }

@@ -3,6 +3,7 @@ ghost use Rattle.std.specs.Prelude.{IfOk};
 ghost use Rattle.al_code.specs.Valid.{IsValid};
 ghost use Rattle.al_core.specs.Limits.{AreInRange};
 
+use crate::endings::ending_text;
 use crate::globals::put_globals;
 use crate::plain::{Steps, run_plain};
 use crate::sources::Trial;
@@ -75,14 +76,6 @@ fn by_tree(alloc: Global, trial: &Trial<'_>) -> Result<Shown, AllocError> {
 
 fn is_same(a: &Shown, b: &Shown) -> bool {
     a.ending == b.ending && a.steps == b.steps && a.printed.as_slice() == b.printed.as_slice()
-}
-
-/// An ending as data files name it.
-fn ending_text(alloc: Global, ending: Ending) -> Result<String, AllocError> {
-    match ending {
-        Ending::Done => format!(in alloc; "done"),
-        Ending::Trap(trap, line) => format!(in alloc; "{trap:?} at {line}"),
-    }
 }
 
 /// Whether a run is as it is wanted: its ending, its ending and steps, or these and what it prints in one line.
