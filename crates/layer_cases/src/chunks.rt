@@ -68,7 +68,16 @@ fn check_factor<S: Store>(
     let Some(x) = plain_execution(trial, program, &env, there.number) else {
         return tally.expect(alloc, false, "no loop in the tree", u64::from(there.number));
     };
-    check_chunks(alloc, trial, info, &env, &x, &there.store, &there.memory, tally)
+    check_chunks(
+        alloc,
+        trial,
+        info,
+        &env,
+        &x,
+        &there.store,
+        &there.memory,
+        tally,
+    )
 }
 
 /// A loop run plain over a store is as on the plain memory.
@@ -118,11 +127,7 @@ fn check_loop<S: Store + Drop>(
 }
 
 /// Each annotated loop that a program comes to, over both stores, is as on the plain interpreter's memory.
-pub fn check_loops(
-    alloc: Global,
-    trial: &Trial<'_>,
-    tally: &mut Tally,
-) -> Result<(), AllocError>
+pub fn check_loops(alloc: Global, trial: &Trial<'_>, tally: &mut Tally) -> Result<(), AllocError>
     requires { IsValid trial.now.source.now.code }
 {
     let program = Program::new(alloc, &trial.source.typed)?;

@@ -17,7 +17,9 @@ use std::alloc::{AllocError, Global};
 
 /// Whether an iteration made so many objects.
 fn has_made(change: &Change, iteration: u64, many: u32) -> bool {
-    change.made.has(Obj::Iter(0, iteration, many.wrapping_sub(1)))
+    change
+        .made
+        .has(Obj::Iter(0, iteration, many.wrapping_sub(1)))
         && !change.made.has(Obj::Iter(0, iteration, many))
 }
 
@@ -42,7 +44,12 @@ fn check_each<S: Store>(
         let change = run_chunk(alloc, code, info, &info.own, env, trial.input, c, store)?;
         let ending = ending_text(alloc, change.ending)?;
         let same = wanted.next().unwrap_or("") == ending.as_str();
-        tally.expect(alloc, same && has_made(&change, c, many), "other objects in chunk", c)?;
+        tally.expect(
+            alloc,
+            same && has_made(&change, c, many),
+            "other objects in chunk",
+            c,
+        )?;
         tally.chunks = tally.chunks.wrapping_add(1);
     }
     Ok(())
@@ -69,5 +76,13 @@ pub fn check_made(
     ) else {
         return tally.expect(alloc, false, "no loop", 0);
     };
-    check_each(alloc, trial, info, &env, &there.store, (many, endings), tally)
+    check_each(
+        alloc,
+        trial,
+        info,
+        &env,
+        &there.store,
+        (many, endings),
+        tally,
+    )
 }

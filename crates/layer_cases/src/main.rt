@@ -26,7 +26,7 @@ use crate::made::check_made;
 use crate::rounds::{check_first_round, check_rounds};
 use crate::rows::{Row, rows_of};
 use crate::runs::check_run;
-use crate::sources::{Said, Source, Trial, expanded, lower_source, numbers, said};
+use crate::sources::{Said, Source, Trial, expanded, lower_source, numbers, read_case};
 use crate::tally::Tally;
 use al_source::limits::{DEFAULT_ITERATION_STEPS, DEFAULT_SERIAL_STEPS};
 use anyhow::Error;
@@ -35,13 +35,12 @@ use std::rt::Files;
 use std::thread::Threads;
 use std::{env, fs, str};
 
-// The rounds of a loop that are compared, at most.
-const MOST_ROUNDS: u64 = 40;
-
 /// The rows of options under which rounds are run, and whole programs.
 #[derive(Drop)]
 struct Rows {
     of_rounds: Vec<Row>,
+    /// For loops whose rounds take long.
+    few: Vec<Row>,
     of_engine: Vec<Row>,
 }
 
@@ -83,7 +82,8 @@ fn check_layers<R: Threads + Sync>(
             "alone" => check_run(alloc, &trial, said.wanted, true, tally)?,
             "chunks" => check_loops(alloc, &trial, tally)?,
             "made" => check_made(alloc, &trial, said.wanted, tally)?,
-            "rounds" => check_rounds(rt, alloc, &trial, rows.of_rounds.as_slice(), MOST_ROUNDS, tally)?,
+            "rounds" => check_rounds(rt, alloc, &trial, rows.of_rounds.as_slice(), tally)?,
+            "few" => check_rounds(rt, alloc, &trial, rows.few.as_slice(), tally)?,
             "first" => check_first_round(rt, alloc, &trial, said.wanted, tally)?,
             "engine" => check_reports(rt, alloc, &whole, rows.of_engine.as_slice(), tally)?,
             _ => {}
@@ -118,7 +118,7 @@ fn check_cases<R: Threads + Sync + AllocGlobal + Print>(
     tally: &mut Tally,
 ) -> Result<(), Error> {
     for case in text.split("==== ").skip(1) {
-        let said = said(case);
+        let said = read_case(case);
         let before = tally.faults.len();
         check_case(rt, rt.alloc(), &said, rows, tally)?;
         for fault in tally.faults.iter().skip(before) {
@@ -139,6 +139,7 @@ fn main(rt: HostRuntime) -> Result<(), Error> {
     let mut tally = Tally::new(rt.alloc());
     let rows = Rows {
         of_rounds: read_rows(&rt, "rounds.rows")?,
+        few: read_rows(&rt, "few.rows")?,
         of_engine: read_rows(&rt, "engine.rows")?,
     };
     for name in env::args(&rt)?.skip(1) {

@@ -22,6 +22,9 @@ use sqlite_items::Items;
 use std::alloc::{AllocError, Global};
 use std::thread::Threads;
 
+// The rounds of a loop that are compared, at most.
+const MOST_ROUNDS: u64 = 40;
+
 /// Where the rounds of an execution stand.
 #[derive(Drop)]
 struct Standing {
@@ -185,7 +188,9 @@ fn loop_rounds<R: Threads + Sync>(
         verdicts: Items::new(alloc),
         ending: Ending::Done,
     };
-    go_on(rt, alloc, trial, info, &env, &x, row, &mut stand, most, tally)?;
+    go_on(
+        rt, alloc, trial, info, &env, &x, row, &mut stand, most, tally,
+    )?;
     Ok(stand.verdicts)
 }
 
@@ -196,7 +201,6 @@ pub fn check_rounds<R: Threads + Sync>(
     alloc: Global,
     trial: &Trial<'_>,
     rows: &[Row],
-    most: u64,
     tally: &mut Tally,
 ) -> Result<(), AllocError>
     requires { IsValid trial.now.source.now.code }
@@ -208,7 +212,7 @@ pub fn check_rounds<R: Threads + Sync>(
             let Some(there) = to_loop(alloc, trial, &program, store, n, tally)? else {
                 return Ok(());
             };
-            loop_rounds(rt, alloc, trial, &program, there, row, most, tally)?;
+            loop_rounds(rt, alloc, trial, &program, there, row, MOST_ROUNDS, tally)?;
         }
         tally.round_loops = tally.round_loops.wrapping_add(1);
     }

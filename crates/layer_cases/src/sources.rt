@@ -46,7 +46,7 @@ fn field(line: &str) -> (&str, &str) {
 }
 
 /// What is said of a case, and its source.
-pub fn said(case: &str) -> Said<'_> {
+pub fn read_case(case: &str) -> Said<'_> {
     let (line, source) = case.split_once('\n').unwrap_or((case, ""));
     let (name, line) = field(line);
     let (layers, line) = field(line);

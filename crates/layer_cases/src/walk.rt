@@ -98,7 +98,11 @@ pub fn info_of(code: &Code, number: u32) -> Option<&LoopInfo>
     ensures { IfSome result (λ info. slice_get code.now.loops info.now.number ≡ Some info.now) }
 {
     let info = code.loops.get(number as usize)?;
-    if info.number == number { Some(info) } else { None }
+    if info.number == number {
+        Some(info)
+    } else {
+        None
+    }
 }
 
 /// Values as the plain interpreter has them.
@@ -165,7 +169,12 @@ pub fn to_loop<S: Store + Drop>(
         let (mut left, made, _) = view.finish();
         names = made;
         let stop_beside = beside.go(code, trial.input, &mut content, &mut budget_beside)?;
-        tally.expect(alloc, stop == stop_beside, "another stop", u64::from(execution))?;
+        tally.expect(
+            alloc,
+            stop == stop_beside,
+            "another stop",
+            u64::from(execution),
+        )?;
         let Stop::AtLoop { number, lo, hi } = stop else {
             return Ok(None);
         };
