@@ -36,6 +36,19 @@ pub fn addresses(alloc: Global, code: &Code, execution: u32) -> Result<Items<Add
     Ok(all)
 }
 
+/// Some 128 of these addresses, from the first to the last.
+pub fn sampled(alloc: Global, all: &[Addr]) -> Result<Items<Addr>, AllocError> {
+    let step = all.len() / 128 + 1;
+    let mut some = Items::new(alloc);
+    for (k, at) in all.iter().enumerate() {
+        if k % step == 0 {
+            some.push(*at)?;
+        }
+    }
+    Ok(some)
+}
+
+/// Whether a set has all addresses of the plain interpreter's, and of some others only those.
 fn is_same_set(
     alloc: Global,
     set: &AddrSet,

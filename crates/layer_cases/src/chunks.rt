@@ -4,7 +4,7 @@ ghost use Rattle.al_code.specs.Valid.{IsValid};
 ghost use Rattle.al_chunk.specs.Loops.{IsBounded};
 ghost use Rattle.al_plain.specs.Executions.{IsBounded as IsPlainBounded};
 
-use crate::beside::{addresses, is_same};
+use crate::beside::{addresses, is_same, sampled};
 use crate::places::holds_the_same;
 use crate::sources::Trial;
 use crate::tally::Tally;
@@ -36,7 +36,8 @@ fn check_chunks<S: Store>(
     requires plain { IsPlainBounded x.now }
 {
     let code = &trial.source.code;
-    let others = addresses(alloc, code, env.execution)?;
+    let places = addresses(alloc, code, env.execution)?;
+    let others = sampled(alloc, places.as_slice())?;
     for c in 0..env.trips.div_ceil(u64::from(env.chunk)) {
         let change = run_chunk(alloc, code, info, &info.own, env, trial.input, c, store)?;
         let plain = Outcome::run(alloc, x, info.own.reds.as_slice(), memory, c)?;
