@@ -1,5 +1,5 @@
 //! What a row of options says of a loop and of a run.
-ghost use Rattle.std.specs.Prelude.{IfOk};
+ghost use Rattle.std.specs.Prelude.{IfOk, IfSome, OnOk};
 ghost use Rattle.al_core.specs.Limits.{AreInRange};
 ghost use Rattle.al_core.specs.Lines.{IsLineSize};
 ghost use Rattle.al_engine.specs.Jobs.{HaveLineSizes};
@@ -29,7 +29,31 @@ pub fn choice_of(alloc: Global, info: &LoopInfo, row: &Row) -> Result<Choice, Al
     })
 }
 
+/// A loop's choice by a row, or none without a row.
+fn choice_by(
+    alloc: Global,
+    info: &LoopInfo,
+    row: Option<&Row>,
+) -> Result<Option<Choice>, AllocError>
+    ensures { IfOk result (λ choice. IfSome choice (λ c. IsLineSize c.line)) }
+{
+    match row {
+        Some(row) => Ok(Some(choice_of(alloc, info, row)?)),
+        None => Ok(None),
+    }
+}
+
+#[tactic(auto, using(crate::proofs::LineSizes::one_more_has))]
+fn push_choice(all: &mut Items<Option<Choice>>, choice: Option<Choice>) -> Result<(), AllocError>
+    requires one { IfSome choice (λ c. IsLineSize c.line) }
+    requires before { HaveLineSizes all.old }
+    ensures { OnOk result (HaveLineSizes all.new) }
+{
+    all.push(choice)
+}
+
 /// For each loop its choice by a row, or none without a row.
+#[tactic(auto, using(crate::proofs::LineSizes::none_has))]
 pub fn choices_of(
     alloc: Global,
     infos: &[LoopInfo],
@@ -39,10 +63,7 @@ pub fn choices_of(
 {
     let mut all = Items::new(alloc);
     for info in infos {
-        all.push(match row {
-            Some(row) => Some(choice_of(alloc, info, row)?),
-            None => None,
-        })?;
+        push_choice(&mut all, choice_by(alloc, info, row)?)?;
     }
     Ok(all)
 }

@@ -18,7 +18,7 @@ pub fn value<S: Store>(store: &S, at: Addr) -> Option<Val> {
 pub fn plain_value(memory: &Memory, at: Addr) -> Option<Val> {
     match at {
         Addr::Word(_, _) | Addr::Local(_) => memory.value_at(at),
-        Addr::Head(obj) => Some(Val::Int(memory.words(obj)?.len() as i64)),
+        Addr::Head(obj) => Some(Val::Int(i64::try_from(memory.words(obj)?.len()).ok()?)),
     }
 }
 
