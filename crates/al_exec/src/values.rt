@@ -38,7 +38,7 @@ pub fn holds(v: PackedValue) -> bool
 
 /// The number that a value is.
 #[inline(always)]
-fn number_in(v: PackedValue) -> Result<i64, Trap>
+pub fn number_in(v: PackedValue) -> Result<i64, Trap>
     ensures { result ≡ spec.number v }
 {
     match v.int() {

@@ -1,8 +1,9 @@
 ghost use Rattle.std.specs.Prelude.{◌≡◌, IfSome, is_some, pos};
 ghost use Rattle.al_core.specs.declared.values.Val.TheVariants as value;
+ghost use Rattle.al_core.specs.Values as spec;
 ghost use Rattle.al_values.specs.Packing.{fits, number_of, pointer_of};
 
-use al_core::{Obj, Val};
+use al_core::{Kind, Obj, Trap, Val};
 use std::marker::Model;
 use std::mem::size_of;
 
@@ -133,6 +134,17 @@ impl PackedValue {
         match self.unpack() {
             Val::Int(_) => None,
             Val::Ptr(obj, at) => Some((obj, at)),
+        }
+    }
+
+    /// The value, where it may be read as one of the kind: a number, or a pointer or null. It traps `Kind` else.
+    pub fn of_kind(self, want: Kind) -> Result<PackedValue, Trap>
+        ensures { result ≡ spec.of_kind want self }
+    {
+        match (want, self.int()) {
+            (Kind::Int, None) => Err(Trap::Kind),
+            (Kind::Ptr, Some(n)) if n != 0 => Err(Trap::Kind),
+            _ => Ok(self),
         }
     }
 }
