@@ -1,4 +1,4 @@
-ghost use Rattle.std.specs.Prelude.{◌≡◌, ◌+◌, ◌<◌, ◌≤◌, ◌^◌, MatchResult};
+ghost use Rattle.std.specs.Prelude.{◌≡◌, ◌+◌, ◌<◌, ◌≤◌, ◌^◌, MatchResult, Ok, Err};
 ghost use Rattle.al_core.specs.declared.view.ViewFault.TheVariants as fault;
 ghost use Rattle.al_core.specs.declared.values.Val.TheVariants as value;
 ghost use Rattle.al_source.specs.Steps.{and_then};
@@ -119,6 +119,21 @@ fn near(v: PackedValue, at: u32) -> Result<PackedValue, ViewFault>
     }
 }
 
+/// The offset of an element of the object to which a pointer leads, where an element has so many words.
+#[tactic(auto, unfolding(al_core::specs::Values::element))]
+#[inline(always)]
+fn element_at(v: PackedValue, index: PackedValue, size: u32) -> Result<u32, Trap>
+    ensures { MatchResult result
+        (λ at. spec.element (pointer_in v) index size ≡ Ok ((pointer_in v).0, at))
+        (λ t. spec.element (pointer_in v) index size ≡ Err t) }
+{
+    let n = number_in(index)?;
+    match u32::try_from(i128::from(offset_in(v)) + i128::from(n) * i128::from(size)) {
+        Ok(at) => Ok(at),
+        Err(_) => Err(Trap::Bounds),
+    }
+}
+
 /// A condition as 1 or 0.
 #[inline(always)]
 fn tested(condition: bool) -> PackedValue
@@ -219,7 +234,6 @@ impl Active {
         }
     }
 
-    #[tactic(auto, unfolding(al_core::specs::Action::bind, al_core::specs::Action::pure, al_core::specs::Action::lift, al_core::specs::Values::element))]
     #[inline(always)]
     pub fn elem(&mut self, size: u32) -> Result<(), ViewFault>
         requires place { self.old.place + 1 < 2 ^ 64 }
@@ -227,19 +241,14 @@ impl Active {
         requires room { self.old.height ≤ self.old.room }
         ensures { DidAlone (i.Elem size) self.old result self.new }
     {
-        let index = number_in(self.pop());
+        let index = self.pop();
         let v = self.pop();
-        match index {
-            Ok(n) => match u32::try_from(
-                i128::from(offset_in(v)) + i128::from(n) * i128::from(size),
-            ) {
-                Ok(at) => {
-                    self.push(near(v, at)?);
-                    self.advance();
-                    Ok(())
-                }
-                Err(_) => Err(ViewFault::Trap(Trap::Bounds)),
-            },
+        match element_at(v, index, size) {
+            Ok(at) => {
+                self.push(near(v, at)?);
+                self.advance();
+                Ok(())
+            }
             Err(t) => Err(ViewFault::Trap(t)),
         }
     }
