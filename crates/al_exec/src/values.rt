@@ -1,4 +1,4 @@
-ghost use Rattle.std.specs.Prelude.{◌≡◌, ◌+◌, ◌<◌, ◌≤◌, ◌^◌, MatchResult, Ok, Err};
+ghost use Rattle.std.specs.Prelude.{◌≡◌, ◌+◌, ◌<◌, ◌≤◌, ◌^◌, MatchResult};
 ghost use Rattle.al_core.specs.declared.view.ViewFault.TheVariants as fault;
 ghost use Rattle.al_core.specs.declared.values.Val.TheVariants as value;
 ghost use Rattle.al_source.specs.Steps.{and_then};
@@ -10,8 +10,8 @@ ghost use Rattle.al_exec.specs.Meets.{DidAlone};
 
 use crate::active::Active;
 use al_core::{
-    BinOp, Obj, RedOp, Trap, UnOp, Val, ViewFault, binary, choose, input_at, number, operate_one,
-    truth, words_of,
+    BinOp, Obj, RedOp, Trap, UnOp, Val, ViewFault, binary, choose, element, input_at, number,
+    operate_one, truth, words_of,
 };
 use al_values::PackedValue;
 
@@ -116,21 +116,6 @@ fn near(v: PackedValue, at: u32) -> Result<PackedValue, ViewFault>
     match v.with_offset(at) {
         Some(c) => Ok(c),
         None => packed(Val::Ptr(Obj::Global(0), at)),
-    }
-}
-
-/// The offset of an element of the object to which a pointer leads, where an element has so many words.
-#[tactic(auto, unfolding(al_core::specs::Values::element))]
-#[inline(always)]
-fn element_at(v: PackedValue, index: PackedValue, size: u32) -> Result<u32, Trap>
-    ensures { MatchResult result
-        (λ at. spec.element (pointer_in v) index size ≡ Ok ((pointer_in v).0, at))
-        (λ t. spec.element (pointer_in v) index size ≡ Err t) }
-{
-    let n = number_in(index)?;
-    match u32::try_from(i128::from(offset_in(v)) + i128::from(n) * i128::from(size)) {
-        Ok(at) => Ok(at),
-        Err(_) => Err(Trap::Bounds),
     }
 }
 
@@ -242,10 +227,9 @@ impl Active {
         ensures { DidAlone (i.Elem size) self.old result self.new }
     {
         let index = self.pop();
-        let v = self.pop();
-        match element_at(v, index, size) {
-            Ok(at) => {
-                self.push(near(v, at)?);
+        match element(pointer(self.pop()), index.unpack(), size) {
+            Ok((obj, at)) => {
+                self.push(packed(Val::Ptr(obj, at))?);
                 self.advance();
                 Ok(())
             }
