@@ -39,7 +39,7 @@ def told(command, text, *options):
     call = [alter, command, write("p.c", text), numbers, *map(str, options)]
     done = subprocess.run(call, capture_output=True, timeout=100)
     if done.returncode not in (0, 3):
-        sys.exit(f"bench/generated.sh: {done.stderr.decode()}")
+        sys.exit(f"bench/generated.sh: seed {seed}: {done.stderr.decode()}")
     return done.returncode, done.stdout, done.stderr
 
 

@@ -56,10 +56,10 @@ class Writer:
             return f"input({self.random.randrange(4)})"
         return f"{self.random.randrange(-3, 20) if self.chance(0.9) else self.random.randrange(2 ** 63)}L"
 
-    def index(self, depth):
+    def index(self, depth, most=15):
         if self.chance(RISKS):
             return self.value(depth)
-        return f"({self.value(depth)} & 15)"
+        return f"({self.value(depth)} & {most})"
 
     def value(self, depth=2):
         if depth == 0 or self.chance(0.3):
@@ -107,7 +107,7 @@ class Writer:
         if kind == 1:
             return f"{self.choose('g', 'h')} {self.choose('=', '+=', '|=')} {self.value()};"
         if kind == 2:
-            return f"s[{self.index(1).replace('15', '3')}].{self.choose('n', 'm')} = {self.value()};"
+            return f"s[{self.index(1, 3)}].{self.choose('n', 'm')} = {self.value()};"
         if kind == 3 and self.settable():
             name = self.choose(*self.settable())
             if self.callable and self.chance(0.4):
