@@ -54,11 +54,14 @@ module _ (call : Call) where
       → doing (roll-TStmt (record { line = line; kind = k })) s ≡ bind (spend line) (λ _. doing_kind k line) s
   stmt_roll line k s =
       ap (λ f. f s)
-      (para-roll-TStmt (At Content Flow) (Act Content Flow) (kind_does in_iteration Inside [] call) (stmt_does in_iteration Inside [] call) (record { line = line; kind = k }))
+      (para-roll-TStmt (At Content Flow) (Act Content Flow) (kind_does in_iteration Inside [] call)
+      (stmt_does in_iteration Inside [] call) (record { line = line; kind = k }))
 
   kind_roll : (d : TKind-F TKind TStmt) (line : ℕ) (s : State Content)
       → doing_kind (roll-TKind d) line s
-      ≡ kind_does in_iteration Inside [] call (map-TKind TKind TStmt (TKind × At Content Flow) (TStmt × Act Content Flow) (λ k. (k, doing_kind k)) (λ s. (s, doing s)) d) line s
+      ≡ kind_does in_iteration Inside [] call
+      (map-TKind TKind TStmt (TKind × At Content Flow) (TStmt × Act Content Flow) (λ k. (k, doing_kind k)) (λ s. (s, doing s)) d)
+      line s
   kind_roll d line s =
       ap (λ f. f line s)
       (para-roll-TKind (At Content Flow) (Act Content Flow) (kind_does in_iteration Inside [] call) (stmt_does in_iteration Inside [] call) d)
