@@ -2,12 +2,8 @@
 //! Says which calls give something else, and for each file how many there are. The README says how they are written.
 #![tactic(auto)]
 
-mod call;
-mod files;
-#[cfg(test)]
-mod gates;
+mod programs;
 mod script;
-mod wanted;
 
 use anyhow::Error;
 use script::Script;

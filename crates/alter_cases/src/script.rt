@@ -1,8 +1,7 @@
 //! Reads cases line by line, and makes their calls.
 
-use crate::call::{Asked, gives};
-use crate::files::{File, add_repeated, program};
-use crate::wanted::add_line;
+use crate::programs::{add_repeated, program};
+use al_calls::{Asked, File, add_line, gives};
 use al_cli::FreeGate;
 use anyhow::Error;
 use std::alloc::{AllocError, Global};

@@ -1,5 +1,5 @@
 use Rattle.std.specs.Prelude.{length}
-use Rattle.alter_cases.proofs.files.+differ.Given as goal
+use Rattle.al_calls.proofs.files.+differ.Given as goal
 
 abbrev pub decreases-differ : goal.decreases-differ
 decreases-differ l = length l.files.now

@@ -1,7 +1,6 @@
 //! Chunks that run beside one another: what no clause says.
-use crate::call::{Asked, gives};
-use crate::files::File;
 use al_board_tests::Held;
+use al_calls::{Asked, File, gives};
 use std::test::Fail;
 
 /// How often a wait looks before it is noted.

@@ -1,5 +1,5 @@
 use Rattle.std.specs.Prelude.{length}
-use Rattle.alter_cases.proofs.files.+has_none.Given as goal
+use Rattle.al_calls.proofs.files.+has_none.Given as goal
 
 abbrev pub decreases-has_none : goal.decreases-has_none
 decreases-has_none l = length l.files.now

@@ -1,0 +1,5 @@
+//! Tests of `alter` with gates that hold chunks.
+#![tactic(auto)]
+
+#[cfg(test)]
+mod gates;
