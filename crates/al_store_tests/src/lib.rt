@@ -4,15 +4,11 @@
 #[cfg(test)]
 mod map_store;
 #[cfg(test)]
-mod maps;
-#[cfg(test)]
 mod masks;
 #[cfg(test)]
 mod packed;
 #[cfg(test)]
 mod planes;
-#[cfg(test)]
-mod sequences;
 #[cfg(test)]
 mod sets;
 #[cfg(test)]

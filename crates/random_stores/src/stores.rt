@@ -1,19 +1,10 @@
-//! Random sequences of calls, beside a plain map.
+//! Random sequences of calls of a store, beside a plain map.
+use crate::numbers::Numbers;
 use al_core::Obj;
-use al_heap::{MapStore, Store};
-use al_pages::PageStore;
+use al_heap::Store;
 use al_values::{PackedValue, Words};
-use std::alloc::AllocError;
+use std::alloc::{AllocError, Global};
 use std::collections::BTreeMap;
-use std::process::Abort;
-use std::test::Fail;
-
-/// The next number of a sequence.
-fn after(x: u64) -> u64 {
-    let y = x ^ x.wrapping_shl(13);
-    let z = y ^ (y >> 7);
-    z ^ z.wrapping_shl(17)
-}
 
 fn object(x: u64) -> Obj {
     let number = (x / 16 % 3) as u32;
@@ -35,8 +26,8 @@ fn plain_word(plain: &BTreeMap<Obj, Vec<i64>>, obj: Obj, at: u32) -> Option<i64>
 }
 
 /// Makes one call on the store and does the same to the map.
-fn step<S: Store, R: AllocGlobal + Abort>(
-    rt: &R,
+fn step<S: Store>(
+    alloc: Global,
     store: &mut S,
     plain: &mut BTreeMap<Obj, Vec<i64>>,
     x: u64,
@@ -46,8 +37,8 @@ fn step<S: Store, R: AllocGlobal + Abort>(
     match x % 8 {
         0 => {
             store.prepare(obj)?;
-            store.add(obj, Words::zeros(rt.alloc(), at)?);
-            plain.insert(obj, vec![in rt.alloc(); 0; at as usize]?)?;
+            store.add(obj, Words::zeros(alloc, at)?);
+            plain.insert(obj, vec![in alloc; 0; at as usize]?)?;
         }
         1 => {
             store.remove(obj);
@@ -67,38 +58,23 @@ fn step<S: Store, R: AllocGlobal + Abort>(
     Ok(())
 }
 
-fn runs_like_a_map<S: Store, R: AllocGlobal + Abort>(
-    rt: &R,
+/// Whether a store of random calls is as a plain map is.
+pub fn agree<S: Store>(
+    alloc: Global,
     store: &mut S,
-    seed: u64,
-) -> Result<(), AllocError> {
-    let mut plain = BTreeMap::new(rt.alloc());
-    let mut x = seed;
+    numbers: &mut Numbers,
+) -> Result<bool, AllocError> {
+    let mut plain = BTreeMap::new(alloc);
+    let mut well = true;
     for _ in 0..200 {
-        x = after(x);
-        step(rt, store, &mut plain, x)?;
-        x = after(x);
+        step(alloc, store, &mut plain, numbers.next())?;
+        let x = numbers.next();
         let obj = object(x);
         let at = (x / 1024 % 70) as u32;
-        assert_eq!(rt; int(store.word(obj, at)), plain_word(&plain, obj, at));
         let long = plain.get(&obj).map(|words| words.len());
-        assert_eq!(rt; store.length(obj).map(|words| words as usize), long);
+        well = well
+            && int(store.word(obj, at)) == plain_word(&plain, obj, at)
+            && store.length(obj).map(|words| words as usize) == long;
     }
-    Ok(())
-}
-
-#[test]
-fn sequences_in_a_map(rt: HostRuntime) -> Result<(), Fail> {
-    for seed in [1, 88_172_645_463_325_252] {
-        runs_like_a_map(&rt, &mut MapStore::new(rt.alloc()), seed)?;
-    }
-    Ok(())
-}
-
-#[test]
-fn sequences_in_pages(rt: HostRuntime) -> Result<(), Fail> {
-    for seed in [2, 88_172_645_463_325_252] {
-        runs_like_a_map(&rt, &mut PageStore::new(rt.alloc()), seed)?;
-    }
-    Ok(())
+    Ok(well)
 }
