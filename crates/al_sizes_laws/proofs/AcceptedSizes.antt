@@ -1,6 +1,6 @@
 -- The numbers in the tree of an accepted source have their sizes.
 use Rattle.std.proofs.Common.{◌≡◌, ℕ, zero, suc, ◌+◌, ◌*◌, ◌^◌, ◌≤◌, ◌<◌, Bool, true, false, nat_lt, if◌then◌else◌, List, [], ◌∷◌, map, length, Some, Result, Ok, Err, slice_get, refl, sym, ap, ◌∙◌, subst, arith}
-use Rattle.std.specs.Prelude.{pos}
+use Rattle.std.specs.Prelude.{ℤ, pos}
 use Rattle.std.specs.List.{AllByRecursion}
 use Rattle.std.proofs.lemmas.Option.{slice_get_within}
 use Rattle.al_source.specs.Steps.{and_then}
@@ -55,14 +55,17 @@ use Rattle.al_graded_laws.specs.Rules.{every, expr_obeys, place_obeys, obeys, ob
 use Rattle.al_graded_laws.specs.InRange.{has_64_bits, in_range}
 use Rattle.al_graded_laws.proofs.Values.{fits_64}
 use Rattle.al_runs_laws.specs.Accepted.{IsSized}
-use Rattle.al_runs_laws.proofs.Making.{GlobalAt}
+use Rattle.al_runs_laws.proofs.NumberedTrees.{ExprCases, StmtCases}
+use Rattle.al_runs_laws.proofs.Making.{Kept, GlobalAt, FineAnywhere, fine_anywhere}
+use Rattle.al_runs_laws.proofs.MakingStatements.{Stands}
+use Rattle.al_runs_laws.proofs.MakingStatements as made
+use Rattle.al_runs_laws.proofs.MakingPrograms.{FineFunc, MadeFunc, funcs_made, at_index}
+use Rattle.al_runs_laws.proofs.MakingPrograms.{tree_of as made_of}
 use Rattle.al_sizes_laws.specs.Sized.{AcceptedAreSized}
 use Rattle.al_sizes_laws.proofs.TokenNumbers.{TokenSized, reading_sized}
-use Rattle.al_sizes_laws.proofs.TreesOfTokens.{ExprCases, StmtCases}
+use Rattle.al_sizes_laws.proofs.TreesOfTokens.{Sized}
 use Rattle.al_sizes_laws.proofs.ProgramNumbers.{StartSized, few_globals, bodies_sized, starts_sized}
 use Rattle.al_sizes_laws.proofs.SizeBounds.{laid_small, words_small}
-use Rattle.al_sizes_laws.proofs.MakingExpressions.{Kept, FineAnywhere, fine_anywhere}
-use Rattle.al_sizes_laws.proofs.MakingStatements as made
 use Rattle.al_sizes_laws.proofs.TermsObey.{ExprObeys, PlaceObeys, stmts_of_terms}
 
 -- ---- what typing makes
@@ -108,10 +111,14 @@ module _ (known : Known) (few : length known.globals < 2 ^ 32) (small : (a : CTy
   global_fits : (k : ℕ) (a : CType) → GlobalAt known k a → nat_lt k (2 ^ 32) ≡ true
   global_fits k a g = let lt = slice_get_within known.globals k g.global g.there in below k (omega arith)
 
-  kept : Kept known P Q R
+  number_obeys : (m : ℤ) → Sized m → P (te.Number m)
+  number_obeys m h = of_expr (TExpr-F.Number m) _ (te.rolls-Number m) ∙ h
+
+  kept : Kept Sized known P Q R
   kept = record {
-    number = λ m h. of_expr (TExpr-F.Number m) _ (te.rolls-Number m) ∙ h;
-    sizes = λ a h. of_expr (TExpr-F.Number (pos (8 * size known a))) _ (te.rolls-Number (pos (8 * size known a))) ∙ words_fit (size known a) (small a h);
+    number = number_obeys;
+    zero = number_obeys (pos 0) refl;
+    sizes = λ a h. number_obeys (pos (8 * size known a)) (words_fit (size known a) (small a h));
     local = λ k. of_expr (TExpr-F.Local k) _ (te.rolls-Local k);
     load = λ a k q h. of_expr (TExpr-F.Load k q) _ (te.rolls-Load k q) ∙ h.0;
     addr = λ a q h. of_expr (TExpr-F.Addr q) _ (te.rolls-Addr q) ∙ and_both h.0 h.1;
@@ -139,73 +146,38 @@ module _ (known : Known) (few : length known.globals < 2 ^ 32) (small : (a : CTy
   -- ---- functions
 
   abbrev FineExpr : Expr → Type 0
-  FineExpr = FineAnywhere known P Q R kept
+  FineExpr = FineAnywhere Sized known P Q R kept
 
   abbrev FineStmt : ℕ → CType → Stmt → Type 0
-  FineStmt m a = made.Fine known P Q R kept m a
+  FineStmt m a = made.Fine Sized known P Q R kept m a
 
   abbrev FineKind : ℕ → CType → StmtKind → Type 0
-  FineKind m a = made.KindFine known P Q R kept m a
+  FineKind m a = made.KindFine Sized known P Q R kept m a
 
-  fine_exprs : ExprCases FineExpr
-  fine_exprs = fine_anywhere known P Q R kept
+  fine_exprs : ExprCases Sized FineExpr
+  fine_exprs = fine_anywhere Sized known P Q R kept
 
   fine_stmts : (m : ℕ) (a : CType) → StmtCases FineExpr (FineStmt m a) (FineKind m a)
-  fine_stmts m a = made.fine_cases known P Q R kept m a
-
-  abbrev FineFunc : Func → Type 0
-  FineFunc f = (m : ℕ) (a : CType) → AllOf (FineStmt m a) f.body
+  fine_stmts m a = made.fine_cases Sized known P Q R kept m a
 
   exprs_of : (vs : List TExpr) → AllOf P vs → AllByRecursion ExprObeys vs
   exprs_of [] n.none = tt
   exprs_of (v ∷ vs) (n.more h hs) = (h, exprs_of vs hs)
 
-  places_of : (qs : List TPlace) → AllOf (λ q. (a : CType) × Q a q) qs → AllByRecursion PlaceObeys qs
+  places_of : (qs : List TPlace) → AllOf (Stands Q) qs → AllByRecursion PlaceObeys qs
   places_of [] n.none = tt
   places_of (q ∷ qs) (n.more h hs) = (h.1.0, places_of qs hs)
 
   abbrev FuncSized : TFunc → Type 0
   FuncSized t = stmts_obey in_range t.body ≡ true
 
-  func_sized : (m : ℕ) (f : Func) (loops : List TNote) (t : TFunc × List TNote) → FineFunc f → func_typed known m f loops ≡ Ok t → FuncSized t.0
-  func_sized m f loops t fine e =
-      let q = then_ok (w.statements known m f.result false f.body (begun f.params loops))
-      (λ r. Ok (record { params = length f.params; locals = r.1.locals; body = r.0; line = f.line }, r.1.loops)) t e in
-      let h = made.statements_made known P Q R kept m f.result f.body false (fine m f.result) (begun f.params loops) q.0 q.1 in
-      subst (λ (t : TFunc × List TNote). FuncSized t.0) (same q.0 q.2)
-      (stmts_of_terms q.0.0 (record { exprs = exprs_of (terms_of q.0.0).exprs h.exprs; places = places_of (terms_of q.0.0).places h.places }))
-    where
-      same : (r : List TStmt × Progress)
-          → ◌≡◌ {A = Result (TFunc
-          × List TNote) TypeCause} (Ok (record { params = length f.params; locals = r.1.locals; body = r.0; line = f.line }, r.1.loops)) (Ok t)
-          → ◌≡◌ {A = TFunc × List TNote} (record { params = length f.params; locals = r.1.locals; body = r.0; line = f.line }, r.1.loops) t
-      same r e = cc
-
-  funcs_sized : (m : ℕ) (fs : List Func) (loops : List TNote) (z : List TFunc × List TNote) → AllOf FineFunc fs → funcs_typed known m fs loops ≡ Ok z
-      → AllOf FuncSized z.0
-  funcs_sized m [] loops z fine e = subst (λ (z : List TFunc × List TNote). AllOf FuncSized z.0) (same e) n.none
-    where
-      same : ◌≡◌ {A = Result (List TFunc × List TNote) TypeCause} (Ok ([], loops)) (Ok z) → ◌≡◌ {A = List TFunc × List TNote} ([], loops) z
-      same e = cc
-  funcs_sized m (f ∷ fs) loops z (n.more fine rest) e =
-      let a = then_ok (func_typed known m f loops) (λ t. and_then (funcs_typed known (m + 1) fs t.1) (λ ts. Ok (t.0 ∷ ts.0, ts.1))) z e in
-      let b = then_ok (funcs_typed known (m + 1) fs a.0.1) (λ ts. Ok (a.0.0 ∷ ts.0, ts.1)) z a.2 in
-      subst (λ (z : List TFunc × List TNote). AllOf FuncSized z.0) (same a.0 b.0 b.2)
-      (n.more (func_sized m f loops a.0 fine a.1) (funcs_sized (m + 1) fs a.0.1 b.0 rest b.1))
-    where
-      same : (a : TFunc × List TNote) (b : List TFunc × List TNote) → ◌≡◌ {A = Result (List TFunc × List TNote) TypeCause} (Ok (a.0 ∷ b.0, b.1)) (Ok z)
-          → ◌≡◌ {A = List TFunc × List TNote} (a.0 ∷ b.0, b.1) z
-      same a b e = cc
+  funcs_sized : (ts : List TFunc) → AllOf (MadeFunc Sized known P Q R kept) ts → AllOf FuncSized ts
+  funcs_sized [] n.none = n.none
+  funcs_sized (t ∷ ts) (n.more h hs) =
+      n.more (stmts_of_terms t.body (record { exprs = exprs_of (terms_of t.body).exprs h.exprs; places = places_of (terms_of t.body).places h.places }))
+      (funcs_sized ts hs)
 
 -- ---- the whole tree
-
-at_index : {A : Type 0} (P : A → Type 0) (xs : List A) (k : ℕ) (x : A) → AllOf P xs → slice_get xs k ≡ Some x → P x
-at_index P [] k x h e = absurd cc
-at_index P (y ∷ ys) zero x (n.more h hs) e = subst P (same e) h
-  where
-    same : Some y ≡ Some x → y ≡ x
-    same e = cc
-at_index P (y ∷ ys) (suc k) x (n.more h hs) e = at_index P ys k x hs e
 
 bodies_obey : (fs : List TFunc) → AllOf (λ t. stmts_obey in_range t.body ≡ true) fs → (f : ℕ) → stmts_obey in_range (body_of (slice_get fs f)) ≡ true
 bodies_obey [] h f = refl
@@ -216,15 +188,6 @@ global_starts : (known : Known) (gs : List GlobalDef) → AllOf (λ (x : GlobalD
     → AllOf (λ (x : TGlobal). has_64_bits x.start ≡ true) (globals_typed known gs)
 global_starts known [] n.none = n.none
 global_starts known (g ∷ gs) (n.more h hs) = n.more h (global_starts known gs hs)
-
-abbrev tree_with : the_layout.Layout → Program → ℕ → List TFunc × List TNote → Typed
-tree_with layout p main fs = record {
-  globals = globals_typed (known_of layout p.items) (globals_in p.items);
-  funcs = fs.0;
-  main = main;
-  loops = fs.1;
-  nodes = capped (program_nodes p);
-}
 
 -- a program that the grammar derives from tokens whose numbers have 64 bits
 module _ (ts : Tokens) (sized : AllByRecursion TokenSized ts) (short : length ts ≤ 2 ^ 21) (p : Program) (derives : AllItems ts p.items)
@@ -239,7 +202,7 @@ module _ (ts : Tokens) (sized : AllByRecursion TokenSized ts) (short : length ts
   abbrev at : Known
   at = known_of layout p.items
 
-  funcs_fine : AllOf (FineFunc at few small) (funcs_in p.items)
+  funcs_fine : AllOf (FineFunc Sized at (P at few small) (Q at few small) (R at few small) (kept at few small)) (funcs_in p.items)
   funcs_fine =
       bodies_sized (FineExpr at few small) (fine_exprs at few small) (FineStmt at few small) (FineKind at few small) (fine_stmts at few small) derives sized
 
@@ -247,23 +210,21 @@ module _ (ts : Tokens) (sized : AllByRecursion TokenSized ts) (short : length ts
   starts_fine =
       starts_sized (FineExpr at few small) (fine_exprs at few small) (FineStmt at few small) (FineKind at few small) (fine_stmts at few small) derives sized
 
+  -- what holds of the functions of the tree
+  funcs_obey : (z : List TFunc × List TNote) → funcs_typed at 0 (funcs_in p.items) [] ≡ Ok z → AllOf (FuncSized at few small) z.0
+  funcs_obey z e =
+      funcs_sized at few small z.0
+      (funcs_made Sized at (P at few small) (Q at few small) (R at few small) (kept at few small) 0 (funcs_in p.items) [] z funcs_fine e)
+
   typed_sized : (typed : Typed) → typed_with layout p ≡ Ok typed → IsSized typed
-  unfolding typed_with
   typed_sized typed e =
-      let a = then_ok (items_checked p.items [] p.items) (λ _. and_then (main_of (funcs_in p.items))
-      (λ main. and_then (funcs_typed at 0 (funcs_in p.items) []) (λ fs. Ok (tree_with layout p main fs)))) typed e in
-      let b = then_ok (main_of (funcs_in p.items))
-      (λ main. and_then (funcs_typed at 0 (funcs_in p.items) []) (λ fs. Ok (tree_with layout p main fs))) typed a.2 in
-      let c = then_ok (funcs_typed at 0 (funcs_in p.items) []) (λ fs. Ok (tree_with layout p b.0 fs)) typed b.2 in
-      subst IsSized (same (tree_with layout p b.0 c.0) c.2) (record {
-        code = bodies_obey c.0.0 (funcs_sized at few small 0 (funcs_in p.items) [] c.0 funcs_fine c.1);
+      let t = made_of layout p typed e in
+      subst IsSized t.is (record {
+        code = bodies_obey t.funcs.0 (funcs_obey t.funcs t.funcs_are);
         starts = λ k g is.
             fits_64 g.start (at_index (λ (x : TGlobal). has_64_bits x.start ≡ true) (globals_typed at (globals_in p.items)) k g
             (global_starts at (globals_in p.items) starts_fine) is);
       })
-    where
-      same : (u : Typed) → ◌≡◌ {A = Result Typed TypeCause} (Ok u) (Ok typed) → u ≡ typed
-      same u e = cc
 
 -- ---- accepted sources
 

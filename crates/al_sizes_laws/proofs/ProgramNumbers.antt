@@ -24,7 +24,8 @@ use Rattle.al_rules.specs.Names as n
 use Rattle.al_rules.specs.Scopes.{globals_in, funcs_in}
 use Rattle.al_rules.specs.Programs.{start_of}
 use Rattle.al_graded_laws.specs.InRange.{has_64_bits}
-use Rattle.al_sizes_laws.proofs.TreesOfTokens.{Good, Found, takes_kind, takes, base, stars, declarator, ExprCases, StmtCases, inners}
+use Rattle.al_runs_laws.proofs.NumberedTrees.{ExprCases, StmtCases}
+use Rattle.al_sizes_laws.proofs.TreesOfTokens.{Sized, Good, Found, takes_kind, takes, base, stars, declarator, inners}
 
 -- ---- phrases leave tokens whose numbers have 64 bits
 
@@ -97,7 +98,7 @@ few_globals (g.next {is = is} {js = js} r q) = let x = counted r in let y = few_
 
 -- ---- items
 
-module _ (P : Expr → Type 0) (c : ExprCases P) (S : ℕ → CType → Stmt → Type 0) (K : ℕ → CType → StmtKind → Type 0)
+module _ (P : Expr → Type 0) (c : ExprCases Sized P) (S : ℕ → CType → Stmt → Type 0) (K : ℕ → CType → StmtKind → Type 0)
     (d : (m : ℕ) (a : CType) → StmtCases P (S m a) (K m a)) where
   -- the statements of a function, by its number and its result
   abbrev pub BodySized : Func → Type 0
