@@ -1,5 +1,5 @@
 -- What typing makes of functions and of a program whose numbers are of a kind.
-use Rattle.std.proofs.Common.{◌≡◌, ℕ, zero, suc, ◌+◌, List, [], ◌∷◌, length, Option, Some, Result, Ok, slice_get, subst}
+use Rattle.std.proofs.Common.{◌≡◌, ℕ, zero, suc, ◌+◌, false, List, [], ◌∷◌, length, Some, Result, Ok, slice_get, subst}
 use Rattle.std.specs.Prelude.{ℤ}
 use Rattle.al_source.specs.Steps.{and_then}
 use Rattle.al_source.specs.declared.source_tree.CType.{CType}

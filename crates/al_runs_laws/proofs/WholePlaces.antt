@@ -1,5 +1,5 @@
 -- In the typed tree of a program no place is formed within a global of one word.
-use Rattle.std.proofs.Common.{◌≡◌, ℕ, zero, suc, ◌+◌, ◌*◌, Bool, true, false, not, List, [], ◌∷◌, map, Option, Some, None, is_some, option_map, Ok, slice_get, refl, sym, ap, ◌∙◌, subst}
+use Rattle.std.proofs.Common.{◌≡◌, ℕ, zero, suc, ◌*◌, Bool, true, false, not, List, [], ◌∷◌, map, Option, Some, None, is_some, option_map, Ok, slice_get, refl, sym, ap, ◌∙◌, subst}
 use Rattle.std.specs.Prelude.{ℤ, pos}
 use Rattle.std.specs.List.{list_all}
 use Rattle.al_source.specs.declared.source_tree.CType.{CType, out-CType}
