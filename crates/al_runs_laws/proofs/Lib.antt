@@ -15,4 +15,5 @@ pub mod MakingStatements
 pub mod MakingPrograms
 pub mod WholePlaces
 pub mod Sourced
+pub mod AcceptedParts
 pub mod AcceptedRuns

@@ -1,6 +1,6 @@
 -- What typing makes of a statement whose numbers are of a kind: what the operations on expressions and places keep holds of
 -- all terms in it.
-use Rattle.std.proofs.Common.{◌≡◌, ℕ, ◌==◌, Bool, true, false, not, if◌then◌else◌, List, [], ◌∷◌, ◌++◌, map, length, Option, Some, None, Ok, pos, refl, sym, ap, ◌∙◌, subst}
+use Rattle.std.proofs.Common.{◌≡◌, ℕ, ◌==◌, Bool, true, false, not, if◌then◌else◌, List, [], ◌∷◌, map, length, Option, Some, None, Ok, pos, refl, sym, ap, ◌∙◌, subst}
 use Rattle.std.specs.Prelude.{ℤ}
 use Rattle.al_source.specs.Steps.{and_then}
 use Rattle.al_source.specs.declared.annotations.LoopNote.{LoopNote}
@@ -36,6 +36,7 @@ use Rattle.al_rules.specs.Walks.{Progress, Walk, bind, pure, checks, lift, fails
 use Rattle.al_rules.specs.Statements as w
 use Rattle.al_rules.proofs.StatementNodes as nodes
 use Rattle.al_rules_laws.proofs.SourceInduction.{IfAny, present}
+use Rattle.al_rules_laws.proofs.LoopEntries.{all_append}
 use Rattle.al_rules_laws.proofs.WalkFacts.{Ends, bind_ends, pure_is, check_is, within_ends, never_ends}
 use Rattle.al_runs_laws.proofs.NumberedTrees.{StmtCases}
 use Rattle.al_runs_laws.proofs.Making.{Gives, gives_value, gives_then, gives_after, Kept}
@@ -76,10 +77,6 @@ by_walk P same h s z e = h s z (sym (ap (λ f. f s) same) ∙ e)
 abbrev pub terms_in : TKind → Terms
 terms_in = fold-TKind Terms Terms kind_terms (λ s. s.kind)
 
-all_append : {A : Type 0} (P : A → Type 0) (xs ys : List A) → AllOf P xs → AllOf P ys → AllOf P (xs ++ ys)
-all_append P [] ys n.none k = k
-all_append P (x ∷ xs) ys (n.more h hs) k = n.more h (all_append P xs ys hs k)
-
 -- a place of which something holds at a type
 abbrev pub Stands : (CType → TPlace → Type 0) → TPlace → Type 0
 Stands Q q = (a : CType) × Q a q
@@ -109,8 +106,8 @@ module _ (N : ℤ → Type 0) (known : Known) (P : TExpr → Type 0) (Q : CType 
 
   two : (s t : Terms) → Made s → Made t → Made (both_terms s t)
   two s t h k = record {
-    exprs = all_append P s.exprs t.exprs h.exprs k.exprs;
-    places = all_append (Stands Q) s.places t.places h.places k.places;
+    exprs = all_append h.exprs k.exprs;
+    places = all_append h.places k.places;
   }
 
   abbrev MadeIn : TKind → Type 0

@@ -1,19 +1,16 @@
 -- The numbers in the tree of an accepted source have their sizes.
-use Rattle.std.proofs.Common.{◌≡◌, ℕ, zero, suc, ◌+◌, ◌*◌, ◌^◌, ◌≤◌, ◌<◌, Bool, true, false, nat_lt, if◌then◌else◌, List, [], ◌∷◌, map, length, Some, Result, Ok, Err, slice_get, refl, sym, ap, ◌∙◌, subst, arith}
+use Rattle.std.proofs.Common.{◌≡◌, ℕ, zero, suc, ◌*◌, ◌^◌, ◌≤◌, ◌<◌, Bool, true, false, nat_lt, if◌then◌else◌, List, [], ◌∷◌, map, length, Result, Ok, Err, slice_get, refl, sym, ap, ◌∙◌, subst, arith}
 use Rattle.std.specs.Prelude.{ℤ, pos}
 use Rattle.std.specs.List.{AllByRecursion}
 use Rattle.std.proofs.lemmas.Option.{slice_get_within}
-use Rattle.al_source.specs.Steps.{and_then}
-use Rattle.al_source.specs.declared.limits.TheConstants.{SOURCE_BYTES, SOURCE_NODES, OBJECT_WORDS}
+use Rattle.al_source.specs.declared.limits.TheConstants.{SOURCE_BYTES, OBJECT_WORDS}
 use Rattle.al_source.specs.declared.source_tree.CType.{CType}
 use Rattle.al_source.specs.declared.source_tree.Expr.{Expr}
 use Rattle.al_source.specs.declared.source_tree.Stmt.{Stmt}
 use Rattle.al_source.specs.declared.source_tree.StmtKind.{StmtKind}
 use Rattle.al_source.specs.declared.source_tree.GlobalDef.{GlobalDef}
-use Rattle.al_source.specs.declared.source_tree.Func.{Func}
 use Rattle.al_source.specs.declared.source_tree.Item.{Item}
 use Rattle.al_source.specs.declared.source_tree.Program.{Program}
-use Rattle.al_ast.specs.Nodes.{capped, program_nodes}
 use Rattle.al_grammar.specs.Characters.{Bytes}
 use Rattle.al_grammar.specs.Phrases.{Tokens}
 use Rattle.al_grammar.specs.Steps.{Read}
@@ -21,7 +18,6 @@ use Rattle.al_grammar.specs.Programs.{AllItems}
 use Rattle.al_grammar.specs.ProgramParser as parser
 use Rattle.al_grammar.specs.Reading.{reading}
 use Rattle.al_grammar.proofs.ProgramFacts.{sound_program}
-use Rattle.al_core.specs.declared.choices.LoopInfo.{LoopInfo}
 use Rattle.al_core.specs.declared.typed_tree.TExpr.{TExpr, map-TExpr, fold-TExpr, fold-roll-TExpr}
 use Rattle.al_core.specs.declared.typed_tree.TPlace.{TPlace, map-TPlace, fold-TPlace, fold-roll-TPlace}
 use Rattle.al_core.specs.declared.typed_tree.TExpr.TheViews.{roll-TExpr, roll-TPlace}
@@ -31,13 +27,11 @@ use Rattle.al_core.specs.declared.typed_tree.TPlace.TheVariants as tp
 use Rattle.al_core.specs.declared.typed_tree.TFunc.{TFunc}
 use Rattle.al_core.specs.declared.typed_tree.TGlobal.{TGlobal}
 use Rattle.al_core.specs.declared.typed_tree.TNote.{TNote}
-use Rattle.al_core.specs.declared.typed_tree.TStmt.{TStmt}
 use Rattle.al_core.specs.declared.typed_tree.Typed.{Typed}
 use Rattle.al_core.specs.Accepted.{terms_of}
 use Rattle.al_core.specs.Meaning.{body_of}
-use Rattle.al_rules.specs.declared.faults.TypeCause.{TypeCause}
 use Rattle.al_rules.specs.declared.faults.Refusal.{Refusal}
-use Rattle.al_rules.specs.declared.faults.Refusal.TheVariants.{Lexical, Layout, Types, Notes, TooManyNodes}
+use Rattle.al_rules.specs.declared.faults.Refusal.TheVariants.{Lexical}
 use Rattle.al_rules.specs.declared.faults.LexicalCause.TheVariants.{TooLong}
 use Rattle.al_rules.specs.declared.layout.Layout as the_layout
 use Rattle.al_rules.specs.Names.{AllOf}
@@ -45,12 +39,9 @@ use Rattle.al_rules.specs.Names as n
 use Rattle.al_rules.specs.Types.{form, is_sized}
 use Rattle.al_rules.specs.Scopes.{Known, size, globals_in, funcs_in, known_of}
 use Rattle.al_rules.specs.Layouts.{no_layout, layout_of}
-use Rattle.al_rules.specs.Notes.{notes_of}
-use Rattle.al_rules.specs.Walks.{Progress}
-use Rattle.al_rules.specs.Statements as w
-use Rattle.al_rules.specs.Programs.{items_checked, main_of, begun, func_typed, funcs_typed, globals_typed, typed_with}
-use Rattle.al_rules.specs.Refusals.{because, lexical_cause, tokens_of, derived, program_of, tree_of, small_enough, annotated_well, accepted}
-use Rattle.al_rules_laws.proofs.Logic.{then_ok, and_both}
+use Rattle.al_rules.specs.Programs.{funcs_typed, globals_typed, typed_with}
+use Rattle.al_rules.specs.Refusals.{because, lexical_cause, tokens_of, derived, program_of}
+use Rattle.al_rules_laws.proofs.Logic.{and_both}
 use Rattle.al_graded_laws.specs.Rules.{every, expr_obeys, place_obeys, obeys, obeys_at, stmts_obey}
 use Rattle.al_graded_laws.specs.InRange.{has_64_bits, in_range}
 use Rattle.al_graded_laws.proofs.Values.{fits_64}
@@ -59,8 +50,8 @@ use Rattle.al_runs_laws.proofs.NumberedTrees.{ExprCases, StmtCases}
 use Rattle.al_runs_laws.proofs.Making.{Kept, GlobalAt, FineAnywhere, fine_anywhere}
 use Rattle.al_runs_laws.proofs.MakingStatements.{Stands}
 use Rattle.al_runs_laws.proofs.MakingStatements as made
-use Rattle.al_runs_laws.proofs.MakingPrograms.{FineFunc, MadeFunc, funcs_made, at_index}
-use Rattle.al_runs_laws.proofs.MakingPrograms.{tree_of as made_of}
+use Rattle.al_runs_laws.proofs.MakingPrograms.{FineFunc, MadeFunc, funcs_made, tree_of, at_index}
+use Rattle.al_runs_laws.proofs.AcceptedParts.{because_ok, accepted_as}
 use Rattle.al_sizes_laws.specs.Sized.{AcceptedAreSized}
 use Rattle.al_sizes_laws.proofs.TokenNumbers.{TokenSized, reading_sized}
 use Rattle.al_sizes_laws.proofs.TreesOfTokens.{Sized}
@@ -218,7 +209,7 @@ module _ (ts : Tokens) (sized : AllByRecursion TokenSized ts) (short : length ts
 
   typed_sized : (typed : Typed) → typed_with layout p ≡ Ok typed → IsSized typed
   typed_sized typed e =
-      let t = made_of layout p typed e in
+      let t = tree_of layout p typed e in
       subst IsSized t.is (record {
         code = bodies_obey t.funcs.0 (funcs_obey t.funcs t.funcs_are);
         starts = λ k g is.
@@ -227,13 +218,6 @@ module _ (ts : Tokens) (sized : AllByRecursion TokenSized ts) (short : length ts
       })
 
 -- ---- accepted sources
-
-because_ok : {A F : Type 0} (cause : F → Refusal) (r : Result A F) (a : A) → because cause r ≡ Ok a → r ≡ Ok a
-because_ok cause (Ok b) a e = ap Ok (same e)
-  where
-    same : ◌≡◌ {A = Result _ Refusal} (Ok b) (Ok a) → b ≡ a
-    same e = cc
-because_ok cause (Err f) a e = absurd cc
 
 -- the tokens of a source that is short enough
 record ReadTokens (source : Bytes) (ts : Tokens) : Type 0 where
@@ -258,28 +242,10 @@ items_derived ts p e = by (parser.all_items ts) refl e
         same q e = cc
     by (Err rest) is e = absurd cc
 
-small_is : (b : Bool) (t u : Typed × List LoopInfo) → (if b then Err TooManyNodes else Ok t) ≡ Ok u → t ≡ u
-small_is true t u e = absurd cc
-small_is false t u e = cc
-
-noted_is : (typed : Typed) (t : Typed × List LoopInfo) → annotated_well typed ≡ Ok t → typed ≡ t.0
-noted_is typed t e =
-    let q = then_ok (because Notes (notes_of typed)) (λ infos. small_enough (typed, infos)) t e in
-    ap (λ (t : Typed × List LoopInfo). t.0) (small_is (nat_lt SOURCE_NODES typed.nodes) (typed, q.0) t q.2)
-
-tree_sized : (source : Bytes) (ts : Tokens) (p : Program) (typed : Typed) → ReadTokens source ts → AllItems ts p.items → tree_of p ≡ Ok typed → IsSized typed
-tree_sized source ts p typed r d e =
-    let read = reading_sized source ts r.read in
-    let short : length ts ≤ 2 ^ 21 = let a = read.1 in let b = r.short in omega arith in
-    let l = then_ok (because Layout (layout_of p)) (λ layout. because Types (typed_with layout p)) typed e in
-    typed_sized ts read.0 short p d l.0 (because_ok Layout (layout_of p) l.0 l.1) typed (because_ok Types (typed_with l.0 p) typed l.2)
-
 pub accepted_are_sized : AcceptedAreSized
-unfolding accepted
 accepted_are_sized source typed infos e =
-    let tokens = then_ok (tokens_of source)
-    (λ tokens. and_then (program_of tokens) (λ p. and_then (tree_of p) annotated_well)) (typed, infos) e in
-    let program = then_ok (program_of tokens.0) (λ p. and_then (tree_of p) annotated_well) (typed, infos) tokens.2 in
-    let tree = then_ok (tree_of program.0) annotated_well (typed, infos) program.2 in
-    subst IsSized (noted_is tree.0 (typed, infos) tree.2)
-    (tree_sized source tokens.0 program.0 tree.0 (tokens_read source tokens.0 tokens.1) (items_derived tokens.0 program.0 program.1) tree.1)
+    let a = accepted_as source typed infos e in
+    let r = tokens_read source a.tokens a.are_tokens in
+    let read = reading_sized source a.tokens r.read in
+    let short : length a.tokens ≤ 2 ^ 21 = let few = read.1 in let bytes = r.short in omega arith in
+    typed_sized a.tokens read.0 short a.program (items_derived a.tokens a.program a.is_program) a.tree.layout a.tree.laid_out typed a.tree.is_typed

@@ -1,15 +1,12 @@
 -- Induction over the trees that the grammar derives from tokens whose numbers have 64 bits: each number in such a tree
 -- has 64 bits.
-use Rattle.std.proofs.Common.{◌≡◌, ℕ, true, List, [], ◌∷◌, ◌++◌, Option, Some, None, refl, subst}
+use Rattle.std.proofs.Common.{◌≡◌, ℕ, true, List, [], ◌∷◌, Option, Some, None, refl, subst}
 use Rattle.std.specs.Prelude.{ℤ, pos}
 use Rattle.std.specs.List.{AllByRecursion}
 use Rattle.al_source.specs.declared.tokens.TokenKind.{TokenKind}
 use Rattle.al_source.specs.declared.tokens.Key.TheVariants as key
 use Rattle.al_grammar.specs.Words.{key_text}
-use Rattle.al_source.specs.declared.operators.UnOp.{UnOp}
-use Rattle.al_source.specs.declared.operators.BinOp.{BinOp}
 use Rattle.al_source.specs.declared.operators.RedOp.{RedOp}
-use Rattle.al_source.specs.declared.texts.Piece.{Piece}
 use Rattle.al_source.specs.declared.annotations.Policy.{Policy}
 use Rattle.al_source.specs.declared.annotations.CommitOrder.{CommitOrder}
 use Rattle.al_source.specs.declared.annotations.LoopNote.{LoopNote}
@@ -17,8 +14,7 @@ use Rattle.al_source.specs.declared.annotations.NamedRed.{NamedRed}
 use Rattle.al_source.specs.declared.source_tree.CType.{CType}
 use Rattle.al_source.specs.declared.source_tree.Field.{Field}
 use Rattle.al_source.specs.declared.source_tree.Expr.{Expr}
-use Rattle.al_source.specs.declared.source_tree.Expr.TheVariants as e
-use Rattle.al_source.specs.declared.source_tree.Stmt.{Stmt, roll-Stmt}
+use Rattle.al_source.specs.declared.source_tree.Stmt.{Stmt}
 use Rattle.al_source.specs.declared.source_tree.StmtKind.{StmtKind}
 use Rattle.al_source.specs.declared.source_tree.StmtKind.TheVariants as s
 use Rattle.al_grammar.specs.declared.operators.Joint.{Joint}
@@ -37,6 +33,7 @@ use Rattle.al_grammar.specs.Statements as g
 use Rattle.al_rules.specs.Names.{Name, AllOf}
 use Rattle.al_rules.specs.Names as n
 use Rattle.al_rules_laws.proofs.SourceInduction.{IfAny, absent, present}
+use Rattle.al_rules_laws.proofs.LoopEntries.{all_append}
 use Rattle.al_graded_laws.specs.InRange.{has_64_bits}
 use Rattle.al_runs_laws.proofs.NumberedTrees.{ExprCases, StmtCases}
 use Rattle.al_sizes_laws.proofs.TokenNumbers.{KindSized, TokenSized}
@@ -186,10 +183,6 @@ note (g.note p o r) h = reductions r (order o (policy p h))
 
 -- ---- statements
 
-all_append : {A : Type 0} (P : A → Type 0) {xs ys : List A} → AllOf P xs → AllOf P ys → AllOf P (xs ++ ys)
-all_append P n.none k = k
-all_append P (n.more h hs) k = n.more h (all_append P hs k)
-
 -- the parts of a loop's head
 pub record HeadParts (P : Expr → Type 0) (S : Stmt → Type 0) (a : Option Stmt) (b : Option Expr) (d : Option Stmt) : Type 0 where
   pub first : IfAny S a
@@ -275,4 +268,4 @@ module _ (P : Expr → Type 0) (c : ExprCases Sized P) (S : Stmt → Type 0) (K 
 
     pub inners : {k : ℕ} {ts us : Tokens} {ss : List Stmt} → Inners k ts ss us → Good ts → Found (AllOf S ss) us
     inners g.done h = (n.none, h)
-    inners (g.next r q) h = let a = inner r h in let b = inners q a.1 in (all_append S a.0 b.0, b.1)
+    inners (g.next r q) h = let a = inner r h in let b = inners q a.1 in (all_append a.0 b.0, b.1)
