@@ -50,6 +50,9 @@ pub record AcceptedAs (source : Bytes) (typed : Typed) (infos : List LoopInfo) :
   pub tree : IsTreeOf program typed
   pub entries : notes_of typed ≡ Ok infos
 
+as_noted : (source : Bytes) (t u : Typed × List LoopInfo) → t ≡ u → AcceptedAs source t.0 t.1 → AcceptedAs source u.0 u.1
+as_noted source t u e h = subst (λ (t : Typed × List LoopInfo). AcceptedAs source t.0 t.1) e h
+
 pub accepted_as : (source : Bytes) (typed : Typed) (infos : List LoopInfo) → accepted source ≡ Ok (typed, infos) → AcceptedAs source typed infos
 unfolding accepted
 accepted_as source typed infos e =
@@ -59,7 +62,7 @@ accepted_as source typed infos e =
     let tree = then_ok (tree_of program.0) annotated_well (typed, infos) program.2 in
     let n = then_ok (because Notes (notes_of tree.0)) (λ infos. small_enough (tree.0, infos)) (typed, infos) tree.2 in
     let same : ◌≡◌ {A = Typed × List LoopInfo} (tree.0, n.0) (typed, infos) = small_is (nat_lt SOURCE_NODES tree.0.nodes) (tree.0, n.0) (typed, infos) n.2 in
-    subst (λ (t : Typed × List LoopInfo). AcceptedAs source t.0 t.1) same (record {
+    as_noted source (tree.0, n.0) (typed, infos) same (record {
       tokens = tokens.0;
       are_tokens = tokens.1;
       program = program.0;

@@ -1,5 +1,5 @@
 -- An accepted source is one whose runs are serial.
-use Rattle.std.proofs.Common.{◌≡◌, ℕ, Bool, true, List, [], Option, Some, None, Ok, slice_get, option_map, refl, sym, ap, subst, ◌∙◌, inl}
+use Rattle.std.proofs.Common.{◌≡◌, ℕ, true, List, [], Option, Some, None, Ok, slice_get, option_map, refl, sym, ap, subst, ◌∙◌, inl}
 use Rattle.std.specs.Prelude.{ℤ}
 use Rattle.std.proofs.lemmas.Option.{slice_get-map}
 use Rattle.al_source.specs.declared.source_tree.Program.{Program}
