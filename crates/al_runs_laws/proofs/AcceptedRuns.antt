@@ -1,9 +1,7 @@
 -- An accepted source is one whose runs are serial.
-use Rattle.std.proofs.Common.{◌≡◌, ℕ, Bool, true, false, List, [], Option, Some, None, Result, Ok, Err, slice_get, option_map, refl, sym, ap, subst, ◌∙◌, inl, if◌then◌else◌, nat_lt}
+use Rattle.std.proofs.Common.{◌≡◌, ℕ, true, List, [], Option, Some, None, Ok, slice_get, option_map, refl, sym, ap, subst, ◌∙◌, inl}
 use Rattle.std.specs.Prelude.{ℤ}
 use Rattle.std.proofs.lemmas.Option.{slice_get-map}
-use Rattle.al_source.specs.Steps.{and_then}
-use Rattle.al_source.specs.declared.limits.TheConstants.{SOURCE_NODES}
 use Rattle.al_source.specs.declared.source_tree.Program.{Program}
 use Rattle.al_grammar.specs.Characters.{Bytes}
 use Rattle.al_core.specs.declared.choices.Choice.{Choice}
@@ -14,67 +12,41 @@ use Rattle.al_core.specs.Report.{report_of, mode_of, by_choices, report}
 use Rattle.al_core.specs.Run.{Sizes, Plainly, whole_run}
 use Rattle.al_core.specs.Verdicts.{is_in_order}
 use Rattle.al_laws.proofs.Words.{same_some, some_none}
-use Rattle.al_rules.specs.declared.faults.Refusal.{Refusal}
-use Rattle.al_rules.specs.declared.faults.Refusal.TheVariants.{Layout, Types, Notes, TooManyNodes}
-use Rattle.al_rules.specs.Layouts.{fault_of, layout_of}
+use Rattle.al_rules.specs.Layouts.{fault_of}
 use Rattle.al_rules.specs.Notes.{notes_of, or_no_infos}
 use Rattle.al_rules.specs.Notes as notes
 use Rattle.al_rules.specs.Programs.{typed_with, Resolved}
-use Rattle.al_rules.specs.Refusals.{because, tokens_of, program_of, tree_of, small_enough, annotated_well, accepted}
-use Rattle.al_rules_laws.proofs.Logic.{then_ok}
+use Rattle.al_rules.specs.Refusals.{accepted}
 use Rattle.al_rules_laws.proofs.LayoutFacts.{layout_is_sizes}
 use Rattle.al_rounds_laws.specs.Loops.{LooksAtReads}
 use Rattle.al_runs_laws.specs.Reports.{ChoicesAreOrdered, output_and_ending}
 use Rattle.al_runs_laws.specs.Sources.{IsSource, IsOwnChoice, ChoicesAreOwn}
 use Rattle.al_runs_laws.specs.Accepted.{IsSized, IsInput, LookAtReads, AreInOrder, annotated, unannotated, AcceptedAreSerial, AcceptedInOrderArePlain}
+use Rattle.al_runs_laws.proofs.AcceptedParts.{IsTreeOf, accepted_as}
 use Rattle.al_runs_laws.proofs.Sourced.{sources_are_serial, sources_in_order_are_plain}
 
 -- ---- the program of a source
 
-because_ok : {A F : Type 0} (cause : F → Refusal) (r : Result A F) (a : A) → because cause r ≡ Ok a → r ≡ Ok a
-because_ok cause (Ok b) a e = ap Ok (same e)
-  where
-    same : ◌≡◌ {A = Result _ Refusal} (Ok b) (Ok a) → b ≡ a
-    same e = cc
-because_ok cause (Err f) a e = absurd cc
-
-small_is : (b : Bool) (t u : Typed × List LoopInfo) → (if b then Err TooManyNodes else Ok t) ≡ Ok u → t ≡ u
-small_is true t u e = absurd cc
-small_is false t u e = cc
-
 -- the program whose tree this is
-pub record IsTreeOf (typed : Typed) (infos : List LoopInfo) : Type 0 where
-  pub program : Program
-  pub resolved : Resolved program typed
-  pub entries : notes_of typed ≡ Ok infos
+record IsProgram (typed : Typed) (infos : List LoopInfo) : Type 0 where
+  program : Program
+  resolved : Resolved program typed
+  entries : notes_of typed ≡ Ok infos
 
-resolved_of : (p : Program) (typed : Typed) → tree_of p ≡ Ok typed → Resolved p typed
-resolved_of p typed e =
-    let l = then_ok (because Layout (layout_of p)) (λ layout. because Types (typed_with layout p)) typed e in
-    let laid = because_ok Layout (layout_of p) l.0 l.1 in
-    let ok = because_ok Types (typed_with l.0 p) typed l.2 in
-    record { laid_out = ap fault_of laid; is_typed = ap (λ layout. typed_with layout p) (layout_is_sizes p l.0 laid) ∙ ok }
+resolved_of : (p : Program) (typed : Typed) → IsTreeOf p typed → Resolved p typed
+resolved_of p typed t = record {
+  laid_out = ap fault_of t.laid_out;
+  is_typed = ap (λ layout. typed_with layout p) (layout_is_sizes p t.layout t.laid_out) ∙ t.is_typed;
+}
 
-tree_with : (p : Program) (typed : Typed) (t : Typed × List LoopInfo) → tree_of p ≡ Ok typed → annotated_well typed ≡ Ok t → IsTreeOf t.0 t.1
-tree_with p typed t tree e =
-    let n = then_ok (because Notes (notes_of typed)) (λ infos. small_enough (typed, infos)) t e in
-    let entries = because_ok Notes (notes_of typed) n.0 n.1 in
-    let same : ◌≡◌ {A = Typed × List LoopInfo} (typed, n.0) t = small_is (nat_lt SOURCE_NODES typed.nodes) (typed, n.0) t n.2 in
-    subst (λ (t : Typed × List LoopInfo). IsTreeOf t.0 t.1) same
-    (record { program = p; resolved = resolved_of p typed tree; entries = entries })
-
-pub is_tree : (source : Bytes) (typed : Typed) (infos : List LoopInfo) → accepted source ≡ Ok (typed, infos) → IsTreeOf typed infos
-unfolding accepted
-is_tree source typed infos e =
-    let tokens = then_ok (tokens_of source)
-    (λ tokens. and_then (program_of tokens) (λ p. and_then (tree_of p) annotated_well)) (typed, infos) e in
-    let program = then_ok (program_of tokens.0) (λ p. and_then (tree_of p) annotated_well) (typed, infos) tokens.2 in
-    let tree = then_ok (tree_of program.0) annotated_well (typed, infos) program.2 in
-    tree_with program.0 tree.0 (typed, infos) tree.1 tree.2
+program_of : (source : Bytes) (typed : Typed) (infos : List LoopInfo) → accepted source ≡ Ok (typed, infos) → IsProgram typed infos
+program_of source typed infos e =
+    let a = accepted_as source typed infos e in
+    record { program = a.program; resolved = resolved_of a.program typed a.tree; entries = a.entries }
 
 -- ---- choices
 
-module _ (typed : Typed) (infos : List LoopInfo) (t : IsTreeOf typed infos) (line : ℕ) where
+module _ (typed : Typed) (infos : List LoopInfo) (t : IsProgram typed infos) (line : ℕ) where
   abbrev own : LoopInfo → Option Choice
   own info = Some (with_line line info.own)
 
@@ -122,7 +94,7 @@ plain_report typed infos input sizes =
 
 -- ---- the laws
 
-source_of : (typed : Typed) (infos : List LoopInfo) (input : List ℤ) (t : IsTreeOf typed infos) → IsSized typed → IsInput input
+source_of : (typed : Typed) (infos : List LoopInfo) (input : List ℤ) (t : IsProgram typed infos) → IsSized typed → IsInput input
     → IsSource t.program typed input
 source_of typed infos input t s i = record {
   resolved = t.resolved;
@@ -133,13 +105,13 @@ source_of typed infos input t s i = record {
 
 pub accepted_are_serial : AcceptedAreSerial
 accepted_are_serial source typed infos line input sizes is sized fit full look =
-    let t = is_tree source typed infos is in
+    let t = program_of source typed infos is in
     sources_are_serial t.program typed input sizes (annotated line infos) (source_of typed infos input t sized fit) full
     (annotations_are_own typed infos t line look)
 
 pub accepted_in_order_are_plain : AcceptedInOrderArePlain
 accepted_in_order_are_plain source typed infos line input sizes is sized fit full some look ordered =
-    let t = is_tree source typed infos is in
+    let t = program_of source typed infos is in
     sources_in_order_are_plain t.program typed input sizes (annotated line infos) (source_of typed infos input t sized fit) full some
     (annotations_are_own typed infos t line look) (annotations_are_ordered typed infos t line ordered)
     ∙ ap output_and_ending (sym (plain_report typed infos input sizes))

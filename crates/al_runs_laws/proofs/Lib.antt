@@ -9,8 +9,11 @@ pub mod Reporting
 pub mod NumbersKept
 pub mod SmallFacts
 pub mod SmallSized
+pub mod NumberedTrees
 pub mod Making
 pub mod MakingStatements
+pub mod MakingPrograms
 pub mod WholePlaces
 pub mod Sourced
+pub mod AcceptedParts
 pub mod AcceptedRuns

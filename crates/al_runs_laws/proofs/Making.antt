@@ -1,4 +1,4 @@
--- What typing makes of an expression is made of a few operations: what they keep holds of it.
+-- What typing makes of an expression whose numbers are of a kind is made of a few operations: what they keep holds of it.
 use Rattle.std.proofs.Common.{bytes_eq, ◌≡◌, ℕ, ◌*◌, Bool, true, false, List, [], ◌∷◌, length, ◌==◌, if◌then◌else◌, Option, Some, None, option_map, option_and_then, Ok, Err, slice_get, find, is_none, int_eq, pos, refl, sym, ◌∙◌, subst, ⊎_elim}
 use Rattle.std.specs.Prelude.{ℤ}
 use Rattle.al_source.specs.Steps.{and_then}
@@ -33,8 +33,11 @@ use Rattle.al_rules.specs.Scopes.{Variable as Named, Local as named_local, Globa
 use Rattle.al_rules.specs.Operands as o
 use Rattle.al_rules.specs.Expressions.{operand, operands, call, call_alone, sized}
 use Rattle.al_rules.proofs.ExpressionNodes.{operand-Number, operand-Null, operand-Var, operand-Unary, operand-Binary, operand-And, operand-Or, operand-Index, operand-Dot, operand-Arrow, operand-Deref, operand-Address, operand-Call, operand-SizeOf, operand-Calloc}
-use Rattle.al_rules_laws.proofs.Logic.{then_ok, some_ok, or_ok, ok_is, some_is}
-use Rattle.al_rules_laws.proofs.SourceInduction.{ExprCases, expr_induct}
+use Rattle.al_rules.specs.declared.faults.TypeKind.TheVariants.{Shape}
+use Rattle.al_rules.specs.Types.{form, is_sized, are_known}
+use Rattle.al_rules.specs.Scopes.{is_struct}
+use Rattle.al_rules_laws.proofs.Logic.{then_ok, ensure_ok, some_ok, or_ok, ok_is, some_is}
+use Rattle.al_runs_laws.proofs.NumberedTrees.{ExprCases}
 
 -- ---- checks that give values of which something holds
 
@@ -58,8 +61,12 @@ pub record GlobalAt (known : Known) (k : ℕ) (a : CType) : Type 0 where
   pub type : global.ty ≡ a
 
 -- what holds of the expressions, of the places by their types, and of places in which others are formed
-pub record Kept (known : Known) (P : TExpr → Type 0) (Q : CType → TPlace → Type 0) (R : TPlace → Type 0) : Type 0 where
-  pub number : (m : ℤ) → P (te.Number m)
+pub record Kept (N : ℤ → Type 0) (known : Known) (P : TExpr → Type 0) (Q : CType → TPlace → Type 0) (R : TPlace → Type 0) : Type 0 where
+  pub number : (m : ℤ) → N m → P (te.Number m)
+  -- what is null, and where a local begins
+  pub zero : P (te.Number (pos 0))
+  -- what `sizeof` gives
+  pub sizes : (a : CType) → is_sized (form a) ≡ true → P (te.Number (pos (8 * size known a)))
   pub local : (k : ℕ) → P (te.Local k)
   pub load : (a : CType) (k : Kind) (q : TPlace) → Q a q → P (te.Load k q)
   pub addr : (a : CType) (q : TPlace) → Q a q → P (te.Addr q)
@@ -82,9 +89,9 @@ pub record Kept (known : Known) (P : TExpr → Type 0) (Q : CType → TPlace →
   pub of_array : (a b : CType) (q : TPlace) → element a ≡ Some b → Q a q → R q
   pub of_pointer : (v : TExpr) → P v → R (tp.At v)
 
-module _ (known : Known) (P : TExpr → Type 0) (Q : CType → TPlace → Type 0) (R : TPlace → Type 0) (c : Kept known P Q R) where
+module _ (N : ℤ → Type 0) (known : Known) (P : TExpr → Type 0) (Q : CType → TPlace → Type 0) (R : TPlace → Type 0) (c : Kept N known P Q R) where
   abbrev pub Good : Operand → Type 0
-  Good (Literal m) = Unit {0}
+  Good (Literal m) = N m
   Good Null = Unit {0}
   Good (Value a v) = P v
   Good (Variable m a) = Unit {0}
@@ -123,8 +130,8 @@ module _ (known : Known) (P : TExpr → Type 0) (Q : CType → TPlace → Type 0
 
   used_well : (p : Operand) → Good p → UsedWell (o.used p)
   unfolding o.used
-  used_well (Literal m) h = c.number m
-  used_well Null h = c.number (pos 0)
+  used_well (Literal m) h = c.number m h
+  used_well Null h = c.zero
   used_well (Value a v) h = typed_well v h (out-CType a)
   used_well (Variable m a) h = typed_well (te.Local m) (c.local m) (out-CType a)
   used_well (Place a q) h = read_well a q h (out-CType a)
@@ -165,7 +172,7 @@ module _ (known : Known) (P : TExpr → Type 0) (Q : CType → TPlace → Type 0
   pointer_by Useless h q is = absurd cc
 
   literal_by : (d : Bool) (q : Option CType × TExpr) → (if d then Ok (None, te.Number (pos 0)) else Err Mismatch) ≡ Ok q → GoodPointer q
-  literal_by true q is = subst GoodPointer (ok_is is) (c.number (pos 0))
+  literal_by true q is = subst GoodPointer (ok_is is) (c.zero)
   literal_by false q is = absurd cc
 
   pointer_good : (p : Operand) → Good p → Gives GoodPointer (o.pointer p)
@@ -360,7 +367,7 @@ module _ (known : Known) (P : TExpr → Type 0) (Q : CType → TPlace → Type 0
   -- ---- each node
 
   module _ (scope : List Binding) where
-    abbrev Fine : Expr → Type 0
+    abbrev pub Fine : Expr → Type 0
     Fine x = Gives Good (operand known scope x)
 
     each_good : {xs : List Expr} → AllOf Fine xs → Gives (AllOf Good) (operands known scope xs)
@@ -376,9 +383,15 @@ module _ (known : Known) (P : TExpr → Type 0) (Q : CType → TPlace → Type 0
         (λ ps ds. gives_then (λ (g : Callee). Unit {0}) GoodTarget (callee_named known scope name) (λ f. o.called f ps) (λ g e. tt)
         (λ g _. called_good g ps ds))
 
-    fine_cases : ExprCases Fine
+    -- a type that `sizeof` takes
+    sized_form : (a : CType) → Gives (λ _. is_sized (form a) ≡ true) (sized known scope a)
+    sized_form a u f =
+        let q = then_ok (ensure (are_known (is_struct known.structs) (is_struct known.structs) a).0 Unknown) (λ _. ensure (is_sized (form a)) Shape) u f in
+        ensure_ok (is_sized (form a)) Shape u q.2
+
+    fine_cases : ExprCases N Fine
     fine_cases = record {
-      number = λ m p is. gives_value Good (Literal m) tt p (sym (operand-Number known scope m) ∙ is);
+      number = λ m h p is. gives_value Good (Literal m) h p (sym (operand-Number known scope m) ∙ is);
       null = λ p is. gives_value Good Null tt p (sym (operand-Null known scope) ∙ is);
       variable = λ name p is.
           let v = then_ok (some_or (variable_named known scope name) Unknown) (λ v. Ok (o.of_variable v)) p (sym (operand-Var known scope name) ∙ is) in
@@ -415,8 +428,8 @@ module _ (known : Known) (P : TExpr → Type 0) (Q : CType → TPlace → Type 0
           gives_then GoodTarget Good (call known scope name (operands known scope xs)) (λ d. Ok (Value d.0 d.1)) (call_good name xs hs)
           (λ d g. gives_value Good (Value d.0 d.1) g) p (sym (operand-Call known scope name xs) ∙ is);
       size = λ a p is.
-          gives_after Good (sized known scope a) (Ok (Value t.Int (te.Number (pos (8 * size known a)))))
-          (gives_value Good (Value t.Int (te.Number (pos (8 * size known a)))) (c.number (pos (8 * size known a)))) p
+          gives_then (λ _. is_sized (form a) ≡ true) Good (sized known scope a) (λ _. Ok (Value t.Int (te.Number (pos (8 * size known a))))) (sized_form a)
+          (λ _ h. gives_value Good (Value t.Int (te.Number (pos (8 * size known a)))) (c.sizes a h)) p
           (sym (operand-SizeOf known scope a) ∙ is);
       allocation = λ x a h p is.
           gives_then P Good (operand known scope x >>= o.integer) (λ m. sized known scope a >> Ok (Value (t.Ptr a) (te.Calloc m (size known a))))
@@ -426,26 +439,19 @@ module _ (known : Known) (P : TExpr → Type 0) (Q : CType → TPlace → Type 0
           (sym (operand-Calloc known scope x a) ∙ is);
     }
 
-    pub operand_good : (x : Expr) → Gives Good (operand known scope x)
-    operand_good = expr_induct Fine fine_cases
+    pub operands_good : (xs : List Expr) → AllOf Fine xs → Gives (AllOf Good) (operands known scope xs)
+    operands_good xs hs = each_good hs
 
-    all_fine : (xs : List Expr) → AllOf Fine xs
-    all_fine [] = n.none
-    all_fine (x ∷ xs) = n.more (operand_good x) (all_fine xs)
-
-    pub operands_good : (xs : List Expr) → Gives (AllOf Good) (operands known scope xs)
-    operands_good xs = each_good (all_fine xs)
-
-    alone_by : (name : Name) (xs : List Expr) (b : Bool)
+    alone_by : (name : Name) (xs : List Expr) → AllOf Fine xs → (b : Bool)
         → Gives P (if b then and_then (operands known scope xs) o.freed else and_then (call known scope name (operands known scope xs)) (λ d. Ok d.1))
-    alone_by name xs true = gives_then (AllOf Good) P (operands known scope xs) o.freed (operands_good xs) (λ ps ds. freed_good ps ds)
-    alone_by name xs false =
-        gives_then GoodTarget P (call known scope name (operands known scope xs)) (λ d. Ok d.1) (call_good name xs (all_fine xs))
+    alone_by name xs hs true = gives_then (AllOf Good) P (operands known scope xs) o.freed (operands_good xs hs) (λ ps ds. freed_good ps ds)
+    alone_by name xs hs false =
+        gives_then GoodTarget P (call known scope name (operands known scope xs)) (λ d. Ok d.1) (call_good name xs hs)
         (λ d g. gives_value P d.1 g)
 
     -- a call that is a statement
-    pub alone_good : (name : Name) (xs : List Expr) → Gives P (call_alone known scope name (operands known scope xs))
-    alone_good name xs = alone_by name xs (frees known scope name)
+    pub alone_good : (name : Name) (xs : List Expr) → AllOf Fine xs → Gives P (call_alone known scope name (operands known scope xs))
+    alone_good name xs hs = alone_by name xs hs (frees known scope name)
 
   -- a list of integers
   pub integers_each : (ps : List Operand) → AllOf Good ps → Gives (AllOf P) (each o.integer ps)
@@ -454,3 +460,31 @@ module _ (known : Known) (P : TExpr → Type 0) (Q : CType → TPlace → Type 0
       gives_then P (AllOf P) (o.integer p) (λ a. each o.integer ps >>= (λ as'. Ok (a ∷ as'))) (integer_good p d)
       (λ a g. gives_then (AllOf P) (AllOf P) (each o.integer ps) (λ as'. Ok (a ∷ as')) (integers_each ps ds)
       (λ as' gs. gives_value (AllOf P) (a ∷ as') (n.more g gs)))
+
+  -- ---- in each scope
+
+  abbrev pub FineAnywhere : Expr → Type 0
+  FineAnywhere x = (scope : List Binding) → Fine scope x
+
+  pub all_in : (scope : List Binding) {xs : List Expr} → AllOf FineAnywhere xs → AllOf (Fine scope) xs
+  all_in scope n.none = n.none
+  all_in scope (n.more h hs) = n.more (h scope) (all_in scope hs)
+
+  pub fine_anywhere : ExprCases N FineAnywhere
+  fine_anywhere = record {
+    number = λ m h scope. (fine_cases scope).number m h;
+    null = λ scope. (fine_cases scope).null;
+    variable = λ name scope. (fine_cases scope).variable name;
+    unary = λ op x h scope. (fine_cases scope).unary op x (h scope);
+    binary = λ op x y h i scope. (fine_cases scope).binary op x y (h scope) (i scope);
+    both = λ x y h i scope. (fine_cases scope).both x y (h scope) (i scope);
+    either = λ x y h i scope. (fine_cases scope).either x y (h scope) (i scope);
+    index = λ x y h i scope. (fine_cases scope).index x y (h scope) (i scope);
+    dot = λ x field h scope. (fine_cases scope).dot x field (h scope);
+    arrow = λ x field h scope. (fine_cases scope).arrow x field (h scope);
+    deref = λ x h scope. (fine_cases scope).deref x (h scope);
+    address = λ x h scope. (fine_cases scope).address x (h scope);
+    call = λ name xs hs scope. (fine_cases scope).call name xs (all_in scope hs);
+    size = λ a scope. (fine_cases scope).size a;
+    allocation = λ x a h scope. (fine_cases scope).allocation x a (h scope);
+  }

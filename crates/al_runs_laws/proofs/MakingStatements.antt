@@ -1,5 +1,7 @@
--- What typing makes of a statement: what the operations on expressions and places keep holds of all terms in it.
-use Rattle.std.proofs.Common.{◌≡◌, ℕ, ◌==◌, Bool, true, false, not, if◌then◌else◌, List, [], ◌∷◌, ◌++◌, map, length, Option, Some, None, Ok, pos, refl, sym, ap, ◌∙◌, subst}
+-- What typing makes of a statement whose numbers are of a kind: what the operations on expressions and places keep holds of
+-- all terms in it.
+use Rattle.std.proofs.Common.{◌≡◌, ℕ, ◌==◌, Bool, true, false, not, if◌then◌else◌, List, [], ◌∷◌, map, length, Option, Some, None, Ok, pos, refl, sym, ap, ◌∙◌, subst}
+use Rattle.std.specs.Prelude.{ℤ}
 use Rattle.al_source.specs.Steps.{and_then}
 use Rattle.al_source.specs.declared.annotations.LoopNote.{LoopNote}
 use Rattle.al_source.specs.declared.operators.BinOp.{BinOp}
@@ -33,8 +35,10 @@ use Rattle.al_rules.specs.Expressions as x
 use Rattle.al_rules.specs.Walks.{Progress, Walk, bind, pure, checks, lift, fails, add_local, begin_loop, end_loop, within}
 use Rattle.al_rules.specs.Statements as w
 use Rattle.al_rules.proofs.StatementNodes as nodes
-use Rattle.al_rules_laws.proofs.SourceInduction.{StmtCases, stmt_induct, IfAny, present}
+use Rattle.al_rules_laws.proofs.SourceInduction.{IfAny, present}
+use Rattle.al_rules_laws.proofs.LoopEntries.{all_append}
 use Rattle.al_rules_laws.proofs.WalkFacts.{Ends, bind_ends, pure_is, check_is, within_ends, never_ends}
+use Rattle.al_runs_laws.proofs.NumberedTrees.{StmtCases}
 use Rattle.al_runs_laws.proofs.Making.{Gives, gives_value, gives_then, gives_after, Kept}
 use Rattle.al_runs_laws.proofs.Making as e
 
@@ -73,20 +77,26 @@ by_walk P same h s z e = h s z (sym (ap (λ f. f s) same) ∙ e)
 abbrev pub terms_in : TKind → Terms
 terms_in = fold-TKind Terms Terms kind_terms (λ s. s.kind)
 
-all_append : {A : Type 0} (P : A → Type 0) (xs ys : List A) → AllOf P xs → AllOf P ys → AllOf P (xs ++ ys)
-all_append P [] ys n.none k = k
-all_append P (x ∷ xs) ys (n.more h hs) k = n.more h (all_append P xs ys hs k)
+-- a place of which something holds at a type
+abbrev pub Stands : (CType → TPlace → Type 0) → TPlace → Type 0
+Stands Q q = (a : CType) × Q a q
 
-module _ (known : Known) (P : TExpr → Type 0) (Q : CType → TPlace → Type 0) (R : TPlace → Type 0) (c : Kept known P Q R) (func : ℕ) (result : CType) where
-  abbrev pub Stands : TPlace → Type 0
-  Stands q = (a : CType) × Q a q
+-- what holds of all expressions and places of some terms
+pub record AllMade (P : TExpr → Type 0) (Q : CType → TPlace → Type 0) (t : Terms) : Type 0 where
+  pub exprs : AllOf P t.exprs
+  pub places : AllOf (Stands Q) t.places
 
-  pub record Made (t : Terms) : Type 0 where
-    pub exprs : AllOf P t.exprs
-    pub places : AllOf Stands t.places
+module _ (N : ℤ → Type 0) (known : Known) (P : TExpr → Type 0) (Q : CType → TPlace → Type 0) (R : TPlace → Type 0) (c : Kept N known P Q R)
+    (func : ℕ) (result : CType) where
+  abbrev Made : Terms → Type 0
+  Made t = AllMade P Q t
 
   abbrev Good : Operand → Type 0
-  Good = e.Good known P Q R c
+  Good = e.Good N known P Q R c
+
+  -- an expression in each scope
+  abbrev pub FineExpr : Expr → Type 0
+  FineExpr = e.FineAnywhere N known P Q R c
 
   nothing : Made no_terms
   nothing = record { exprs = n.none; places = n.none }
@@ -96,8 +106,8 @@ module _ (known : Known) (P : TExpr → Type 0) (Q : CType → TPlace → Type 0
 
   two : (s t : Terms) → Made s → Made t → Made (both_terms s t)
   two s t h k = record {
-    exprs = all_append P s.exprs t.exprs h.exprs k.exprs;
-    places = all_append Stands s.places t.places h.places k.places;
+    exprs = all_append h.exprs k.exprs;
+    places = all_append h.places k.places;
   }
 
   abbrev MadeIn : TKind → Type 0
@@ -124,24 +134,24 @@ module _ (known : Known) (P : TExpr → Type 0) (Q : CType → TPlace → Type 0
 
   -- ---- what is said of statements
 
-  abbrev Fine : Stmt → Type 0
+  abbrev pub Fine : Stmt → Type 0
   Fine b = (looped : Bool) → Leaves MadeStmt ((w.part known func result b).walk looped)
 
-  abbrev KindFine : StmtKind → Type 0
+  abbrev pub KindFine : StmtKind → Type 0
   KindFine d = (line : ℕ) (looped : Bool) → Leaves MadeIn ((w.kind_part known func result d).walk line looped)
 
-  operand_of : (line : ℕ) (a : Expr) → Leaves Good (w.operand_of known func result line a)
-  operand_of line a = leaves_checks Good line (λ scope. x.operand known (in_scope scope) a) (λ scope. e.operand_good known P Q R c (in_scope scope) a)
+  operand_of : (line : ℕ) (a : Expr) → FineExpr a → Leaves Good (w.operand_of known func result line a)
+  operand_of line a f = leaves_checks Good line (λ scope. x.operand known (in_scope scope) a) (λ scope. f (in_scope scope))
 
-  condition : (line : ℕ) (a : Expr) → Leaves P (w.condition known func result line a)
-  condition line a =
-      leaves_bind Good P (w.operand_of known func result line a) (λ p. lift line (o.scalar p)) (operand_of line a)
-      (λ p h. leaves_lift P line (o.scalar p) (e.scalar_good known P Q R c p h))
+  condition : (line : ℕ) (a : Expr) → FineExpr a → Leaves P (w.condition known func result line a)
+  condition line a f =
+      leaves_bind Good P (w.operand_of known func result line a) (λ p. lift line (o.scalar p)) (operand_of line a f)
+      (λ p h. leaves_lift P line (o.scalar p) (e.scalar_good N known P Q R c p h))
 
-  any_condition : (line : ℕ) (a : Option Expr) → Leaves KeptAny (w.any_condition known func result line a)
-  any_condition line None = leaves_pure KeptAny None tt
-  any_condition line (Some a) =
-      leaves_bind P KeptAny (w.condition known func result line a) (λ v. pure (Some v)) (condition line a) (λ v h. leaves_pure KeptAny (Some v) h)
+  any_condition : (line : ℕ) (a : Option Expr) → IfAny FineExpr a → Leaves KeptAny (w.any_condition known func result line a)
+  any_condition line None f = leaves_pure KeptAny None tt
+  any_condition line (Some a) (present f) =
+      leaves_bind P KeptAny (w.condition known func result line a) (λ v. pure (Some v)) (condition line a f) (λ v h. leaves_pure KeptAny (Some v) h)
 
   part_if : (allowed : w.Sort → Bool) (b : Stmt) (looped : Bool) → Fine b → Leaves MadeStmt (w.part_if allowed (w.part known func result b) looped)
   part_if allowed b looped h = by (allowed (w.part known func result b).sort)
@@ -174,97 +184,98 @@ module _ (known : Known) (P : TExpr → Type 0) (Q : CType → TPlace → Type 0
 
   -- ---- each kind of statement
 
-  initial : (line : ℕ) (a : CType) (v : Option Expr) → Leaves P (w.initial known func result line a v)
-  initial line a None = leaves_pure P (te.Number (pos 0)) (c.number (pos 0))
-  initial line a (Some v) =
-      leaves_bind Good P (w.operand_of known func result line v) (λ y. lift line (o.fitting a y)) (operand_of line v)
-      (λ y h. leaves_lift P line (o.fitting a y) (e.fitting_good known P Q R c y a h))
+  initial : (line : ℕ) (a : CType) (v : Option Expr) → IfAny FineExpr v → Leaves P (w.initial known func result line a v)
+  initial line a None f = leaves_pure P (te.Number (pos 0)) c.zero
+  initial line a (Some v) (present f) =
+      leaves_bind Good P (w.operand_of known func result line v) (λ y. lift line (o.fitting a y)) (operand_of line v f)
+      (λ y h. leaves_lift P line (o.fitting a y) (e.fitting_good N known P Q R c y a h))
 
   set_local : (m : ℕ) (v : TExpr) → P v → MadeIn (tk.SetLocal m v)
   set_local m v h = made_kind (TKind-F.SetLocal m v) (tk.SetLocal m v) (tk.rolls-SetLocal m v) (one v h)
 
-  declare_fine : (a : CType) (name : Name) (v : Option Expr) → KindFine (k.Declare a name v)
-  declare_fine a name v line looped =
+  declare_fine : (a : CType) (name : Name) (v : Option Expr) → IfAny FineExpr v → KindFine (k.Declare a name v)
+  declare_fine a name v f line looped =
       by_walk MadeIn (nodes.walks-Declare known func result a name v line looped)
       (leaves_after MadeIn (bind (checks line (λ scope. ensure (not (is_declared name scope)) Twice))
       (λ _. lift line (type_checked (is_struct known.structs) (is_struct known.structs) is_scalar a)))
       (λ _. bind (add_local name a) (λ m. bind (w.initial known func result line a v) (λ y. pure (tk.SetLocal m y))))
       (λ _. leaves_after MadeIn (add_local name a) (λ m. bind (w.initial known func result line a v) (λ y. pure (tk.SetLocal m y)))
-      (λ m. leaves_bind P MadeIn (w.initial known func result line a v) (λ y. pure (tk.SetLocal m y)) (initial line a v)
+      (λ m. leaves_bind P MadeIn (w.initial known func result line a v) (λ y. pure (tk.SetLocal m y)) (initial line a v f)
       (λ y h. leaves_pure MadeIn (tk.SetLocal m y) (set_local m y h)))))
 
-  place_expr : (q : TPlace) (v : TExpr) → Stands q → P v → Made (place_and_expr q v)
+  place_expr : (q : TPlace) (v : TExpr) → Stands Q q → P v → Made (place_and_expr q v)
   place_expr q v h g = record { exprs = n.more g n.none; places = n.more h n.none }
 
   assigned : (l y : Operand) → Good l → Good y → Gives MadeIn (w.assigned l y)
   assigned (Variable m a) y h g d f =
-      gives_then P MadeIn (o.fitting a y) (λ v. Ok (tk.SetLocal m v)) (e.fitting_good known P Q R c y a g)
+      gives_then P MadeIn (o.fitting a y) (λ v. Ok (tk.SetLocal m v)) (e.fitting_good N known P Q R c y a g)
       (λ v i. gives_value MadeIn (tk.SetLocal m v) (set_local m v i)) d f
   assigned (Place a q) y h g d f =
-      gives_then P MadeIn (o.fitting a y) (λ v. Ok (tk.Store q v)) (e.fitting_good known P Q R c y a g)
+      gives_then P MadeIn (o.fitting a y) (λ v. Ok (tk.Store q v)) (e.fitting_good N known P Q R c y a g)
       (λ v i. gives_value MadeIn (tk.Store q v) (made_kind (TKind-F.Store q v) (tk.Store q v) (tk.rolls-Store q v) (place_expr q v (a, h) i))) d f
   assigned (Literal m) y h g d f = absurd cc
   assigned Null y h g d f = absurd cc
   assigned (Value a v) y h g d f = absurd cc
 
-  assign_fine : (a b : Expr) → KindFine (k.Assign a b)
-  assign_fine a b line looped =
+  assign_fine : (a b : Expr) → FineExpr a → FineExpr b → KindFine (k.Assign a b)
+  assign_fine a b f d line looped =
       by_walk MadeIn (nodes.walks-Assign known func result a b line looped)
       (leaves_bind Good MadeIn (w.operand_of known func result line a)
       (λ l. bind (lift line (ensure (w.is_place l) NotPlace)) (λ _. bind (w.operand_of known func result line b) (λ r. lift line (w.assigned l r))))
-      (operand_of line a)
+      (operand_of line a f)
       (λ l h. leaves_after MadeIn (lift line (ensure (w.is_place l) NotPlace))
       (λ _. bind (w.operand_of known func result line b) (λ r. lift line (w.assigned l r)))
-      (λ _. leaves_bind Good MadeIn (w.operand_of known func result line b) (λ r. lift line (w.assigned l r)) (operand_of line b)
+      (λ _. leaves_bind Good MadeIn (w.operand_of known func result line b) (λ r. lift line (w.assigned l r)) (operand_of line b d)
       (λ r g. leaves_lift MadeIn line (w.assigned l r) (assigned l r h g)))))
 
   updated : (op : BinOp) (l y : Operand) → Good l → Good y → Gives MadeIn (w.updated op l y)
   updated op (Variable m a) y h g d f =
       gives_after MadeIn (ensure (is_int a) Mismatch) (and_then (o.integer y) (λ v. Ok (tk.UpdateLocal op m v)))
-      (gives_then P MadeIn (o.integer y) (λ v. Ok (tk.UpdateLocal op m v)) (e.integer_good known P Q R c y g)
+      (gives_then P MadeIn (o.integer y) (λ v. Ok (tk.UpdateLocal op m v)) (e.integer_good N known P Q R c y g)
       (λ v i. gives_value MadeIn (tk.UpdateLocal op m v)
       (made_kind (TKind-F.UpdateLocal op m v) (tk.UpdateLocal op m v) (tk.rolls-UpdateLocal op m v) (one v i)))) d f
   updated op (Place a q) y h g d f =
       gives_after MadeIn (ensure (is_int a) Mismatch) (and_then (o.integer y) (λ v. Ok (tk.UpdateAt op q v)))
-      (gives_then P MadeIn (o.integer y) (λ v. Ok (tk.UpdateAt op q v)) (e.integer_good known P Q R c y g)
+      (gives_then P MadeIn (o.integer y) (λ v. Ok (tk.UpdateAt op q v)) (e.integer_good N known P Q R c y g)
       (λ v i. gives_value MadeIn (tk.UpdateAt op q v)
       (made_kind (TKind-F.UpdateAt op q v) (tk.UpdateAt op q v) (tk.rolls-UpdateAt op q v) (place_expr q v (a, h) i)))) d f
   updated op (Literal m) y h g d f = absurd cc
   updated op Null y h g d f = absurd cc
   updated op (Value a v) y h g d f = absurd cc
 
-  update_fine : (op : BinOp) (a b : Expr) → KindFine (k.Update op a b)
-  update_fine op a b line looped =
+  update_fine : (op : BinOp) (a b : Expr) → FineExpr a → FineExpr b → KindFine (k.Update op a b)
+  update_fine op a b f d line looped =
       by_walk MadeIn (nodes.walks-Update known func result op a b line looped)
       (leaves_after MadeIn (lift line (ensure (w.may_update op) Shape))
       (λ _. bind (w.operand_of known func result line a)
       (λ l. bind (lift line (ensure (w.is_place l) NotPlace)) (λ _. bind (w.operand_of known func result line b) (λ r. lift line (w.updated op l r)))))
       (λ _. leaves_bind Good MadeIn (w.operand_of known func result line a)
       (λ l. bind (lift line (ensure (w.is_place l) NotPlace)) (λ _. bind (w.operand_of known func result line b) (λ r. lift line (w.updated op l r))))
-      (operand_of line a)
+      (operand_of line a f)
       (λ l h. leaves_after MadeIn (lift line (ensure (w.is_place l) NotPlace))
       (λ _. bind (w.operand_of known func result line b) (λ r. lift line (w.updated op l r)))
-      (λ _. leaves_bind Good MadeIn (w.operand_of known func result line b) (λ r. lift line (w.updated op l r)) (operand_of line b)
+      (λ _. leaves_bind Good MadeIn (w.operand_of known func result line b) (λ r. lift line (w.updated op l r)) (operand_of line b d)
       (λ r g. leaves_lift MadeIn line (w.updated op l r) (updated op l r h g))))))
 
-  call_fine : (name : Name) (xs : List Expr) → KindFine (k.Call name xs)
-  call_fine name xs line looped =
+  call_fine : (name : Name) (xs : List Expr) → AllOf FineExpr xs → KindFine (k.Call name xs)
+  call_fine name xs fs line looped =
       by_walk MadeIn (nodes.walks-Call known func result name xs line looped)
       (leaves_bind P MadeIn (checks line (λ scope. x.call_alone known (in_scope scope) name (x.operands known (in_scope scope) xs))) (λ v. pure (tk.Call v))
       (leaves_checks P line (λ scope. x.call_alone known (in_scope scope) name (x.operands known (in_scope scope) xs))
-      (λ scope. e.alone_good known P Q R c (in_scope scope) name xs))
+      (λ scope. e.alone_good N known P Q R c (in_scope scope) name xs (e.all_in N known P Q R c (in_scope scope) fs)))
       (λ v h. leaves_pure MadeIn (tk.Call v) (made_kind (TKind-F.Call v) (tk.Call v) (tk.rolls-Call v) (one v h))))
 
-  print_fine : (format : List Piece) (xs : List Expr) → KindFine (k.Print format xs)
-  print_fine format xs line looped =
+  print_fine : (format : List Piece) (xs : List Expr) → AllOf FineExpr xs → KindFine (k.Print format xs)
+  print_fine format xs fs line looped =
       by_walk MadeIn (nodes.walks-Print known func result format xs line looped)
       (leaves_bind (AllOf Good) MadeIn (w.operands_of known func result line xs)
       (λ ps. bind (lift line (ensure (length ps == w.numbers_in format) Count)) (λ _. bind (lift line (each o.integer ps)) (λ vs. pure (tk.Print format vs))))
-      (leaves_checks (AllOf Good) line (λ scope. x.operands known (in_scope scope) xs) (λ scope. e.operands_good known P Q R c (in_scope scope) xs))
+      (leaves_checks (AllOf Good) line (λ scope. x.operands known (in_scope scope) xs)
+      (λ scope. e.operands_good N known P Q R c (in_scope scope) xs (e.all_in N known P Q R c (in_scope scope) fs)))
       (λ ps hs. leaves_after MadeIn (lift line (ensure (length ps == w.numbers_in format) Count))
       (λ _. bind (lift line (each o.integer ps)) (λ vs. pure (tk.Print format vs)))
       (λ _. leaves_bind (AllOf P) MadeIn (lift line (each o.integer ps)) (λ vs. pure (tk.Print format vs))
-      (leaves_lift (AllOf P) line (each o.integer ps) (e.integers_each known P Q R c ps hs))
+      (leaves_lift (AllOf P) line (each o.integer ps) (e.integers_each N known P Q R c ps hs))
       (λ vs gs. leaves_pure MadeIn (tk.Print format vs)
       (made_kind (TKind-F.Print format vs) (tk.Print format vs) (tk.rolls-Print format vs) (record { exprs = gs; places = n.none }))))))
 
@@ -276,24 +287,24 @@ module _ (known : Known) (P : TExpr → Type 0) (Q : CType → TPlace → Type 0
       made_kind (TKind-F.If v a None) (tk.If v a None) (tk.rolls-If v a None)
       (two (one_expr v) (both_terms (terms a) no_terms) (one v h) (two (terms a) no_terms g nothing))
 
-  choice_fine : (v : Expr) (a : Stmt) (b : Option Stmt) → Fine a → IfAny Fine b → KindFine (k.If v a b)
-  choice_fine v a b h i line looped =
+  choice_fine : (v : Expr) (a : Stmt) (b : Option Stmt) → FineExpr v → Fine a → IfAny Fine b → KindFine (k.If v a b)
+  choice_fine v a b u h i line looped =
       by_walk MadeIn (nodes.walks-If known func result v a b line looped)
       (leaves_bind P MadeIn (w.condition known func result line v)
       (λ t. bind (w.part_if w.is_body (w.part known func result a) looped)
       (λ p. bind (w.any_part w.is_body (nodes.part_of known func result b) looped) (λ r. pure (tk.If t p r))))
-      (condition line v)
+      (condition line v u)
       (λ t g. leaves_bind MadeStmt MadeIn (w.part_if w.is_body (w.part known func result a) looped)
       (λ p. bind (w.any_part w.is_body (nodes.part_of known func result b) looped) (λ r. pure (tk.If t p r))) (part_if w.is_body a looped h)
       (λ p d. leaves_bind MadeAny MadeIn (w.any_part w.is_body (nodes.part_of known func result b) looped) (λ r. pure (tk.If t p r))
       (any_part w.is_body b looped i)
       (λ r f. leaves_pure MadeIn (tk.If t p r) (made_if t p r g d f)))))
 
-  while_fine : (v : Expr) (a : Stmt) → Fine a → KindFine (k.While v a)
-  while_fine v a h line looped =
+  while_fine : (v : Expr) (a : Stmt) → FineExpr v → Fine a → KindFine (k.While v a)
+  while_fine v a u h line looped =
       by_walk MadeIn (nodes.walks-While known func result v a line looped)
       (leaves_bind P MadeIn (w.condition known func result line v)
-      (λ t. bind (w.part_if w.is_body (w.part known func result a) true) (λ p. pure (tk.While t p))) (condition line v)
+      (λ t. bind (w.part_if w.is_body (w.part known func result a) true) (λ p. pure (tk.While t p))) (condition line v u)
       (λ t g. leaves_bind MadeStmt MadeIn (w.part_if w.is_body (w.part known func result a) true) (λ p. pure (tk.While t p)) (part_if w.is_body a true h)
       (λ p d. leaves_pure MadeIn (tk.While t p)
       (made_kind (TKind-F.While t p) (tk.While t p) (tk.rolls-While t p) (two (one_expr t) (terms p) (one t g) d)))))
@@ -326,9 +337,9 @@ module _ (known : Known) (P : TExpr → Type 0) (Q : CType → TPlace → Type 0
       made_kind (TKind-F.For None v None body number) (tk.For None v None body number) (tk.rolls-For None v None body number)
       (two no_terms _ nothing (two (if_expr v) _ (made_test v g) (two no_terms (terms body) nothing f)))
 
-  for_fine : (first : Option Stmt) (test : Option Expr) (third : Option Stmt) (body : Stmt) (note : Option LoopNote) → IfAny Fine first → IfAny Fine third
-      → Fine body → KindFine (k.For first test third body note)
-  for_fine first test third body note h i j line looped =
+  for_fine : (first : Option Stmt) (test : Option Expr) (third : Option Stmt) (body : Stmt) (note : Option LoopNote) → IfAny Fine first
+      → IfAny FineExpr test → IfAny Fine third → Fine body → KindFine (k.For first test third body note)
+  for_fine first test third body note h q i j line looped =
       let a = nodes.part_of known func result first in
       let b = nodes.part_of known func result third in
       let part = w.part known func result body in
@@ -343,7 +354,7 @@ module _ (known : Known) (P : TExpr → Type 0) (Q : CType → TPlace → Type 0
       (any_part w.is_first first looped h)
       (λ s g. leaves_bind KeptAny MadeIn (w.any_condition known func result line test)
       (λ v. bind (w.any_part w.is_third b looped) (λ t. bind (w.looped_body known func result line own part) (λ p. pure (tk.For s v t p.0 p.1))))
-      (any_condition line test)
+      (any_condition line test q)
       (λ v d. leaves_bind MadeAny MadeIn (w.any_part w.is_third b looped)
       (λ t. bind (w.looped_body known func result line own part) (λ p. pure (tk.For s v t p.0 p.1)))
       (any_part w.is_third third looped i)
@@ -377,20 +388,20 @@ module _ (known : Known) (P : TExpr → Type 0) (Q : CType → TPlace → Type 0
       (leaves_bind MadeAll MadeIn (w.statements known func result looped ss) (λ ts. pure (tk.Block ts)) (statements ss looped hs)
       (λ ts g. leaves_pure MadeIn (tk.Block ts) (made_kind (TKind-F.Block ts) (tk.Block ts) (tk.rolls-Block ts) (made_each ts g)))))
 
-  return_fine : (v : Option Expr) → KindFine (k.Return v)
-  return_fine None line looped =
+  return_fine : (v : Option Expr) → IfAny FineExpr v → KindFine (k.Return v)
+  return_fine None f line looped =
       by_walk MadeIn (nodes.walks-Return known func result None line looped)
       (leaves_after MadeIn (lift line (ensure (w.is_void result) Return)) (λ _. pure (tk.Return None))
       (λ _. leaves_pure MadeIn (tk.Return None) (made_kind (TKind-F.Return None) (tk.Return None) (tk.rolls-Return None) nothing)))
-  return_fine (Some v) line looped =
+  return_fine (Some v) (present f) line looped =
       by_walk MadeIn (nodes.walks-Return known func result (Some v) line looped)
       (leaves_bind Good MadeIn (w.operand_of known func result line v)
       (λ y. bind (lift line (ensure (not (w.is_void result)) Return)) (λ _. bind (lift line (o.fitting result y)) (λ a. pure (tk.Return (Some a)))))
-      (operand_of line v)
+      (operand_of line v f)
       (λ y h. leaves_after MadeIn (lift line (ensure (not (w.is_void result)) Return))
       (λ _. bind (lift line (o.fitting result y)) (λ a. pure (tk.Return (Some a))))
       (λ _. leaves_bind P MadeIn (lift line (o.fitting result y)) (λ a. pure (tk.Return (Some a)))
-      (leaves_lift P line (o.fitting result y) (e.fitting_good known P Q R c y result h))
+      (leaves_lift P line (o.fitting result y) (e.fitting_good N known P Q R c y result h))
       (λ a g. leaves_pure MadeIn (tk.Return (Some a)) (made_kind (TKind-F.Return (Some a)) (tk.Return (Some a)) (tk.rolls-Return (Some a)) (one a g))))))
 
   leave_fine : (line : ℕ) (looped : Bool) (d : TKind) → MadeIn d → Leaves MadeIn (w.leave known func result line looped d)
@@ -421,7 +432,7 @@ module _ (known : Known) (P : TExpr → Type 0) (Q : CType → TPlace → Type 0
       (h line looped)
       (λ y g. leaves_pure MadeStmt (roll-TStmt (record { line = line; kind = y })) (made_stmt line y g)))
 
-  fine_cases : StmtCases Fine KindFine
+  pub fine_cases : StmtCases FineExpr Fine KindFine
   fine_cases = record {
     stmt = stmt_fine;
     empty = empty_fine;
@@ -439,9 +450,5 @@ module _ (known : Known) (P : TExpr → Type 0) (Q : CType → TPlace → Type 0
     continues = continue_fine;
   }
 
-  all_fine : (ss : List Stmt) → AllOf Fine ss
-  all_fine [] = n.none
-  all_fine (b ∷ ss) = n.more (stmt_induct Fine KindFine fine_cases b) (all_fine ss)
-
-  pub statements_made : (ss : List Stmt) (looped : Bool) → Leaves MadeAll (w.statements known func result looped ss)
-  statements_made ss looped = statements ss looped (all_fine ss)
+  pub statements_made : (ss : List Stmt) (looped : Bool) → AllOf Fine ss → Leaves MadeAll (w.statements known func result looped ss)
+  statements_made ss looped hs = statements ss looped hs

@@ -1,13 +1,14 @@
 -- In the typed tree of a program no place is formed within a global of one word.
-use Rattle.std.proofs.Common.{◌≡◌, ℕ, zero, suc, ◌+◌, Bool, true, false, not, List, [], ◌∷◌, map, length, Option, Some, None, is_some, option_map, Result, Ok, slice_get, refl, sym, ap, ◌∙◌, subst}
+use Rattle.std.proofs.Common.{◌≡◌, ℕ, zero, suc, ◌*◌, Bool, true, false, not, List, [], ◌∷◌, map, Option, Some, None, is_some, option_map, Ok, slice_get, refl, sym, ap, ◌∙◌, subst}
+use Rattle.std.specs.Prelude.{ℤ, pos}
 use Rattle.std.specs.List.{list_all}
-use Rattle.al_source.specs.Steps.{and_then}
 use Rattle.al_source.specs.declared.source_tree.CType.{CType, out-CType}
 use Rattle.al_source.specs.declared.source_tree.CType.TheOpen.{CType-F}
 use Rattle.al_source.specs.declared.source_tree.GlobalDef.{GlobalDef}
+use Rattle.al_source.specs.declared.source_tree.Expr.{Expr}
+use Rattle.al_source.specs.declared.source_tree.Stmt.{Stmt}
 use Rattle.al_source.specs.declared.source_tree.Func.{Func}
 use Rattle.al_source.specs.declared.source_tree.Program.{Program}
-use Rattle.al_ast.specs.Nodes.{capped, program_nodes}
 use Rattle.al_core.specs.declared.values.Kind.{Kind}
 use Rattle.al_core.specs.declared.typed_tree.TExpr.{TExpr, map-TExpr, fold-TExpr, fold-roll-TExpr}
 use Rattle.al_core.specs.declared.typed_tree.TPlace.{TPlace, map-TPlace, fold-TPlace, fold-roll-TPlace}
@@ -17,22 +18,21 @@ use Rattle.al_core.specs.declared.typed_tree.TExpr.TheVariants as te
 use Rattle.al_core.specs.declared.typed_tree.TPlace.TheVariants as tp
 use Rattle.al_core.specs.declared.typed_tree.TFunc.{TFunc}
 use Rattle.al_core.specs.declared.typed_tree.TNote.{TNote}
-use Rattle.al_core.specs.declared.typed_tree.TStmt.{TStmt}
 use Rattle.al_core.specs.declared.typed_tree.Typed.{Typed}
 use Rattle.al_core.specs.Accepted.{terms_of}
-use Rattle.al_rules.specs.declared.faults.TypeCause.{TypeCause}
 use Rattle.al_rules.specs.Names.{Name, AllOf}
 use Rattle.al_rules.specs.Names as n
 use Rattle.al_rules.specs.Layouts.{sizes}
 use Rattle.al_rules.specs.Types.{element_case, element, struct_case, struct_name, kind_case, kind_of}
-use Rattle.al_rules.specs.Scopes.{Known, globals_in, funcs_in, known_of}
-use Rattle.al_rules.specs.Walks.{Progress}
-use Rattle.al_rules.specs.Statements as w
-use Rattle.al_rules.specs.Programs.{items_checked, main_of, begun, func_typed, funcs_typed, global_typed, globals_typed, typed_with, typed_of, Resolved}
-use Rattle.al_rules_laws.proofs.Logic.{then_ok, and_both}
+use Rattle.al_rules.specs.Scopes.{Known, size, funcs_in, known_of}
+use Rattle.al_rules.specs.Programs.{funcs_typed, global_typed, globals_typed, typed_of, Resolved}
+use Rattle.al_rules_laws.proofs.Logic.{and_both}
 use Rattle.al_kinds_laws.specs.Whole.{WholePlace, scalar_of, expr_whole, place_whole, whole, whole_at, whole_in, ScalarsAreWhole}
-use Rattle.al_runs_laws.proofs.Making.{Kept, GlobalAt}
+use Rattle.al_runs_laws.proofs.NumberedTrees.{AnyNumber, every_expr, every_stmt}
+use Rattle.al_runs_laws.proofs.Making.{Kept, GlobalAt, FineAnywhere, fine_anywhere}
+use Rattle.al_runs_laws.proofs.MakingStatements.{Stands, AllMade}
 use Rattle.al_runs_laws.proofs.MakingStatements as made
+use Rattle.al_runs_laws.proofs.MakingPrograms.{FineFunc, MadeFunc, funcs_made, tree_with, tree_of, at_index}
 
 -- a struct and an array have no kind
 struct_no_kind : (y : CType-F CType) (name : Name) (j : Kind) → struct_case y ≡ Some name → kind_case y ≡ Some j → ⊥
@@ -116,9 +116,14 @@ module _ (known : Known) (typed : Typed) (globals_are : typed.globals ≡ global
       ap (λ us. slice_get us k) globals_are ∙ globals_at known known.globals k g.global g.there in
       ap kind_of (sym g.type) ∙ sym (ap scalar_of there) ∙ e
 
-  kept : Kept known P Q R
+  number_whole : (m : ℤ) → P (te.Number m)
+  number_whole m = of_whole (TExpr-F.Number m) _ (te.rolls-Number m)
+
+  kept : Kept AnyNumber known P Q R
   kept = record {
-    number = λ m. of_whole (TExpr-F.Number m) _ (te.rolls-Number m);
+    number = λ m _. number_whole m;
+    zero = number_whole (pos 0);
+    sizes = λ a _. number_whole (pos (8 * size known a));
     local = λ k. of_whole (TExpr-F.Local k) _ (te.rolls-Local k);
     load = λ a k q h. of_whole (TExpr-F.Load k q) _ (te.rolls-Load k q) ∙ h.0;
     addr = λ a q h. of_whole (TExpr-F.Addr q) _ (te.rolls-Addr q) ∙ h.0;
@@ -153,75 +158,45 @@ module _ (known : Known) (typed : Typed) (globals_are : typed.globals ≡ global
   all_exprs [] n.none = refl
   all_exprs (v ∷ vs) (n.more h hs) = and_both h (all_exprs vs hs)
 
-  all_places : (qs : List TPlace) → AllOf (λ q. (a : CType) × Q a q) qs → list_all (λ q. (whole_at typed q).0) qs ≡ true
+  all_places : (qs : List TPlace) → AllOf (Stands Q) qs → list_all (λ q. (whole_at typed q).0) qs ≡ true
   all_places [] n.none = refl
   all_places (q ∷ qs) (n.more h hs) = and_both h.1.0 (all_places qs hs)
 
-  abbrev WholeFunc : TFunc → Type 0
-  WholeFunc t = whole_in typed (terms_of t.body) ≡ true
+  fine_exprs : (x : Expr) → FineAnywhere AnyNumber known P Q R kept x
+  fine_exprs = every_expr (FineAnywhere AnyNumber known P Q R kept) (fine_anywhere AnyNumber known P Q R kept)
 
-  func_whole : (m : ℕ) (f : Func) (loops : List TNote) (t : TFunc × List TNote) → func_typed known m f loops ≡ Ok t → WholeFunc t.0
-  func_whole m f loops t e =
-      let q = then_ok (w.statements known m f.result false f.body (begun f.params loops))
-      (λ r. Ok (record { params = length f.params; locals = r.1.locals; body = r.0; line = f.line }, r.1.loops)) t e in
-      let h = made.statements_made known P Q R kept m f.result f.body false (begun f.params loops) q.0 q.1 in
-      subst (λ (t : TFunc × List TNote). WholeFunc t.0) (same q.0 q.2)
-      (and_both (all_exprs (terms_of q.0.0).exprs h.exprs) (all_places (terms_of q.0.0).places h.places))
-    where
-      same : (r : List TStmt × Progress)
-          → ◌≡◌ {A = Result (TFunc
-          × List TNote) TypeCause} (Ok (record { params = length f.params; locals = r.1.locals; body = r.0; line = f.line }, r.1.loops)) (Ok t)
-          → ◌≡◌ {A = TFunc × List TNote} (record { params = length f.params; locals = r.1.locals; body = r.0; line = f.line }, r.1.loops) t
-      same r e = cc
+  abbrev FineStmt : ℕ → CType → Stmt → Type 0
+  FineStmt m a = made.Fine AnyNumber known P Q R kept m a
 
-  funcs_whole : (m : ℕ) (fs : List Func) (loops : List TNote) (z : List TFunc × List TNote) → funcs_typed known m fs loops ≡ Ok z → AllOf WholeFunc z.0
-  funcs_whole m [] loops z e = subst (λ (z : List TFunc × List TNote). AllOf WholeFunc z.0) (same e) n.none
-    where
-      same : ◌≡◌ {A = Result (List TFunc × List TNote) TypeCause} (Ok ([], loops)) (Ok z) → ◌≡◌ {A = List TFunc × List TNote} ([], loops) z
-      same e = cc
-  funcs_whole m (f ∷ fs) loops z e =
-      let a = then_ok (func_typed known m f loops) (λ t. and_then (funcs_typed known (m + 1) fs t.1) (λ ts. Ok (t.0 ∷ ts.0, ts.1))) z e in
-      let b = then_ok (funcs_typed known (m + 1) fs a.0.1) (λ ts. Ok (a.0.0 ∷ ts.0, ts.1)) z a.2 in
-      subst (λ (z : List TFunc × List TNote). AllOf WholeFunc z.0) (same a.0 b.0 b.2)
-      (n.more (func_whole m f loops a.0 a.1) (funcs_whole (m + 1) fs a.0.1 b.0 b.1))
-    where
-      same : (a : TFunc × List TNote) (b : List TFunc × List TNote) → ◌≡◌ {A = Result (List TFunc × List TNote) TypeCause} (Ok (a.0 ∷ b.0, b.1)) (Ok z)
-          → ◌≡◌ {A = List TFunc × List TNote} (a.0 ∷ b.0, b.1) z
-      same a b e = cc
+  fine_stmt : (m : ℕ) (a : CType) (b : Stmt) → FineStmt m a b
+  fine_stmt m a =
+      every_stmt (FineAnywhere AnyNumber known P Q R kept) fine_exprs (FineStmt m a) (made.KindFine AnyNumber known P Q R kept m a)
+      (made.fine_cases AnyNumber known P Q R kept m a)
 
-at_index : {A : Type 0} (P : A → Type 0) (xs : List A) (k : ℕ) (x : A) → AllOf P xs → slice_get xs k ≡ Some x → P x
-at_index P [] k x h e = absurd cc
-at_index P (y ∷ ys) zero x (n.more h hs) e = subst P (same e) h
-  where
-    same : Some y ≡ Some x → y ≡ x
-    same e = cc
-at_index P (y ∷ ys) (suc k) x (n.more h hs) e = at_index P ys k x hs e
+  fine_body : (m : ℕ) (a : CType) (ss : List Stmt) → AllOf (FineStmt m a) ss
+  fine_body m a [] = n.none
+  fine_body m a (b ∷ ss) = n.more (fine_stmt m a b) (fine_body m a ss)
+
+  fine_funcs : (fs : List Func) → AllOf (FineFunc AnyNumber known P Q R kept) fs
+  fine_funcs [] = n.none
+  fine_funcs (f ∷ fs) = n.more (λ m a. fine_body m a f.body) (fine_funcs fs)
+
+  func_whole : (t : TFunc) → AllMade P Q (terms_of t.body) → whole_in typed (terms_of t.body) ≡ true
+  func_whole t h = and_both (all_exprs (terms_of t.body).exprs h.exprs) (all_places (terms_of t.body).places h.places)
+
+  funcs_whole : (fs : List Func) (z : List TFunc × List TNote) → funcs_typed known 0 fs [] ≡ Ok z → (k : ℕ) (t : TFunc) → slice_get z.0 k ≡ Some t
+      → whole_in typed (terms_of t.body) ≡ true
+  funcs_whole fs z e k t is =
+      func_whole t (at_index (MadeFunc AnyNumber known P Q R kept) z.0 k t
+      (funcs_made AnyNumber known P Q R kept 0 fs [] z (fine_funcs fs) e) is)
 
 -- ---- the whole
 
-abbrev tree_of : Program → ℕ → List TFunc × List TNote → Typed
-tree_of q main fs = record {
-  globals = globals_typed (known_of (sizes q) q.items) (globals_in q.items);
-  funcs = fs.0;
-  main = main;
-  loops = fs.1;
-  nodes = capped (program_nodes q);
-}
-
 typed_whole : (q : Program) (typed : Typed) → typed_of q ≡ Ok typed → ScalarsAreWhole typed
-unfolding typed_with
 typed_whole q typed e =
-    let known = known_of (sizes q) q.items in
-    let a = then_ok (items_checked q.items [] q.items)
-    (λ _. and_then (main_of (funcs_in q.items)) (λ main. and_then (funcs_typed known 0 (funcs_in q.items) []) (λ fs. Ok (tree_of q main fs)))) typed e in
-    let b = then_ok (main_of (funcs_in q.items)) (λ main. and_then (funcs_typed known 0 (funcs_in q.items) []) (λ fs. Ok (tree_of q main fs))) typed a.2 in
-    let c = then_ok (funcs_typed known 0 (funcs_in q.items) []) (λ fs. Ok (tree_of q b.0 fs)) typed b.2 in
-    subst ScalarsAreWhole (same (tree_of q b.0 c.0) c.2)
-    (λ k t is. at_index (λ t. whole_in (tree_of q b.0 c.0) (terms_of t.body) ≡ true) c.0.0 k t
-    (funcs_whole known (tree_of q b.0 c.0) refl 0 (funcs_in q.items) [] c.0 c.1) is)
-  where
-    same : (u : Typed) → ◌≡◌ {A = Result Typed TypeCause} (Ok u) (Ok typed) → u ≡ typed
-    same u e = cc
+    let t = tree_of (sizes q) q typed e in
+    subst ScalarsAreWhole t.is
+    (funcs_whole (known_of (sizes q) q.items) (tree_with (sizes q) q t.main t.funcs) refl (funcs_in q.items) t.funcs t.funcs_are)
 
 pub scalars_are_whole : (q : Program) (typed : Typed) → Resolved q typed → ScalarsAreWhole typed
 scalars_are_whole q typed h = typed_whole q typed h.is_typed

@@ -2,8 +2,8 @@ ghost use Rattle.al_runs_laws.specs.Accepted.{AcceptedAreSerial, AcceptedInOrder
 ghost use Rattle.al_runs_laws.specs.Sources.{SourcesAreSerial, SourcesInOrderArePlain};
 
 /// Of the tree of a source without a fault the output and the ending that are reported are those of the serial run by
-/// the reported events, where each choice of a loop is RAW or FULL and its reductions are those of the loop's annotation
-/// or of a choice that is tried for the loop.
+/// the reported events, where each choice of a loop is RAW or FULL and its reductions are those of the loop's
+/// annotation or of a choice that is tried for the loop.
 #[tactic(auto, using(crate::proofs::Sourced::sources_are_serial))]
 pub fn sources_are_serial()
     ensures { SourcesAreSerial }

@@ -1,19 +1,16 @@
 -- The numbers in the tree of an accepted source have their sizes.
-use Rattle.std.proofs.Common.{◌≡◌, ℕ, zero, suc, ◌+◌, ◌*◌, ◌^◌, ◌≤◌, ◌<◌, Bool, true, false, nat_lt, if◌then◌else◌, List, [], ◌∷◌, map, length, Some, Result, Ok, Err, slice_get, refl, sym, ap, ◌∙◌, subst, arith}
-use Rattle.std.specs.Prelude.{pos}
+use Rattle.std.proofs.Common.{◌≡◌, ℕ, zero, suc, ◌*◌, ◌^◌, ◌≤◌, ◌<◌, Bool, true, false, nat_lt, if◌then◌else◌, List, [], ◌∷◌, map, length, Result, Ok, Err, slice_get, refl, sym, ap, ◌∙◌, subst, arith}
+use Rattle.std.specs.Prelude.{ℤ, pos}
 use Rattle.std.specs.List.{AllByRecursion}
 use Rattle.std.proofs.lemmas.Option.{slice_get_within}
-use Rattle.al_source.specs.Steps.{and_then}
-use Rattle.al_source.specs.declared.limits.TheConstants.{SOURCE_BYTES, SOURCE_NODES, OBJECT_WORDS}
+use Rattle.al_source.specs.declared.limits.TheConstants.{SOURCE_BYTES, OBJECT_WORDS}
 use Rattle.al_source.specs.declared.source_tree.CType.{CType}
 use Rattle.al_source.specs.declared.source_tree.Expr.{Expr}
 use Rattle.al_source.specs.declared.source_tree.Stmt.{Stmt}
 use Rattle.al_source.specs.declared.source_tree.StmtKind.{StmtKind}
 use Rattle.al_source.specs.declared.source_tree.GlobalDef.{GlobalDef}
-use Rattle.al_source.specs.declared.source_tree.Func.{Func}
 use Rattle.al_source.specs.declared.source_tree.Item.{Item}
 use Rattle.al_source.specs.declared.source_tree.Program.{Program}
-use Rattle.al_ast.specs.Nodes.{capped, program_nodes}
 use Rattle.al_grammar.specs.Characters.{Bytes}
 use Rattle.al_grammar.specs.Phrases.{Tokens}
 use Rattle.al_grammar.specs.Steps.{Read}
@@ -21,7 +18,6 @@ use Rattle.al_grammar.specs.Programs.{AllItems}
 use Rattle.al_grammar.specs.ProgramParser as parser
 use Rattle.al_grammar.specs.Reading.{reading}
 use Rattle.al_grammar.proofs.ProgramFacts.{sound_program}
-use Rattle.al_core.specs.declared.choices.LoopInfo.{LoopInfo}
 use Rattle.al_core.specs.declared.typed_tree.TExpr.{TExpr, map-TExpr, fold-TExpr, fold-roll-TExpr}
 use Rattle.al_core.specs.declared.typed_tree.TPlace.{TPlace, map-TPlace, fold-TPlace, fold-roll-TPlace}
 use Rattle.al_core.specs.declared.typed_tree.TExpr.TheViews.{roll-TExpr, roll-TPlace}
@@ -31,13 +27,11 @@ use Rattle.al_core.specs.declared.typed_tree.TPlace.TheVariants as tp
 use Rattle.al_core.specs.declared.typed_tree.TFunc.{TFunc}
 use Rattle.al_core.specs.declared.typed_tree.TGlobal.{TGlobal}
 use Rattle.al_core.specs.declared.typed_tree.TNote.{TNote}
-use Rattle.al_core.specs.declared.typed_tree.TStmt.{TStmt}
 use Rattle.al_core.specs.declared.typed_tree.Typed.{Typed}
 use Rattle.al_core.specs.Accepted.{terms_of}
 use Rattle.al_core.specs.Meaning.{body_of}
-use Rattle.al_rules.specs.declared.faults.TypeCause.{TypeCause}
 use Rattle.al_rules.specs.declared.faults.Refusal.{Refusal}
-use Rattle.al_rules.specs.declared.faults.Refusal.TheVariants.{Lexical, Layout, Types, Notes, TooManyNodes}
+use Rattle.al_rules.specs.declared.faults.Refusal.TheVariants.{Lexical}
 use Rattle.al_rules.specs.declared.faults.LexicalCause.TheVariants.{TooLong}
 use Rattle.al_rules.specs.declared.layout.Layout as the_layout
 use Rattle.al_rules.specs.Names.{AllOf}
@@ -45,24 +39,24 @@ use Rattle.al_rules.specs.Names as n
 use Rattle.al_rules.specs.Types.{form, is_sized}
 use Rattle.al_rules.specs.Scopes.{Known, size, globals_in, funcs_in, known_of}
 use Rattle.al_rules.specs.Layouts.{no_layout, layout_of}
-use Rattle.al_rules.specs.Notes.{notes_of}
-use Rattle.al_rules.specs.Walks.{Progress}
-use Rattle.al_rules.specs.Statements as w
-use Rattle.al_rules.specs.Programs.{items_checked, main_of, begun, func_typed, funcs_typed, globals_typed, typed_with}
-use Rattle.al_rules.specs.Refusals.{because, lexical_cause, tokens_of, derived, program_of, tree_of, small_enough, annotated_well, accepted}
-use Rattle.al_rules_laws.proofs.Logic.{then_ok, and_both}
+use Rattle.al_rules.specs.Programs.{funcs_typed, globals_typed, typed_with}
+use Rattle.al_rules.specs.Refusals.{because, lexical_cause, tokens_of, derived, program_of}
+use Rattle.al_rules_laws.proofs.Logic.{and_both}
 use Rattle.al_graded_laws.specs.Rules.{every, expr_obeys, place_obeys, obeys, obeys_at, stmts_obey}
 use Rattle.al_graded_laws.specs.InRange.{has_64_bits, in_range}
 use Rattle.al_graded_laws.proofs.Values.{fits_64}
 use Rattle.al_runs_laws.specs.Accepted.{IsSized}
-use Rattle.al_runs_laws.proofs.Making.{GlobalAt}
+use Rattle.al_runs_laws.proofs.NumberedTrees.{ExprCases, StmtCases}
+use Rattle.al_runs_laws.proofs.Making.{Kept, GlobalAt, FineAnywhere, fine_anywhere}
+use Rattle.al_runs_laws.proofs.MakingStatements.{Stands}
+use Rattle.al_runs_laws.proofs.MakingStatements as made
+use Rattle.al_runs_laws.proofs.MakingPrograms.{FineFunc, MadeFunc, funcs_made, tree_of, at_index}
+use Rattle.al_runs_laws.proofs.AcceptedParts.{because_ok, accepted_as}
 use Rattle.al_sizes_laws.specs.Sized.{AcceptedAreSized}
 use Rattle.al_sizes_laws.proofs.TokenNumbers.{TokenSized, reading_sized}
-use Rattle.al_sizes_laws.proofs.TreesOfTokens.{ExprCases, StmtCases}
+use Rattle.al_sizes_laws.proofs.TreesOfTokens.{Sized}
 use Rattle.al_sizes_laws.proofs.ProgramNumbers.{StartSized, few_globals, bodies_sized, starts_sized}
 use Rattle.al_sizes_laws.proofs.SizeBounds.{laid_small, words_small}
-use Rattle.al_sizes_laws.proofs.MakingExpressions.{Kept, FineAnywhere, fine_anywhere}
-use Rattle.al_sizes_laws.proofs.MakingStatements as made
 use Rattle.al_sizes_laws.proofs.TermsObey.{ExprObeys, PlaceObeys, stmts_of_terms}
 
 -- ---- what typing makes
@@ -108,10 +102,14 @@ module _ (known : Known) (few : length known.globals < 2 ^ 32) (small : (a : CTy
   global_fits : (k : ℕ) (a : CType) → GlobalAt known k a → nat_lt k (2 ^ 32) ≡ true
   global_fits k a g = let lt = slice_get_within known.globals k g.global g.there in below k (omega arith)
 
-  kept : Kept known P Q R
+  number_obeys : (m : ℤ) → Sized m → P (te.Number m)
+  number_obeys m h = of_expr (TExpr-F.Number m) _ (te.rolls-Number m) ∙ h
+
+  kept : Kept Sized known P Q R
   kept = record {
-    number = λ m h. of_expr (TExpr-F.Number m) _ (te.rolls-Number m) ∙ h;
-    sizes = λ a h. of_expr (TExpr-F.Number (pos (8 * size known a))) _ (te.rolls-Number (pos (8 * size known a))) ∙ words_fit (size known a) (small a h);
+    number = number_obeys;
+    zero = number_obeys (pos 0) refl;
+    sizes = λ a h. number_obeys (pos (8 * size known a)) (words_fit (size known a) (small a h));
     local = λ k. of_expr (TExpr-F.Local k) _ (te.rolls-Local k);
     load = λ a k q h. of_expr (TExpr-F.Load k q) _ (te.rolls-Load k q) ∙ h.0;
     addr = λ a q h. of_expr (TExpr-F.Addr q) _ (te.rolls-Addr q) ∙ and_both h.0 h.1;
@@ -139,73 +137,38 @@ module _ (known : Known) (few : length known.globals < 2 ^ 32) (small : (a : CTy
   -- ---- functions
 
   abbrev FineExpr : Expr → Type 0
-  FineExpr = FineAnywhere known P Q R kept
+  FineExpr = FineAnywhere Sized known P Q R kept
 
   abbrev FineStmt : ℕ → CType → Stmt → Type 0
-  FineStmt m a = made.Fine known P Q R kept m a
+  FineStmt m a = made.Fine Sized known P Q R kept m a
 
   abbrev FineKind : ℕ → CType → StmtKind → Type 0
-  FineKind m a = made.KindFine known P Q R kept m a
+  FineKind m a = made.KindFine Sized known P Q R kept m a
 
-  fine_exprs : ExprCases FineExpr
-  fine_exprs = fine_anywhere known P Q R kept
+  fine_exprs : ExprCases Sized FineExpr
+  fine_exprs = fine_anywhere Sized known P Q R kept
 
   fine_stmts : (m : ℕ) (a : CType) → StmtCases FineExpr (FineStmt m a) (FineKind m a)
-  fine_stmts m a = made.fine_cases known P Q R kept m a
-
-  abbrev FineFunc : Func → Type 0
-  FineFunc f = (m : ℕ) (a : CType) → AllOf (FineStmt m a) f.body
+  fine_stmts m a = made.fine_cases Sized known P Q R kept m a
 
   exprs_of : (vs : List TExpr) → AllOf P vs → AllByRecursion ExprObeys vs
   exprs_of [] n.none = tt
   exprs_of (v ∷ vs) (n.more h hs) = (h, exprs_of vs hs)
 
-  places_of : (qs : List TPlace) → AllOf (λ q. (a : CType) × Q a q) qs → AllByRecursion PlaceObeys qs
+  places_of : (qs : List TPlace) → AllOf (Stands Q) qs → AllByRecursion PlaceObeys qs
   places_of [] n.none = tt
   places_of (q ∷ qs) (n.more h hs) = (h.1.0, places_of qs hs)
 
   abbrev FuncSized : TFunc → Type 0
   FuncSized t = stmts_obey in_range t.body ≡ true
 
-  func_sized : (m : ℕ) (f : Func) (loops : List TNote) (t : TFunc × List TNote) → FineFunc f → func_typed known m f loops ≡ Ok t → FuncSized t.0
-  func_sized m f loops t fine e =
-      let q = then_ok (w.statements known m f.result false f.body (begun f.params loops))
-      (λ r. Ok (record { params = length f.params; locals = r.1.locals; body = r.0; line = f.line }, r.1.loops)) t e in
-      let h = made.statements_made known P Q R kept m f.result f.body false (fine m f.result) (begun f.params loops) q.0 q.1 in
-      subst (λ (t : TFunc × List TNote). FuncSized t.0) (same q.0 q.2)
-      (stmts_of_terms q.0.0 (record { exprs = exprs_of (terms_of q.0.0).exprs h.exprs; places = places_of (terms_of q.0.0).places h.places }))
-    where
-      same : (r : List TStmt × Progress)
-          → ◌≡◌ {A = Result (TFunc
-          × List TNote) TypeCause} (Ok (record { params = length f.params; locals = r.1.locals; body = r.0; line = f.line }, r.1.loops)) (Ok t)
-          → ◌≡◌ {A = TFunc × List TNote} (record { params = length f.params; locals = r.1.locals; body = r.0; line = f.line }, r.1.loops) t
-      same r e = cc
-
-  funcs_sized : (m : ℕ) (fs : List Func) (loops : List TNote) (z : List TFunc × List TNote) → AllOf FineFunc fs → funcs_typed known m fs loops ≡ Ok z
-      → AllOf FuncSized z.0
-  funcs_sized m [] loops z fine e = subst (λ (z : List TFunc × List TNote). AllOf FuncSized z.0) (same e) n.none
-    where
-      same : ◌≡◌ {A = Result (List TFunc × List TNote) TypeCause} (Ok ([], loops)) (Ok z) → ◌≡◌ {A = List TFunc × List TNote} ([], loops) z
-      same e = cc
-  funcs_sized m (f ∷ fs) loops z (n.more fine rest) e =
-      let a = then_ok (func_typed known m f loops) (λ t. and_then (funcs_typed known (m + 1) fs t.1) (λ ts. Ok (t.0 ∷ ts.0, ts.1))) z e in
-      let b = then_ok (funcs_typed known (m + 1) fs a.0.1) (λ ts. Ok (a.0.0 ∷ ts.0, ts.1)) z a.2 in
-      subst (λ (z : List TFunc × List TNote). AllOf FuncSized z.0) (same a.0 b.0 b.2)
-      (n.more (func_sized m f loops a.0 fine a.1) (funcs_sized (m + 1) fs a.0.1 b.0 rest b.1))
-    where
-      same : (a : TFunc × List TNote) (b : List TFunc × List TNote) → ◌≡◌ {A = Result (List TFunc × List TNote) TypeCause} (Ok (a.0 ∷ b.0, b.1)) (Ok z)
-          → ◌≡◌ {A = List TFunc × List TNote} (a.0 ∷ b.0, b.1) z
-      same a b e = cc
+  funcs_sized : (ts : List TFunc) → AllOf (MadeFunc Sized known P Q R kept) ts → AllOf FuncSized ts
+  funcs_sized [] n.none = n.none
+  funcs_sized (t ∷ ts) (n.more h hs) =
+      n.more (stmts_of_terms t.body (record { exprs = exprs_of (terms_of t.body).exprs h.exprs; places = places_of (terms_of t.body).places h.places }))
+      (funcs_sized ts hs)
 
 -- ---- the whole tree
-
-at_index : {A : Type 0} (P : A → Type 0) (xs : List A) (k : ℕ) (x : A) → AllOf P xs → slice_get xs k ≡ Some x → P x
-at_index P [] k x h e = absurd cc
-at_index P (y ∷ ys) zero x (n.more h hs) e = subst P (same e) h
-  where
-    same : Some y ≡ Some x → y ≡ x
-    same e = cc
-at_index P (y ∷ ys) (suc k) x (n.more h hs) e = at_index P ys k x hs e
 
 bodies_obey : (fs : List TFunc) → AllOf (λ t. stmts_obey in_range t.body ≡ true) fs → (f : ℕ) → stmts_obey in_range (body_of (slice_get fs f)) ≡ true
 bodies_obey [] h f = refl
@@ -216,15 +179,6 @@ global_starts : (known : Known) (gs : List GlobalDef) → AllOf (λ (x : GlobalD
     → AllOf (λ (x : TGlobal). has_64_bits x.start ≡ true) (globals_typed known gs)
 global_starts known [] n.none = n.none
 global_starts known (g ∷ gs) (n.more h hs) = n.more h (global_starts known gs hs)
-
-abbrev tree_with : the_layout.Layout → Program → ℕ → List TFunc × List TNote → Typed
-tree_with layout p main fs = record {
-  globals = globals_typed (known_of layout p.items) (globals_in p.items);
-  funcs = fs.0;
-  main = main;
-  loops = fs.1;
-  nodes = capped (program_nodes p);
-}
 
 -- a program that the grammar derives from tokens whose numbers have 64 bits
 module _ (ts : Tokens) (sized : AllByRecursion TokenSized ts) (short : length ts ≤ 2 ^ 21) (p : Program) (derives : AllItems ts p.items)
@@ -239,7 +193,7 @@ module _ (ts : Tokens) (sized : AllByRecursion TokenSized ts) (short : length ts
   abbrev at : Known
   at = known_of layout p.items
 
-  funcs_fine : AllOf (FineFunc at few small) (funcs_in p.items)
+  funcs_fine : AllOf (FineFunc Sized at (P at few small) (Q at few small) (R at few small) (kept at few small)) (funcs_in p.items)
   funcs_fine =
       bodies_sized (FineExpr at few small) (fine_exprs at few small) (FineStmt at few small) (FineKind at few small) (fine_stmts at few small) derives sized
 
@@ -247,32 +201,23 @@ module _ (ts : Tokens) (sized : AllByRecursion TokenSized ts) (short : length ts
   starts_fine =
       starts_sized (FineExpr at few small) (fine_exprs at few small) (FineStmt at few small) (FineKind at few small) (fine_stmts at few small) derives sized
 
+  -- what holds of the functions of the tree
+  funcs_obey : (z : List TFunc × List TNote) → funcs_typed at 0 (funcs_in p.items) [] ≡ Ok z → AllOf (FuncSized at few small) z.0
+  funcs_obey z e =
+      funcs_sized at few small z.0
+      (funcs_made Sized at (P at few small) (Q at few small) (R at few small) (kept at few small) 0 (funcs_in p.items) [] z funcs_fine e)
+
   typed_sized : (typed : Typed) → typed_with layout p ≡ Ok typed → IsSized typed
-  unfolding typed_with
   typed_sized typed e =
-      let a = then_ok (items_checked p.items [] p.items) (λ _. and_then (main_of (funcs_in p.items))
-      (λ main. and_then (funcs_typed at 0 (funcs_in p.items) []) (λ fs. Ok (tree_with layout p main fs)))) typed e in
-      let b = then_ok (main_of (funcs_in p.items))
-      (λ main. and_then (funcs_typed at 0 (funcs_in p.items) []) (λ fs. Ok (tree_with layout p main fs))) typed a.2 in
-      let c = then_ok (funcs_typed at 0 (funcs_in p.items) []) (λ fs. Ok (tree_with layout p b.0 fs)) typed b.2 in
-      subst IsSized (same (tree_with layout p b.0 c.0) c.2) (record {
-        code = bodies_obey c.0.0 (funcs_sized at few small 0 (funcs_in p.items) [] c.0 funcs_fine c.1);
+      let t = tree_of layout p typed e in
+      subst IsSized t.is (record {
+        code = bodies_obey t.funcs.0 (funcs_obey t.funcs t.funcs_are);
         starts = λ k g is.
             fits_64 g.start (at_index (λ (x : TGlobal). has_64_bits x.start ≡ true) (globals_typed at (globals_in p.items)) k g
             (global_starts at (globals_in p.items) starts_fine) is);
       })
-    where
-      same : (u : Typed) → ◌≡◌ {A = Result Typed TypeCause} (Ok u) (Ok typed) → u ≡ typed
-      same u e = cc
 
 -- ---- accepted sources
-
-because_ok : {A F : Type 0} (cause : F → Refusal) (r : Result A F) (a : A) → because cause r ≡ Ok a → r ≡ Ok a
-because_ok cause (Ok b) a e = ap Ok (same e)
-  where
-    same : ◌≡◌ {A = Result _ Refusal} (Ok b) (Ok a) → b ≡ a
-    same e = cc
-because_ok cause (Err f) a e = absurd cc
 
 -- the tokens of a source that is short enough
 record ReadTokens (source : Bytes) (ts : Tokens) : Type 0 where
@@ -297,28 +242,10 @@ items_derived ts p e = by (parser.all_items ts) refl e
         same q e = cc
     by (Err rest) is e = absurd cc
 
-small_is : (b : Bool) (t u : Typed × List LoopInfo) → (if b then Err TooManyNodes else Ok t) ≡ Ok u → t ≡ u
-small_is true t u e = absurd cc
-small_is false t u e = cc
-
-noted_is : (typed : Typed) (t : Typed × List LoopInfo) → annotated_well typed ≡ Ok t → typed ≡ t.0
-noted_is typed t e =
-    let q = then_ok (because Notes (notes_of typed)) (λ infos. small_enough (typed, infos)) t e in
-    ap (λ (t : Typed × List LoopInfo). t.0) (small_is (nat_lt SOURCE_NODES typed.nodes) (typed, q.0) t q.2)
-
-tree_sized : (source : Bytes) (ts : Tokens) (p : Program) (typed : Typed) → ReadTokens source ts → AllItems ts p.items → tree_of p ≡ Ok typed → IsSized typed
-tree_sized source ts p typed r d e =
-    let read = reading_sized source ts r.read in
-    let short : length ts ≤ 2 ^ 21 = let a = read.1 in let b = r.short in omega arith in
-    let l = then_ok (because Layout (layout_of p)) (λ layout. because Types (typed_with layout p)) typed e in
-    typed_sized ts read.0 short p d l.0 (because_ok Layout (layout_of p) l.0 l.1) typed (because_ok Types (typed_with l.0 p) typed l.2)
-
 pub accepted_are_sized : AcceptedAreSized
-unfolding accepted
 accepted_are_sized source typed infos e =
-    let tokens = then_ok (tokens_of source)
-    (λ tokens. and_then (program_of tokens) (λ p. and_then (tree_of p) annotated_well)) (typed, infos) e in
-    let program = then_ok (program_of tokens.0) (λ p. and_then (tree_of p) annotated_well) (typed, infos) tokens.2 in
-    let tree = then_ok (tree_of program.0) annotated_well (typed, infos) program.2 in
-    subst IsSized (noted_is tree.0 (typed, infos) tree.2)
-    (tree_sized source tokens.0 program.0 tree.0 (tokens_read source tokens.0 tokens.1) (items_derived tokens.0 program.0 program.1) tree.1)
+    let a = accepted_as source typed infos e in
+    let r = tokens_read source a.tokens a.are_tokens in
+    let read = reading_sized source a.tokens r.read in
+    let short : length a.tokens ≤ 2 ^ 21 = let few = read.1 in let bytes = r.short in omega arith in
+    typed_sized a.tokens read.0 short a.program (items_derived a.tokens a.program a.is_program) a.tree.layout a.tree.laid_out typed a.tree.is_typed

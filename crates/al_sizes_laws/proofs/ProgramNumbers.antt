@@ -23,8 +23,10 @@ use Rattle.al_rules.specs.Names.{AllOf}
 use Rattle.al_rules.specs.Names as n
 use Rattle.al_rules.specs.Scopes.{globals_in, funcs_in}
 use Rattle.al_rules.specs.Programs.{start_of}
+use Rattle.al_rules_laws.proofs.LoopEntries.{all_append}
 use Rattle.al_graded_laws.specs.InRange.{has_64_bits}
-use Rattle.al_sizes_laws.proofs.TreesOfTokens.{Good, Found, takes_kind, takes, base, stars, declarator, ExprCases, StmtCases, inners}
+use Rattle.al_runs_laws.proofs.NumberedTrees.{ExprCases, StmtCases}
+use Rattle.al_sizes_laws.proofs.TreesOfTokens.{Sized, Good, Found, takes_kind, takes, base, stars, declarator, inners}
 
 -- ---- phrases leave tokens whose numbers have 64 bits
 
@@ -97,7 +99,7 @@ few_globals (g.next {is = is} {js = js} r q) = let x = counted r in let y = few_
 
 -- ---- items
 
-module _ (P : Expr → Type 0) (c : ExprCases P) (S : ℕ → CType → Stmt → Type 0) (K : ℕ → CType → StmtKind → Type 0)
+module _ (P : Expr → Type 0) (c : ExprCases Sized P) (S : ℕ → CType → Stmt → Type 0) (K : ℕ → CType → StmtKind → Type 0)
     (d : (m : ℕ) (a : CType) → StmtCases P (S m a) (K m a)) where
   -- the statements of a function, by its number and its result
   abbrev pub BodySized : Func → Type 0
@@ -119,13 +121,9 @@ module _ (P : Expr → Type 0) (c : ExprCases P) (S : ℕ → CType → Stmt →
       let b = takes k (params q (takes j (takes i (stars p (result_base r h))))) in
       (n.more (λ m a. (inners P c (S m a) (K m a) (d m a) l b).0) n.none, takes m (inners P c (S 0 t.Int) (K 0 t.Int) (d 0 t.Int) l b).1)
 
-  joined : {is js : List Item} → AllOf ItemSized is → AllOf ItemSized js → AllOf ItemSized (is ++ js)
-  joined n.none k = k
-  joined (n.more h hs) k = n.more h (joined hs k)
-
   all_items : {ts : Tokens} {is : List Item} → AllItems ts is → Good ts → AllOf ItemSized is
   all_items g.end h = n.none
-  all_items (g.next r q) h = let a = items r h in joined a.0 (all_items q a.1)
+  all_items (g.next r q) h = let a = items r h in all_append a.0 (all_items q a.1)
 
   funcs_of : (is : List Item) → AllOf ItemSized is → AllOf BodySized (funcs_in is)
   funcs_of [] h = n.none

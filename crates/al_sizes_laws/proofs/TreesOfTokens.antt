@@ -1,15 +1,12 @@
 -- Induction over the trees that the grammar derives from tokens whose numbers have 64 bits: each number in such a tree
 -- has 64 bits.
-use Rattle.std.proofs.Common.{◌≡◌, ℕ, true, List, [], ◌∷◌, ◌++◌, Option, Some, None, refl, subst}
+use Rattle.std.proofs.Common.{◌≡◌, ℕ, true, List, [], ◌∷◌, Option, Some, None, refl, subst}
 use Rattle.std.specs.Prelude.{ℤ, pos}
 use Rattle.std.specs.List.{AllByRecursion}
 use Rattle.al_source.specs.declared.tokens.TokenKind.{TokenKind}
 use Rattle.al_source.specs.declared.tokens.Key.TheVariants as key
 use Rattle.al_grammar.specs.Words.{key_text}
-use Rattle.al_source.specs.declared.operators.UnOp.{UnOp}
-use Rattle.al_source.specs.declared.operators.BinOp.{BinOp}
 use Rattle.al_source.specs.declared.operators.RedOp.{RedOp}
-use Rattle.al_source.specs.declared.texts.Piece.{Piece}
 use Rattle.al_source.specs.declared.annotations.Policy.{Policy}
 use Rattle.al_source.specs.declared.annotations.CommitOrder.{CommitOrder}
 use Rattle.al_source.specs.declared.annotations.LoopNote.{LoopNote}
@@ -17,8 +14,7 @@ use Rattle.al_source.specs.declared.annotations.NamedRed.{NamedRed}
 use Rattle.al_source.specs.declared.source_tree.CType.{CType}
 use Rattle.al_source.specs.declared.source_tree.Field.{Field}
 use Rattle.al_source.specs.declared.source_tree.Expr.{Expr}
-use Rattle.al_source.specs.declared.source_tree.Expr.TheVariants as e
-use Rattle.al_source.specs.declared.source_tree.Stmt.{Stmt, roll-Stmt}
+use Rattle.al_source.specs.declared.source_tree.Stmt.{Stmt}
 use Rattle.al_source.specs.declared.source_tree.StmtKind.{StmtKind}
 use Rattle.al_source.specs.declared.source_tree.StmtKind.TheVariants as s
 use Rattle.al_grammar.specs.declared.operators.Joint.{Joint}
@@ -37,10 +33,16 @@ use Rattle.al_grammar.specs.Statements as g
 use Rattle.al_rules.specs.Names.{Name, AllOf}
 use Rattle.al_rules.specs.Names as n
 use Rattle.al_rules_laws.proofs.SourceInduction.{IfAny, absent, present}
+use Rattle.al_rules_laws.proofs.LoopEntries.{all_append}
 use Rattle.al_graded_laws.specs.InRange.{has_64_bits}
+use Rattle.al_runs_laws.proofs.NumberedTrees.{ExprCases, StmtCases}
 use Rattle.al_sizes_laws.proofs.TokenNumbers.{KindSized, TokenSized}
 
 -- ---- phrases leave tokens whose numbers have 64 bits
+
+-- a number
+abbrev pub Sized : ℤ → Type 0
+Sized m = has_64_bits m ≡ true
 
 abbrev pub Good : Tokens → Type 0
 Good = AllByRecursion TokenSized
@@ -79,29 +81,11 @@ size_of (ty.size_of t u b r v) h = takes v (stars r (base b (takes u (takes t h)
 
 -- ---- expressions
 
--- a fact of each expression whose numbers have 64 bits
-pub record ExprCases (P : Expr → Type 0) : Type 0 where
-  pub number : (m : ℤ) → has_64_bits m ≡ true → P (e.Number m)
-  pub null : P e.Null
-  pub variable : (name : Name) → P (e.Var name)
-  pub unary : (op : UnOp) (x : Expr) → P x → P (e.Unary op x)
-  pub binary : (op : BinOp) (x y : Expr) → P x → P y → P (e.Binary op x y)
-  pub both : (x y : Expr) → P x → P y → P (e.And x y)
-  pub either : (x y : Expr) → P x → P y → P (e.Or x y)
-  pub index : (x i : Expr) → P x → P i → P (e.Index x i)
-  pub dot : (x : Expr) (field : Name) → P x → P (e.Dot x field)
-  pub arrow : (x : Expr) (field : Name) → P x → P (e.Arrow x field)
-  pub deref : (x : Expr) → P x → P (e.Deref x)
-  pub address : (x : Expr) → P x → P (e.Address x)
-  pub call : (name : Name) (xs : List Expr) → AllOf P xs → P (e.Call name xs)
-  pub size : (a : CType) → P (e.SizeOf a)
-  pub allocation : (x : Expr) (a : CType) → P x → P (e.Calloc x a)
-
 -- a phrase with a fact, which leaves tokens whose numbers have 64 bits
 abbrev pub Found : Type 0 → Tokens → Type 0
 Found F us = F × Good us
 
-module _ (P : Expr → Type 0) (c : ExprCases P) where
+module _ (P : Expr → Type 0) (c : ExprCases Sized P) where
   joined : (op : Joint) (y z : Expr) → P y → P z → P (join op y z)
   joined joint.Or y z h i = c.either y z h i
   joined joint.And y z h i = c.both y z h i
@@ -199,35 +183,13 @@ note (g.note p o r) h = reductions r (order o (policy p h))
 
 -- ---- statements
 
--- a fact of each statement whose numbers have 64 bits, by that of its expressions
-pub record StmtCases (P : Expr → Type 0) (S : Stmt → Type 0) (K : StmtKind → Type 0) : Type 0 where
-  pub stmt : (line : ℕ) (d : StmtKind) → K d → S (roll-Stmt (record { line = line; kind = d }))
-  pub empty : K s.Empty
-  pub declare : (a : CType) (name : Name) (v : Option Expr) → IfAny P v → K (s.Declare a name v)
-  pub assign : (x y : Expr) → P x → P y → K (s.Assign x y)
-  pub update : (op : BinOp) (x y : Expr) → P x → P y → K (s.Update op x y)
-  pub call : (name : Name) (xs : List Expr) → AllOf P xs → K (s.Call name xs)
-  pub print : (f : List Piece) (xs : List Expr) → AllOf P xs → K (s.Print f xs)
-  pub choice : (x : Expr) (a : Stmt) (b : Option Stmt) → P x → S a → IfAny S b → K (s.If x a b)
-  pub while_loop : (x : Expr) (a : Stmt) → P x → S a → K (s.While x a)
-  pub for_loop : (first : Option Stmt) (test : Option Expr) (third : Option Stmt) (body : Stmt) (note : Option LoopNote)
-      → IfAny S first → IfAny P test → IfAny S third → S body → K (s.For first test third body note)
-  pub block : (ss : List Stmt) → AllOf S ss → K (s.Block ss)
-  pub returns : (v : Option Expr) → IfAny P v → K (s.Return v)
-  pub breaks : K s.Break
-  pub continues : K s.Continue
-
-all_append : {A : Type 0} (P : A → Type 0) {xs ys : List A} → AllOf P xs → AllOf P ys → AllOf P (xs ++ ys)
-all_append P n.none k = k
-all_append P (n.more h hs) k = n.more h (all_append P hs k)
-
 -- the parts of a loop's head
 pub record HeadParts (P : Expr → Type 0) (S : Stmt → Type 0) (a : Option Stmt) (b : Option Expr) (d : Option Stmt) : Type 0 where
   pub first : IfAny S a
   pub test : IfAny P b
   pub third : IfAny S d
 
-module _ (P : Expr → Type 0) (c : ExprCases P) (S : Stmt → Type 0) (K : StmtKind → Type 0) (d : StmtCases P S K) where
+module _ (P : Expr → Type 0) (c : ExprCases Sized P) (S : Stmt → Type 0) (K : StmtKind → Type 0) (d : StmtCases P S K) where
   simple : {ts us : Tokens} {k : StmtKind} → Simple ts k us → Good ts → Found (K k) us
   simple (g.assign {x = x} {y = y} q t r) h =
       let a = place P c q h in let b = expression P c r (takes t a.1) in (d.assign x y a.0 b.0, b.1)
@@ -306,4 +268,4 @@ module _ (P : Expr → Type 0) (c : ExprCases P) (S : Stmt → Type 0) (K : Stmt
 
     pub inners : {k : ℕ} {ts us : Tokens} {ss : List Stmt} → Inners k ts ss us → Good ts → Found (AllOf S ss) us
     inners g.done h = (n.none, h)
-    inners (g.next r q) h = let a = inner r h in let b = inners q a.1 in (all_append S a.0 b.0, b.1)
+    inners (g.next r q) h = let a = inner r h in let b = inners q a.1 in (all_append a.0 b.0, b.1)
