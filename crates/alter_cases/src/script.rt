@@ -159,7 +159,8 @@ impl<'a, R: Files + Alloc + Print + Threads + Sync> Script<'a, R> {
         Ok(())
     }
 
-    /// Makes the calls over each beginning of the last file but the whole of it. `LINE` stands for the last token's line.
+    /// Makes the calls over each beginning of the last file but the whole of it. `LINE` stands for the line of the last
+    /// token.
     fn cut_off(&mut self, behind: Behind) -> Result<(), Error> {
         let Some(file) = self.files.pop() else {
             return Ok(());

@@ -1,5 +1,5 @@
-//! Sources with what is said of them, in the file that the first word names: a line `==== ` and what is said, up to ` | `
-//! where a remark follows, and then the source. Says which do not hold, and how many there are.
+//! Sources with what is said of them, in the file that the first word names: a line `==== ` and what is said, up to
+//! ` | ` where a remark follows, and then the source. Says which do not hold, and how many there are.
 #![tactic(auto)]
 
 use al_front::resolve;
