@@ -3,8 +3,9 @@
 
 An edit is a file NAME.edit: a line 'file: PATH' (below src/, specs/ or proofs/ of its crate), then pairs of lines
 'old: TEXT' and 'new: TEXT'; another such line begins the pairs of another file. Each old text stands exactly once in its
-file, as the pairs before it left it, and the pairs change something. No two edits of a crate are the same. A crate has three to five edits in must-fail, where it has bodies to
-turn: docs/DECISIONS.md names those that have none, and crates of tests, cases and timings need none.
+file, as the pairs before it left it, and the pairs change something. No two edits of a crate are the same. A crate has
+three to five edits in must-fail, where it has bodies to turn: docs/DECISIONS.md names those that have none, and the
+crates under `# tests` and `# bench` in crates.txt need none.
 
 Ends with a line of counts, and with status 1 where an edit is bad, or a crate has too few or too many.
 """
@@ -12,7 +13,7 @@ import os, re, sys
 
 TOP = os.path.join(os.path.dirname(os.path.abspath(__file__)), "..")
 FOLDERS = ("must-fail", "more-edits")
-UNTURNED = re.compile(r"(^al_tests|_tests|_cases|_speed)$")
+UNTURNED = ("tests", "bench")
 FEWEST, MOST = 3, 5
 
 
@@ -22,8 +23,14 @@ def text_of(*path):
 
 
 def crates():
-    lines = (it.split("#")[0].split(":")[0].split() for it in text_of("crates.txt").splitlines())
-    return [it[0] for it in lines if it]
+    """Returns the crates that crates.txt lists, each with the section in which it stands."""
+    section, listed = "", {}
+    for line in text_of("crates.txt").splitlines():
+        if line.startswith("#"):
+            section = line.strip("# ")
+        elif ":" in line:
+            listed[line.split(":")[0].split()[0]] = section
+    return listed
 
 
 def named_in_decisions():
@@ -94,12 +101,12 @@ def faults_of(crate, counts):
 def main():
     named, faults, all_counts = named_in_decisions(), [], dict.fromkeys(FOLDERS, 0)
     listed, with_edits = crates(), 0
-    for crate in listed:
+    for crate, section in listed.items():
         counts = dict.fromkeys(FOLDERS, 0)
         faults += faults_of(crate, counts)
         number = counts["must-fail"]
         with_edits += number > 0
-        if number > MOST or number < FEWEST and crate not in named and not UNTURNED.search(crate):
+        if number > MOST or number < FEWEST and crate not in named and section not in UNTURNED:
             faults.append(f"{crate}: {number} edits in must-fail, not {FEWEST} to {MOST}")
         for folder in FOLDERS:
             all_counts[folder] += counts[folder]
