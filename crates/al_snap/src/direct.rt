@@ -44,6 +44,19 @@ impl<S: Store> Direct<S> {
         }
     }
 
+    /// Code that goes on on a store, after it has printed these bytes.
+    pub fn resume(alloc: Global, store: S, names: Names, printed: Items<u8>) -> Direct<S>
+        ensures { ⟦<Direct<S> as View>⟧.content result
+            ≡ record { memory = S.memory store; allocations = names; printed = printed; accesses = None } }
+    {
+        Direct {
+            alloc,
+            store,
+            names,
+            printed,
+        }
+    }
+
     /// From now on the next objects have these names. It answers those before.
     pub fn swap_names(&mut self, names: Names) -> Names
         ensures before { result ≡ (⟦<Direct<S> as View>⟧.content self.old).allocations }

@@ -19,7 +19,7 @@ returns-in_ok-put-in-Ok g c =
     let rest : AccessRecord = chunk_record l reds accumulators in
     let x : AccessRecord = marked rest marks in
     let found : None ≡ red_index reds c.args.at =
-    c.in_default-index_of.ensures ∙ ap (λ r. red_index r c.args.at) c.as_slice.ensures in
+    c.in_default.ensures ∙ ap (λ r. red_index r c.args.at) c.as_slice.ensures in
     let none : red_index reds c.args.at ≡ None = sym found in
     let own : c.look-sight.result.own ≡ own_has l c.args.at = c.look-sight.ensures.own in
     store_there (seen l) c.args.self.now.names c.args.self.now.printed x
@@ -41,7 +41,7 @@ returns-in-Err g c =
     let rest : AccessRecord = chunk_record l reds accumulators in
     let x : AccessRecord = marked rest marks in
     let found : None ≡ red_index reds c.args.at =
-    c.in_default-index_of.ensures ∙ ap (λ r. red_index r c.args.at) c.as_slice.ensures in
+    c.in_default.ensures ∙ ap (λ r. red_index r c.args.at) c.as_slice.ensures in
     let none : red_index reds c.args.at ≡ None = sym found in
     let recorded : marked rest c.store.new.self ≡ with_stored x c.look-sight.result.own c.args.at (is_ok c.look-sight.result.value) =
     c.in_ok-store.ensures rest ∙ ap (λ r. with_stored x c.look-sight.result.own c.args.at (is_ok r)) (sym c.in-Err.is) in
