@@ -1,6 +1,6 @@
 use Rattle.std.proofs.Common.{None, sym, ap, refl, ◌∙◌}
 use Rattle.std.proofs.lemmas.Result.{IfOk-weaker}
-use Rattle.al_core.specs.declared.memory.Memory.{Memory}
+use Rattle.al_core.specs.Memory.{Memory}
 use Rattle.al_core.specs.Run.{Whole}
 use Rattle.al_engine.specs.Executions.{loop_result}
 use Rattle.al_engine.specs.Worlds.{whole_of}
