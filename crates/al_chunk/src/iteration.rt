@@ -7,13 +7,14 @@ ghost use Rattle.al_chunk.specs.Loops.{IsBounded, InEachTree, finished};
 
 use crate::env::{LoopEnv, Run};
 use al_code::Code;
-use al_core::{Budget, Ending, LoopInfo, View};
+use al_core::{Budget, Ending, LoopInfo};
 use al_exec::{Machine, Stop};
+use al_values::PackedView;
 use std::alloc::AllocError;
 
 /// Runs one iteration over any view, in a machine that `iterate` made for the loop. The view names the objects of that
 /// iteration. It is exactly the definition's iteration.
-pub fn run_iteration<V: View>(
+pub fn run_iteration<V: PackedView>(
     machine: &mut Machine,
     code: &Code,
     info: &LoopInfo,

@@ -6,14 +6,15 @@ ghost use Rattle.al_chunk.specs.Loops.{IsBounded, InEachTree, finished};
 use crate::env::{LoopEnv, Run};
 use crate::iteration::run_iteration;
 use al_code::Code;
-use al_core::{Ending, LoopInfo, View};
+use al_core::{Ending, LoopInfo};
 use al_exec::Machine;
 use al_heap::Store;
 use al_snap::{Direct, Names, Snap};
+use al_values::PackedView;
 use std::alloc::{AllocError, Global};
 
 /// A view on which one iteration runs after another.
-pub trait LoopView: View {
+pub trait LoopView: PackedView {
     /// From now on the next objects have these names.
     fn name_by(&mut self, names: Names)
         ensures { Self.content self.new ≡ record (Self.content self.old) { allocations = names } };

@@ -7,7 +7,6 @@ mod executions;
 mod job;
 mod rounds;
 mod runs;
-mod seen;
 mod start;
 mod world;
 

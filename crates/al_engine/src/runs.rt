@@ -18,7 +18,6 @@ ghost use Rattle.al_engine.specs.Worlds.{locals_or, whole_of};
 
 use crate::counts::Counts;
 use crate::job::Job;
-use crate::seen::Seen;
 use crate::start::{globals, main_call};
 use crate::world::World;
 use al_code::Code;
@@ -27,7 +26,7 @@ use al_exec::{Machine, Stop};
 use al_heap::Store;
 use al_pages::PageStore;
 use al_round::Gate;
-use al_snap::Names;
+use al_snap::{Direct, Names};
 use al_values::PackedValue;
 use sqlite_items::Items;
 use std::alloc::{AllocError, Global};
@@ -46,17 +45,12 @@ struct End<S> {
 fn start<S: Store + Drop>(alloc: Global, code: &Code, empty: S) -> Result<World<S>, AllocError>
     requires { S.memory empty ≡ no_memory }
     ensures { IfOk result (λ w. (job : Job) (typed : Typed) → IsCodeOf typed code.now →
-        whole_of (⟦<Seen<S> as View>⟧.content w.seen) w.executions w.counts
+        whole_of (⟦<Direct<S> as View>⟧.content w.seen) w.executions w.counts
         ≡ (spec.start (setting_of job typed)).world) }
 {
     let store = globals(alloc, empty, code.globals.as_slice())?;
     Ok(World {
-        seen: Seen {
-            alloc,
-            store,
-            names: Names::outer(),
-            printed: Items::new(alloc),
-        },
+        seen: Direct::begin(alloc, store, Names::outer()),
         executions: 0,
         counts: Counts::none(alloc),
     })
@@ -102,9 +96,9 @@ fn answer_stop<R: Threads + Sync, S: Store + Sync + Drop, G: Gate>(
 ) -> Result<(World<S>, Option<Ending>), AllocError>
     requires may { MayRun job.now }
     requires stopped { IsStopped job.now number lo hi m.old left
-        (whole_of (⟦<Seen<S> as View>⟧.content world.seen) world.executions world.counts) }
+        (whole_of (⟦<Direct<S> as View>⟧.content world.seen) world.executions world.counts) }
     ensures { IfOk result (λ r. IsNext job.now m.new left
-        (whole_of (⟦<Seen<S> as View>⟧.content r.0.seen) r.0.executions r.0.counts) r.1) }
+        (whole_of (⟦<Direct<S> as View>⟧.content r.0.seen) r.0.executions r.0.counts) r.1) }
 {
     let done = world.answer(rt, alloc, job, number, lo, hi, m.locals(), gate)?;
     match done.ending {
@@ -128,9 +122,9 @@ fn go_to_stop<R: Threads + Sync, S: Store + Sync + Drop, G: Gate>(
 ) -> Result<(World<S>, Option<Ending>), AllocError>
     requires may { MayRun job.now }
     requires at { IsAt job.now m.old budget.old
-        (whole_of (⟦<Seen<S> as View>⟧.content world.seen) world.executions world.counts) }
+        (whole_of (⟦<Direct<S> as View>⟧.content world.seen) world.executions world.counts) }
     ensures { IfOk result (λ r. IsNext job.now m.new budget.new
-        (whole_of (⟦<Seen<S> as View>⟧.content r.0.seen) r.0.executions r.0.counts) r.1) }
+        (whole_of (⟦<Direct<S> as View>⟧.content r.0.seen) r.0.executions r.0.counts) r.1) }
 {
     let World {
         mut seen,
@@ -165,7 +159,7 @@ fn run_code<R: Threads + Sync, S: Store + Sync + Drop, G: Gate>(
     requires empty { S.memory empty ≡ no_memory }
     ensures { IfOk result (λ end. (typed : Typed) → IsCodeOf typed job.now.code.now →
         EndsAs (spec.whole_run (setting_of job.now typed)) end.ending
-        (whole_of (⟦<Seen<S> as View>⟧.content end.world.seen) end.world.executions end.world.counts)
+        (whole_of (⟦<Direct<S> as View>⟧.content end.world.seen) end.world.executions end.world.counts)
         end.left) }
 {
     let mut m = main_call(alloc, job.code)?;
@@ -193,7 +187,7 @@ fn told<S: Store + Drop>(
     watch: bool,
 ) -> Result<Report, AllocError>
     ensures { IfOk result (λ r. r ≡ report.watched watch (report_by end.ending steps
-        (whole_of (⟦<Seen<S> as View>⟧.content end.world.seen) end.world.executions end.world.counts)
+        (whole_of (⟦<Direct<S> as View>⟧.content end.world.seen) end.world.executions end.world.counts)
         end.left)) }
 {
     let End {
@@ -206,9 +200,10 @@ fn told<S: Store + Drop>(
         executions: _,
         counts,
     } = world;
+    let (_, _, printed) = seen.finish();
     let outside = u128::from(steps.saturating_sub(left));
     Ok(Report {
-        output: seen.printed,
+        output: printed,
         ending,
         loops: counts.loops,
         rounds: counts.rounds,

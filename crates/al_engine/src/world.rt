@@ -12,13 +12,12 @@ use crate::counts::Counts;
 use crate::entered::Entered;
 use crate::executions::{LoopResult, execute};
 use crate::job::Job;
-use crate::seen::Seen;
 use al_chunk::LoopEnv;
 use al_code::Code;
 use al_core::{Ending, LoopInfo, View, trips};
 use al_heap::Store;
 use al_round::Gate;
-use al_snap::Names;
+use al_snap::{Direct, Names};
 use al_values::PackedValue;
 use sqlite_items::Items;
 use std::alloc::{AllocError, Global};
@@ -27,7 +26,7 @@ use std::thread::Threads;
 /// The world outside iterations: what the code sees, how many executions of annotated loops there were, and the counts.
 #[derive(Drop)]
 pub(crate) struct World<S> {
-    pub seen: Seen<S>,
+    pub seen: Direct<S>,
     pub executions: u32,
     pub counts: Counts,
 }
@@ -97,7 +96,7 @@ fn come_back<S: Store + Drop>(
         spec.come_back e x.now.hi w (loop_result (S.memory done.store) done.printed done.ending done.counts)
         ≡ (
           answer_by r.ending old r.locals,
-          whole_of (⟦<Seen<S> as View>⟧.content r.world.seen) r.world.executions r.world.counts,
+          whole_of (⟦<Direct<S> as View>⟧.content r.world.seen) r.world.executions r.world.counts,
         ))) }
     ensures counter { IfOk result (λ r. IfSome r.locals (λ ls.
         HasCounter x.now.info.now x.now.env.lo x.now.hi ls)) }
@@ -118,15 +117,9 @@ fn come_back<S: Store + Drop>(
     printed.append(more)?;
     counts.add(added)?;
     let executions = executions.checked_add(1).ok_or(AllocError)?;
-    let seen = Seen {
-        alloc,
-        store,
-        names,
-        printed,
-    };
     Ok(Answered {
         world: World {
-            seen,
+            seen: Direct::resume(alloc, store, names, printed),
             executions,
             counts,
         },
@@ -161,10 +154,10 @@ impl<S: Store + Sync + Drop> World<S> {
         requires number { x.now.env.execution ≡ self.executions }
         ensures did { IfOk result (λ r. InTrees x.now (λ e.
             spec.run_loop (setting_of x.now.job e.typed) e x.now.hi locals
-            (whole_of (⟦<Seen<S> as View>⟧.content self.seen) self.executions self.counts)
+            (whole_of (⟦<Direct<S> as View>⟧.content self.seen) self.executions self.counts)
             ≡ (
               answer_by r.ending locals r.locals,
-              whole_of (⟦<Seen<S> as View>⟧.content r.world.seen) r.world.executions r.world.counts,
+              whole_of (⟦<Direct<S> as View>⟧.content r.world.seen) r.world.executions r.world.counts,
             ))) }
         ensures counter { IfOk result (λ r. IfSome r.locals (λ ls.
             HasCounter x.now.info.now x.now.env.lo x.now.hi ls)) }
@@ -174,12 +167,7 @@ impl<S: Store + Sync + Drop> World<S> {
             executions,
             counts,
         } = self;
-        let Seen {
-            alloc: _,
-            mut store,
-            names,
-            printed,
-        } = seen;
+        let (mut store, names, printed) = seen.finish();
         store.set_locals(locals);
         let done = execute(rt, alloc, x, store, gate)?;
         let before = Before {
@@ -206,10 +194,10 @@ impl<S: Store + Sync + Drop> World<S> {
         requires may { MayRun job.now }
         ensures did { IfOk result (λ r. (typed : Typed) → IsCodeOf typed job.now.code.now
             → spec.visit_loop (setting_of job.now typed) lo hi locals.now
-            (whole_of (⟦<Seen<S> as View>⟧.content self.seen) self.executions self.counts) (loop_at typed number)
+            (whole_of (⟦<Direct<S> as View>⟧.content self.seen) self.executions self.counts) (loop_at typed number)
             ≡ (
               answer_by r.ending locals.now r.locals,
-              whole_of (⟦<Seen<S> as View>⟧.content r.world.seen) r.world.executions r.world.counts,
+              whole_of (⟦<Direct<S> as View>⟧.content r.world.seen) r.world.executions r.world.counts,
             )) }
         ensures counter { IfOk result (λ r. IfSome r.locals (λ ls. IsCounted job.now.code.now number lo hi ls)) }
     {

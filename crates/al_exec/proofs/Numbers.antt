@@ -1,11 +1,13 @@
 -- What is known of a value once it is known whether it is a number.
 use Rattle.std.proofs.Common.{◌≡◌, sym, ap, refl}
-use Rattle.std.specs.Prelude.{Option, Some, None, ℤ, true}
+use Rattle.std.specs.Prelude.{ℕ, Option, Some, None, ℤ, true}
 use Rattle.std.proofs.lemmas.Option.{same_Some, none-some}
+use Rattle.al_core.specs.declared.values.Obj.TheVariants.{Global}
 use Rattle.al_core.specs.declared.values.Val.{Val}
 use Rattle.al_core.specs.declared.values.Val.TheVariants.{Int, Ptr}
 use Rattle.al_core.specs.Values.{truth}
-use Rattle.al_values.specs.Packing.{number_of}
+use Rattle.al_code.specs.Machine.{pointer_in}
+use Rattle.al_values.specs.Packing.{number_of, offset_of, with_offset}
 
 pub known_number : (v : Val) (n : ℤ) → Some n ≡ number_of v → Int n ≡ v
 known_number (Int m) n h = ap Int (same_Some n m h)
@@ -14,3 +16,19 @@ known_number (Ptr o w) n h = absurd (none-some n (sym h))
 pub known_pointer : (v : Val) → None ≡ number_of v → true ≡ truth v
 known_pointer (Int m) h = absurd (none-some m h)
 known_pointer (Ptr o w) h = refl
+
+pub known_offset : (v : Val) (n : ℕ) → Some n ≡ offset_of v → n ≡ (pointer_in v).1
+known_offset (Int m) n h = absurd (none-some n (sym h))
+known_offset (Ptr o w) n h = same_Some n w h
+
+pub known_no_offset : (v : Val) → None ≡ offset_of v → 0 ≡ (pointer_in v).1
+known_no_offset (Int m) h = refl
+known_no_offset (Ptr o w) h = absurd (none-some w h)
+
+pub known_near : (v : Val) (n : ℕ) (c : Val) → Some c ≡ with_offset v n → c ≡ Ptr (pointer_in v).0 n
+known_near (Int m) n c h = absurd (none-some c (sym h))
+known_near (Ptr o w) n c h = same_Some c (Ptr o n) h
+
+pub known_no_near : (v : Val) (n : ℕ) → None ≡ with_offset v n → Ptr (Global 0) n ≡ Ptr (pointer_in v).0 n
+known_no_near (Int m) n h = refl
+known_no_near (Ptr o w) n h = absurd (none-some (Ptr o n) h)

@@ -8,7 +8,8 @@ ghost use Rattle.al_exec.specs.Pauses.{Acted, gone};
 use crate::active::Active;
 use crate::pause::Pause;
 use al_code::{Code, Instr};
-use al_core::{View, ViewFault};
+use al_core::ViewFault;
+use al_values::PackedView;
 
 #[inline(always)]
 fn going(r: Result<(), ViewFault>) -> Result<Option<Pause>, ViewFault>
@@ -23,7 +24,7 @@ fn going(r: Result<(), ViewFault>) -> Result<Option<Pause>, ViewFault>
 impl Active {
     /// Prints the text of a number.
     #[inline(always)]
-    fn print_text<V: View>(
+    fn print_text<V: PackedView>(
         &mut self,
         code: &Code,
         k: u32,
@@ -44,7 +45,7 @@ impl Active {
 
     /// Does an instruction, or says at which pause it stands.
     #[inline(always)]
-    pub fn act<V: View>(
+    pub fn act<V: PackedView>(
         &mut self,
         code: &Code,
         input: &[i64],

@@ -13,13 +13,13 @@ use crate::pause::Pause;
 use crate::run::line_at;
 use crate::stop::Stop;
 use al_code::Code;
-use al_core::{Budget, Trap, View, ViewFault};
-use al_values::PackedValue;
+use al_core::{Budget, Trap, ViewFault};
+use al_values::{PackedValue, PackedView};
 use std::alloc::AllocError;
 
 impl Machine {
     /// Does the instruction of a pause.
-    fn pass<V: View>(
+    fn pass<V: PackedView>(
         &mut self,
         code: &Code,
         pause: Pause,
@@ -41,7 +41,7 @@ impl Machine {
     }
 
     /// Does what comes before the first instruction.
-    fn begin_run<V: View>(&mut self, view: &mut V) -> Result<(), Fault>
+    fn begin_run<V: PackedView>(&mut self, view: &mut V) -> Result<(), Fault>
         ensures begins { Begins self.old (V.content view.old) result self.new (V.content view.new) }
         ensures kept { Keeps self.old self.new }
     {
@@ -74,7 +74,7 @@ impl Machine {
     }
 
     /// Runs to the next stop, from where it stands.
-    fn run_on<V: View>(
+    fn run_on<V: PackedView>(
         &mut self,
         code: &Code,
         input: &[i64],
@@ -113,7 +113,7 @@ impl Machine {
     }
 
     /// Runs to the next stop, from its start.
-    fn run_from_start<V: View>(
+    fn run_from_start<V: PackedView>(
         &mut self,
         code: &Code,
         input: &[i64],
@@ -138,7 +138,7 @@ impl Machine {
 
     /// Runs to the next stop, in valid code in which the machine stands: that with which it was started. It stops
     /// exactly as the code's meaning does, over any view, with the same steps left. It always returns.
-    pub fn go<V: View>(
+    pub fn go<V: PackedView>(
         &mut self,
         code: &Code,
         input: &[i64],

@@ -8,9 +8,9 @@ ghost use Rattle.al_exec.specs.Meets.{Answers};
 ghost use Rattle.al_exec.specs.Tripping.{ReadsRange};
 
 use crate::active::Active;
-use crate::values::packed;
-use al_core::{Addr, Bound, Kind, Val, View, ViewFault, number};
-use al_values::PackedValue;
+use crate::values::number_in;
+use al_core::{Addr, Bound, Kind, ViewFault};
+use al_values::{PackedValue, PackedView};
 use std::alloc::AllocError;
 
 /// The start and the bound of an annotated loop.
@@ -23,24 +23,24 @@ pub struct Range {
 #[tactic(auto, unfolding(al_core::specs::Action::bind, al_core::specs::Action::pure, al_core::specs::Action::lift, al_core::specs::Action::asks, al_core::specs::Action::get_frame, al_core::specs::Action::set_frame))]
 impl Active {
     /// A local, which may be one that a loop's iterations share.
-    fn read_local<V: View>(&self, k: u32, view: &mut V) -> Result<Val, ViewFault>
+    fn read_local<V: PackedView>(&self, k: u32, view: &mut V) -> Result<PackedValue, ViewFault>
         ensures { Answers (action.get_local in_iteration k) self.now (V.content view.old)
             result self.now (V.content view.new) }
     {
         if self.is_private(k) {
-            return Ok(self.local(k).unpack());
+            return Ok(self.local(k));
         }
-        view.load(Addr::Local(k), Kind::Int)
+        view.load_packed(Addr::Local(k), Kind::Int)
     }
 
     /// The bound of an annotated loop.
-    pub fn bound<V: View>(&self, bound: Bound, view: &mut V) -> Result<i64, ViewFault>
+    pub fn bound<V: PackedView>(&self, bound: Bound, view: &mut V) -> Result<i64, ViewFault>
         ensures { Answers (meaning.bound_value in_iteration bound) self.now (V.content view.old)
             result self.now (V.content view.new) }
     {
         match bound {
             Bound::Number(n) => Ok(n),
-            Bound::Local(k) => match number(self.read_local(k, view)?) {
+            Bound::Local(k) => match number_in(self.read_local(k, view)?) {
                 Ok(n) => Ok(n),
                 Err(t) => Err(ViewFault::Trap(t)),
             },
@@ -48,12 +48,12 @@ impl Active {
     }
 
     /// Takes the start of an annotated loop, and reads its bound.
-    pub fn range<V: View>(&mut self, bound: Bound, view: &mut V) -> Result<Range, ViewFault>
+    pub fn range<V: PackedView>(&mut self, bound: Bound, view: &mut V) -> Result<Range, ViewFault>
         requires { 1 ≤ self.old.height }
         ensures read { ReadsRange bound self.old (V.content view.old) result self.new (V.content view.new) }
         ensures size { self.new.size ≡ self.old.size }
     {
-        match number(self.pop().unpack()) {
+        match number_in(self.pop()) {
             Ok(lo) => match self.bound(bound, view) {
                 Ok(hi) => Ok(Range { lo, hi }),
                 Err(e) => Err(e),
@@ -63,7 +63,7 @@ impl Active {
     }
 
     /// Sets the counter of an annotated loop.
-    pub fn set_counter<V: View>(
+    pub fn set_counter<V: PackedView>(
         &mut self,
         k: u32,
         n: PackedValue,
@@ -77,7 +77,7 @@ impl Active {
             self.set_local(k, n);
             return Ok(());
         }
-        view.store(Addr::Local(k), n.unpack())
+        view.store_packed(Addr::Local(k), n)
     }
 }
 

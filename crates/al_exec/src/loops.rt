@@ -8,7 +8,8 @@ use crate::inner::InnerLoop;
 use crate::locals::Range;
 use crate::machine::{Machine, Onward};
 use al_code::{Body, Code};
-use al_core::{LoopInfo, Trap, Val, View, ViewFault, trips};
+use al_core::{LoopInfo, Trap, Val, ViewFault, trips};
+use al_values::PackedView;
 use std::alloc::AllocError;
 
 impl Machine {
@@ -21,7 +22,7 @@ impl Machine {
     }
 
     /// The next trip of a loop that runs as an ordinary one, or what comes after its last.
-    fn trip<V: View>(
+    fn trip<V: PackedView>(
         &mut self,
         counter: u32,
         body: Body,
@@ -50,7 +51,7 @@ impl Machine {
     }
 
     /// Begins an annotated loop as an ordinary one.
-    fn begin_loop<V: View>(
+    fn begin_loop<V: PackedView>(
         &mut self,
         counter: u32,
         body: Body,
@@ -69,7 +70,7 @@ impl Machine {
     }
 
     /// Stops at an annotated loop, or begins it.
-    pub(crate) fn enter_loop<V: View>(
+    pub(crate) fn enter_loop<V: PackedView>(
         &mut self,
         code: &Code,
         k: u32,
@@ -100,7 +101,7 @@ impl Machine {
     }
 
     /// Ends an iteration: the next trip of the innermost loop, or the end of the iteration that was started.
-    pub(crate) fn end_iteration<V: View>(
+    pub(crate) fn end_iteration<V: PackedView>(
         &mut self,
         code: &Code,
         view: &mut V,

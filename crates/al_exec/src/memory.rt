@@ -6,8 +6,8 @@ ghost use Rattle.al_exec.specs.Meets.{Did, DidAlone};
 
 use crate::active::Active;
 use crate::values::{object_words, packed, pointer};
-use al_core::{Addr, Kind, Val, View, ViewFault};
-use al_values::PackedValue;
+use al_core::{Addr, Kind, Val, ViewFault};
+use al_values::{PackedValue, PackedView};
 
 /// Instructions that go through what the code sees.
 #[tactic(auto, unfolding(al_core::specs::Action::bind, al_core::specs::Action::pure, al_core::specs::Action::lift, al_core::specs::Action::asks, al_core::specs::Action::get_frame, al_core::specs::Action::set_frame))]
@@ -27,14 +27,14 @@ impl Active {
 
     /// Puts a local that a loop's iterations share.
     #[inline(always)]
-    fn get_shared<V: View>(&mut self, k: u32, view: &mut V) -> Result<(), ViewFault>
+    fn get_shared<V: PackedView>(&mut self, k: u32, view: &mut V) -> Result<(), ViewFault>
         requires place { self.old.place + 1 < 2 ^ 64 }
         requires room { self.old.height < self.old.room }
         requires shared { action.is_private self.old.own k ≡ false }
         ensures { (input : List ℤ) (code : Code)
             → Did input code (i.GetLocal k) self.old (V.content view.old) result self.new (V.content view.new) }
     {
-        let v = packed(view.load(Addr::Local(k), Kind::Int)?)?;
+        let v = view.load_packed(Addr::Local(k), Kind::Int)?;
         self.push(v);
         self.advance();
         Ok(())
@@ -56,7 +56,7 @@ impl Active {
 
     /// Sets a local that a loop's iterations share.
     #[inline(always)]
-    fn put_shared<V: View>(&mut self, k: u32, view: &mut V) -> Result<(), ViewFault>
+    fn put_shared<V: PackedView>(&mut self, k: u32, view: &mut V) -> Result<(), ViewFault>
         requires place { self.old.place + 1 < 2 ^ 64 }
         requires operands { 1 ≤ self.old.height }
         requires shared { action.is_private self.old.own k ≡ false }
@@ -64,13 +64,13 @@ impl Active {
             → Did input code (i.SetLocal k) self.old (V.content view.old) result self.new (V.content view.new) }
     {
         let v = self.pop();
-        view.store(Addr::Local(k), v.unpack())?;
+        view.store_packed(Addr::Local(k), v)?;
         self.advance();
         Ok(())
     }
 
     #[inline(always)]
-    pub fn get_local<V: View>(&mut self, k: u32, view: &mut V) -> Result<(), ViewFault>
+    pub fn get_local<V: PackedView>(&mut self, k: u32, view: &mut V) -> Result<(), ViewFault>
         requires place { self.old.place + 1 < 2 ^ 64 }
         requires room { self.old.height < self.old.room }
         ensures { (input : List ℤ) (code : Code)
@@ -84,7 +84,7 @@ impl Active {
     }
 
     #[inline(always)]
-    pub fn put_local<V: View>(&mut self, k: u32, view: &mut V) -> Result<(), ViewFault>
+    pub fn put_local<V: PackedView>(&mut self, k: u32, view: &mut V) -> Result<(), ViewFault>
         requires place { self.old.place + 1 < 2 ^ 64 }
         requires operands { 1 ≤ self.old.height }
         ensures { (input : List ℤ) (code : Code)
@@ -98,7 +98,7 @@ impl Active {
     }
 
     #[inline(always)]
-    pub fn load<V: View>(&mut self, want: Kind, view: &mut V) -> Result<(), ViewFault>
+    pub fn load<V: PackedView>(&mut self, want: Kind, view: &mut V) -> Result<(), ViewFault>
         requires place { self.old.place + 1 < 2 ^ 64 }
         requires operands { 1 ≤ self.old.height }
         requires room { self.old.height ≤ self.old.room }
@@ -106,14 +106,14 @@ impl Active {
             → Did input code (i.Load want) self.old (V.content view.old) result self.new (V.content view.new) }
     {
         let (obj, at) = pointer(self.pop());
-        let v = view.load(Addr::Word(obj, at), want)?;
-        self.push(packed(v)?);
+        let v = view.load_packed(Addr::Word(obj, at), want)?;
+        self.push(v);
         self.advance();
         Ok(())
     }
 
     #[inline(always)]
-    pub fn store<V: View>(&mut self, view: &mut V) -> Result<(), ViewFault>
+    pub fn store<V: PackedView>(&mut self, view: &mut V) -> Result<(), ViewFault>
         requires place { self.old.place + 1 < 2 ^ 64 }
         requires operands { 2 ≤ self.old.height }
         ensures { (input : List ℤ) (code : Code)
@@ -121,13 +121,13 @@ impl Active {
     {
         let v = self.pop();
         let (obj, at) = pointer(self.pop());
-        view.store(Addr::Word(obj, at), v.unpack())?;
+        view.store_packed(Addr::Word(obj, at), v)?;
         self.advance();
         Ok(())
     }
 
     #[inline(always)]
-    pub fn calloc<V: View>(&mut self, size: u32, view: &mut V) -> Result<(), ViewFault>
+    pub fn calloc<V: PackedView>(&mut self, size: u32, view: &mut V) -> Result<(), ViewFault>
         requires place { self.old.place + 1 < 2 ^ 64 }
         requires operands { 1 ≤ self.old.height }
         requires room { self.old.height ≤ self.old.room }
@@ -146,7 +146,7 @@ impl Active {
     }
 
     #[inline(always)]
-    pub fn free<V: View>(&mut self, view: &mut V) -> Result<(), ViewFault>
+    pub fn free<V: PackedView>(&mut self, view: &mut V) -> Result<(), ViewFault>
         requires place { self.old.place + 1 < 2 ^ 64 }
         requires operands { 1 ≤ self.old.height }
         requires room { self.old.height ≤ self.old.room }

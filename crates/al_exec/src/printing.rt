@@ -9,8 +9,8 @@ ghost use Rattle.al_exec.specs.Meets.{Did};
 ghost use Rattle.al_exec.specs.Printing.{int_in, ints};
 
 use crate::active::Active;
-use al_core::{Piece, Trap, Val, View, ViewFault, number};
-use al_values::PackedValue;
+use al_core::{Piece, Trap, Val, ViewFault, number};
+use al_values::{PackedValue, PackedView};
 use itoa::Buffer;
 use std::alloc::AllocError;
 
@@ -82,7 +82,7 @@ impl Active {
     /// Prints a text. The bytes are a place to write it first.
     #[tactic(auto, unfolding(al_core::specs::Action::bind, al_core::specs::Action::pure, al_core::specs::Action::lift, al_core::specs::Action::asks))]
     #[inline(always)]
-    pub fn print<V: View>(
+    pub fn print<V: PackedView>(
         &mut self,
         k: u32,
         format: &[Piece],

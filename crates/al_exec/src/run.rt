@@ -7,7 +7,8 @@ use crate::active::Active;
 use crate::fault::Fault;
 use crate::pause::Pause;
 use al_code::{Code, Instr};
-use al_core::{View, ViewFault};
+use al_core::ViewFault;
+use al_values::PackedView;
 use std::alloc::Global;
 use std::mem;
 
@@ -34,7 +35,7 @@ impl Active {
     }
 
     /// Runs to the next call, return, loop or end of an iteration.
-    pub fn run<V: View>(
+    pub fn run<V: PackedView>(
         &mut self,
         alloc: Global,
         code: &Code,
@@ -55,7 +56,7 @@ impl Active {
     }
 
     #[inline(always)]
-    fn run_here<V: View>(
+    fn run_here<V: PackedView>(
         &mut self,
         code: &Code,
         input: &[i64],

@@ -1,5 +1,6 @@
 ghost use Rattle.std.specs.Prelude.{◌≡◌, ◌+◌, ◌<◌, ◌≤◌, ◌^◌, MatchResult};
 ghost use Rattle.al_core.specs.declared.view.ViewFault.TheVariants as fault;
+ghost use Rattle.al_core.specs.declared.values.Val.TheVariants as value;
 ghost use Rattle.al_source.specs.Steps.{and_then};
 ghost use Rattle.al_core.specs.Arithmetic as arithmetic;
 ghost use Rattle.al_core.specs.Values as spec;
@@ -9,8 +10,8 @@ ghost use Rattle.al_exec.specs.Meets.{DidAlone};
 
 use crate::active::Active;
 use al_core::{
-    BinOp, Obj, RedOp, Trap, UnOp, Val, ViewFault, binary, choose, compare, element, input_at,
-    number, of_test, operate_one, point, shift, truth, words_of,
+    BinOp, Obj, RedOp, Trap, UnOp, Val, ViewFault, binary, choose, element, input_at, number,
+    operate_one, truth, words_of,
 };
 use al_values::PackedValue;
 
@@ -38,7 +39,7 @@ pub fn holds(v: PackedValue) -> bool
 
 /// The number that a value is.
 #[inline(always)]
-fn number_in(v: PackedValue) -> Result<i64, Trap>
+pub fn number_in(v: PackedValue) -> Result<i64, Trap>
     ensures { result ≡ spec.number v }
 {
     match v.int() {
@@ -94,6 +95,55 @@ pub fn pointer(v: PackedValue) -> (Obj, u32)
     }
 }
 
+/// The offset in words to which a pointer leads.
+#[tactic(auto, using(crate::proofs::Numbers::known_offset, crate::proofs::Numbers::known_no_offset))]
+#[inline(always)]
+fn offset_in(v: PackedValue) -> u32
+    ensures { result ≡ (pointer_in v).1 }
+{
+    match v.offset() {
+        Some(at) => at,
+        None => 0,
+    }
+}
+
+/// A pointer to a word of the object to which a pointer leads.
+#[tactic(auto, using(crate::proofs::Numbers::known_near, crate::proofs::Numbers::known_no_near))]
+#[inline(always)]
+fn near(v: PackedValue, at: u32) -> Result<PackedValue, ViewFault>
+    ensures { MatchResult result (λ c. c ≡ value.Ptr (pointer_in v).0 at) (λ e. e ≡ fault.Memory) }
+{
+    match v.with_offset(at) {
+        Some(c) => Ok(c),
+        None => packed(Val::Ptr(Obj::Global(0), at)),
+    }
+}
+
+/// A condition as 1 or 0.
+#[inline(always)]
+fn tested(condition: bool) -> PackedValue
+    ensures { result ≡ spec.of_test condition }
+{
+    if condition {
+        PackedValue::from_int(1)
+    } else {
+        PackedValue::from_int(0)
+    }
+}
+
+/// Whether two pointers are equal, or whether they differ, as 1 or 0.
+#[tactic(auto, unfolding(al_core::specs::Values::compare))]
+#[inline(always)]
+fn compared(equal: bool, a: PackedValue, b: PackedValue) -> PackedValue
+    ensures { result ≡ spec.compare equal a b }
+{
+    if equal {
+        tested(a.is_same(b))
+    } else {
+        tested(!a.is_same(b))
+    }
+}
+
 #[inline(always)]
 pub fn input_value(input: &[i64], index: Val) -> Result<Val, Trap>
     ensures { result ≡ and_then (spec.number index) (spec.input_at input.now) }
@@ -139,16 +189,18 @@ impl Active {
         requires room { self.old.height ≤ self.old.room }
         ensures { DidAlone i.NotNull self.old result self.new }
     {
-        match point(self.pop().unpack()) {
-            Ok((obj, at)) => {
-                self.push(packed(Val::Ptr(obj, at))?);
+        let v = self.pop();
+        match v.unpack() {
+            Val::Ptr(_, _) => {
+                self.push(v);
                 self.advance();
                 Ok(())
             }
-            Err(t) => Err(ViewFault::Trap(t)),
+            Val::Int(_) => Err(ViewFault::Trap(Trap::Null)),
         }
     }
 
+    #[tactic(auto, unfolding(al_core::specs::Action::bind, al_core::specs::Action::pure, al_core::specs::Action::lift, al_core::specs::Values::shift))]
     #[inline(always)]
     pub fn plus(&mut self, words: u32) -> Result<(), ViewFault>
         requires place { self.old.place + 1 < 2 ^ 64 }
@@ -156,13 +208,14 @@ impl Active {
         requires room { self.old.height ≤ self.old.room }
         ensures { DidAlone (i.Plus words) self.old result self.new }
     {
-        match shift(pointer(self.pop()), words) {
-            Ok((obj, at)) => {
-                self.push(packed(Val::Ptr(obj, at))?);
+        let v = self.pop();
+        match offset_in(v).checked_add(words) {
+            Some(at) => {
+                self.push(near(v, at)?);
                 self.advance();
                 Ok(())
             }
-            Err(t) => Err(ViewFault::Trap(t)),
+            None => Err(ViewFault::Trap(Trap::Bounds)),
         }
     }
 
@@ -233,7 +286,7 @@ impl Active {
         ensures { DidAlone i.Truth self.old result self.new }
     {
         let condition = holds(self.pop());
-        self.push(packed(of_test(condition))?);
+        self.push(tested(condition));
         self.advance();
         Ok(())
     }
@@ -266,7 +319,7 @@ impl Active {
     {
         let b = self.pop();
         let a = self.pop();
-        self.push(packed(compare(equal, a.unpack(), b.unpack()))?);
+        self.push(compared(equal, a, b));
         self.advance();
         Ok(())
     }

@@ -41,6 +41,7 @@ impl Objects {
     }
 
     /// The words of an object, where it is there.
+    #[inline(always)]
     pub fn get(&self, obj: Obj) -> Option<&Words>
         ensures { option_copied result ≡ object_at self.now obj }
     {
@@ -67,6 +68,7 @@ impl Objects {
     }
 
     /// Puts a value in place of a word, or tells why there is none.
+    #[inline(always)]
     pub fn overwrite(&mut self, obj: Obj, at: u32, value: PackedValue) -> Result<(), Trap>
         ensures found { result ≡ replaced (object_at self.old obj) at }
         ensures after { self.new ≡ set_object self.old obj (with_word (object_at self.old obj) at value) }

@@ -34,6 +34,7 @@ impl PageStore {
     }
 
     /// The words of an object, where it is present.
+    #[inline(always)]
     fn words(&self, obj: Obj) -> Option<&Words>
         ensures { option_copied result ≡ map.get (objects_of self.now.objects) obj }
     {
@@ -54,10 +55,12 @@ impl Store for PageStore {
         self.words(obj)?.get(at)
     }
 
+    #[inline(always)]
     fn local(&self, k: u32) -> Option<PackedValue> {
         self.locals.get(k as usize).copied()
     }
 
+    #[inline(always)]
     fn read(&self, obj: Obj, at: u32) -> Result<PackedValue, Trap> {
         match self.words(obj) {
             Some(words) => words.get(at).ok_or(Trap::Bounds),
@@ -77,6 +80,7 @@ impl Store for PageStore {
         let _ = self.objects.overwrite(obj, at, value);
     }
 
+    #[inline(always)]
     fn overwrite(&mut self, obj: Obj, at: u32, value: PackedValue) -> Result<(), Trap> {
         self.objects.overwrite(obj, at, value)
     }

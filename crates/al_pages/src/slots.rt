@@ -24,6 +24,7 @@ impl Model for Slots {
 }
 
 /// Puts a value in place of a word.
+#[inline(always)]
 fn put_or_bounds(words: &mut Words, at: u32, value: PackedValue) -> Result<(), Trap>
     ensures found { result ≡ replaced (Some words.old) at }
     ensures after { words.new ≡ slice_set words.old at value }
@@ -45,6 +46,7 @@ impl Slots {
     }
 
     /// The object in a slot.
+    #[inline(always)]
     pub fn get(&self, k: usize) -> Option<&Words>
         ensures { option_copied result ≡ slot_at self.now k }
     {
@@ -67,6 +69,7 @@ impl Slots {
     }
 
     /// Puts a value in place of a word of the object in a slot, or tells why there is none.
+    #[inline(always)]
     pub fn overwrite(&mut self, k: usize, at: u32, value: PackedValue) -> Result<(), Trap>
         ensures found { result ≡ replaced (slot_at self.old k) at }
         ensures after { self.new ≡ slice_set self.old k (with_word (slot_at self.old k) at value) }

@@ -4,9 +4,9 @@ ghost use Rattle.al_core.specs.Access as spec;
 ghost use Rattle.al_core.specs.Views.{trapped};
 
 use crate::names::Names;
-use al_core::{Addr, Kind, Obj, Trap, Val, View, ViewFault, of_kind};
+use al_core::{Addr, Kind, Obj, Trap, Val, View, ViewFault};
 use al_heap::Store;
-use al_values::{PackedValue, Words};
+use al_values::{PackedValue, PackedView, Words};
 use sqlite_items::Items;
 use std::alloc::{AllocError, Global};
 use std::mem;
@@ -44,6 +44,19 @@ impl<S: Store> Direct<S> {
         }
     }
 
+    /// Code that goes on on a store, after it has printed these bytes.
+    pub fn resume(alloc: Global, store: S, names: Names, printed: Items<u8>) -> Direct<S>
+        ensures { ⟦<Direct<S> as View>⟧.content result
+            ≡ record { memory = S.memory store; allocations = names; printed = printed; accesses = None } }
+    {
+        Direct {
+            alloc,
+            store,
+            names,
+            printed,
+        }
+    }
+
     /// From now on the next objects have these names. It answers those before.
     pub fn swap_names(&mut self, names: Names) -> Names
         ensures before { result ≡ (⟦<Direct<S> as View>⟧.content self.old).allocations }
@@ -71,36 +84,17 @@ impl<S: Store> View for Direct<S> {
       accesses = None;
     } };
 
-    #[tactic(auto, unfolding(al_core::specs::Access::load))]
     fn load(&mut self, at: Addr, want: Kind) -> Result<Val, ViewFault> {
-        match at {
-            Addr::Word(obj, w) => match self.store.read(obj, w) {
-                Ok(v) => of_kind(want, v.unpack()).map_err(ViewFault::Trap),
-                Err(t) => Err(ViewFault::Trap(t)),
-            },
-            Addr::Head(_) => Err(ViewFault::Trap(Trap::Missing)),
-            Addr::Local(k) => match self.store.local(k) {
-                Some(v) => Ok(v.unpack()),
-                None => Err(ViewFault::Trap(Trap::Missing)),
-            },
+        match self.load_packed(at, want) {
+            Ok(v) => Ok(v.unpack()),
+            Err(e) => Err(e),
         }
     }
 
-    #[tactic(auto, unfolding(al_core::specs::Access::store))]
     fn store(&mut self, at: Addr, val: Val) -> Result<(), ViewFault> {
-        let Some(value) = PackedValue::pack(val) else {
-            return Err(ViewFault::Memory);
-        };
-        match at {
-            Addr::Word(obj, w) => self.store.overwrite(obj, w, value).map_err(ViewFault::Trap),
-            Addr::Head(_) => Err(ViewFault::Trap(Trap::Missing)),
-            Addr::Local(k) => {
-                if self.store.local(k).is_none() {
-                    return Err(ViewFault::Trap(Trap::Missing));
-                }
-                self.store.put_local(k, value);
-                Ok(())
-            }
+        match PackedValue::pack(val) {
+            Some(value) => self.store_packed(at, value),
+            None => Err(ViewFault::Memory),
         }
     }
 
@@ -127,5 +121,39 @@ impl<S: Store> View for Direct<S> {
     #[tactic(auto, unfolding(al_core::specs::Access::print))]
     fn print(&mut self, bytes: &[u8]) -> Result<(), AllocError> {
         self.printed.append(Items::from_slice(self.alloc, bytes)?)
+    }
+}
+
+impl<S: Store> PackedView for Direct<S> {
+    #[tactic(auto, unfolding(al_core::specs::Access::load))]
+    #[inline(always)]
+    fn load_packed(&mut self, at: Addr, want: Kind) -> Result<PackedValue, ViewFault> {
+        match at {
+            Addr::Word(obj, w) => match self.store.read(obj, w) {
+                Ok(v) => v.of_kind(want).map_err(ViewFault::Trap),
+                Err(t) => Err(ViewFault::Trap(t)),
+            },
+            Addr::Head(_) => Err(ViewFault::Trap(Trap::Missing)),
+            Addr::Local(k) => match self.store.local(k) {
+                Some(v) => Ok(v),
+                None => Err(ViewFault::Trap(Trap::Missing)),
+            },
+        }
+    }
+
+    #[tactic(auto, unfolding(al_core::specs::Access::store))]
+    #[inline(always)]
+    fn store_packed(&mut self, at: Addr, value: PackedValue) -> Result<(), ViewFault> {
+        match at {
+            Addr::Word(obj, w) => self.store.overwrite(obj, w, value).map_err(ViewFault::Trap),
+            Addr::Head(_) => Err(ViewFault::Trap(Trap::Missing)),
+            Addr::Local(k) => {
+                if self.store.local(k).is_none() {
+                    return Err(ViewFault::Trap(Trap::Missing));
+                }
+                self.store.put_local(k, value);
+                Ok(())
+            }
+        }
     }
 }

@@ -15,10 +15,10 @@ use crate::direct::is_freeable;
 use crate::layers::Layers;
 use crate::marks::Marks;
 use crate::names::Names;
-use al_core::{Addr, Ending, Kind, Obj, Red, Trap, Val, View, ViewFault, of_kind, red_identity};
+use al_core::{Addr, Ending, Kind, Obj, Red, Trap, Val, View, ViewFault, red_identity};
 use al_heap::Store;
 use al_sets::AddrSet;
-use al_values::{PackedValue, Words};
+use al_values::{PackedValue, PackedView, Words};
 use sqlite_items::{Items, at};
 use std::alloc::{AllocError, Global};
 
@@ -54,11 +54,11 @@ fn index_of(reds: &[Red], at: Addr) -> Option<usize>
 }
 
 /// A word is read as a value of a kind. A local holds a value of its own kind.
-fn read_as(at: Addr, want: Kind, v: Val) -> Result<Val, Trap>
+fn read_as(at: Addr, want: Kind, v: PackedValue) -> Result<PackedValue, Trap>
     ensures { result ≡ spec.read_as at want v }
 {
     match at {
-        Addr::Word(_, _) => of_kind(want, v),
+        Addr::Word(_, _) => v.of_kind(want),
         Addr::Head(_) | Addr::Local(_) => Ok(v),
     }
 }
@@ -165,38 +165,17 @@ impl<'a, S: Store> View for Snap<'a, S> {
       accesses = Some (marked (chunk_record s.layers s.reds s.accumulators) s.marks);
     } };
 
-    #[tactic(auto, unfolding(al_core::specs::Access::load))]
     fn load(&mut self, at: Addr, want: Kind) -> Result<Val, ViewFault> {
-        if let Some(i) = index_of(self.reds.as_slice(), at) {
-            let v = accumulator(self.accumulators.as_slice(), i);
-            return read_as(at, want, v.unpack()).map_err(ViewFault::Trap);
-        }
-        let sight = self.layers.look(at);
-        if !sight.own {
-            self.marks.load(at, sight.value.is_ok(), sight.written)?;
-        }
-        match sight.value {
-            Ok(v) => read_as(at, want, v.unpack()).map_err(ViewFault::Trap),
-            Err(t) => Err(ViewFault::Trap(t)),
+        match self.load_packed(at, want) {
+            Ok(v) => Ok(v.unpack()),
+            Err(e) => Err(e),
         }
     }
 
-    #[tactic(auto, unfolding(al_core::specs::Access::store))]
     fn store(&mut self, at: Addr, val: Val) -> Result<(), ViewFault> {
-        let Some(value) = PackedValue::pack(val) else {
-            return Err(ViewFault::Memory);
-        };
-        if let Some(i) = index_of(self.reds.as_slice(), at) {
-            if i < self.accumulators.len() {
-                self.accumulators.set(i, value);
-            }
-            return Ok(());
-        }
-        let sight = self.layers.look(at);
-        self.marks.store(sight.own, at)?;
-        match sight.value {
-            Ok(_) => Ok(self.layers.put(at, value)?),
-            Err(t) => Err(ViewFault::Trap(t)),
+        match PackedValue::pack(val) {
+            Some(value) => self.store_packed(at, value),
+            None => Err(ViewFault::Memory),
         }
     }
 
@@ -228,5 +207,39 @@ impl<'a, S: Store> View for Snap<'a, S> {
     #[tactic(auto, unfolding(al_core::specs::Access::print))]
     fn print(&mut self, bytes: &[u8]) -> Result<(), AllocError> {
         self.printed.append(Items::from_slice(self.alloc, bytes)?)
+    }
+}
+
+impl<'a, S: Store> PackedView for Snap<'a, S> {
+    #[tactic(auto, unfolding(al_core::specs::Access::load))]
+    fn load_packed(&mut self, at: Addr, want: Kind) -> Result<PackedValue, ViewFault> {
+        if let Some(i) = index_of(self.reds.as_slice(), at) {
+            let v = accumulator(self.accumulators.as_slice(), i);
+            return read_as(at, want, v).map_err(ViewFault::Trap);
+        }
+        let sight = self.layers.look(at);
+        if !sight.own {
+            self.marks.load(at, sight.value.is_ok(), sight.written)?;
+        }
+        match sight.value {
+            Ok(v) => read_as(at, want, v).map_err(ViewFault::Trap),
+            Err(t) => Err(ViewFault::Trap(t)),
+        }
+    }
+
+    #[tactic(auto, unfolding(al_core::specs::Access::store))]
+    fn store_packed(&mut self, at: Addr, value: PackedValue) -> Result<(), ViewFault> {
+        if let Some(i) = index_of(self.reds.as_slice(), at) {
+            if i < self.accumulators.len() {
+                self.accumulators.set(i, value);
+            }
+            return Ok(());
+        }
+        let sight = self.layers.look(at);
+        self.marks.store(sight.own, at)?;
+        match sight.value {
+            Ok(_) => Ok(self.layers.put(at, value)?),
+            Err(t) => Err(ViewFault::Trap(t)),
+        }
     }
 }

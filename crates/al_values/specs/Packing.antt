@@ -49,5 +49,14 @@ abbrev pub pointer_of : Val → Option Pointer
 pointer_of (Int n) = None
 pointer_of (Ptr o w) = Some (o, w)
 
+-- a pointer's offset, and the pointer to another word of its object
+abbrev pub offset_of : Val → Option ℕ
+offset_of (Int n) = None
+offset_of (Ptr o w) = Some w
+
+abbrev pub with_offset : Val → ℕ → Option Val
+with_offset (Int n) at = None
+with_offset (Ptr o w) at = Some (Ptr o at)
+
 abbrev pub words_code : Coded (List Val)
 words_code = coded_list val.the_row.coded

@@ -1,8 +1,9 @@
 ghost use Rattle.std.specs.Prelude.{◌≡◌, IfSome, is_some, pos};
 ghost use Rattle.al_core.specs.declared.values.Val.TheVariants as value;
-ghost use Rattle.al_values.specs.Packing.{fits, number_of, pointer_of};
+ghost use Rattle.al_core.specs.Values as spec;
+ghost use Rattle.al_values.specs.Packing.{fits, number_of, offset_of, pointer_of, with_offset};
 
-use al_core::{Obj, Val};
+use al_core::{Kind, Obj, Trap, Val};
 use std::marker::Model;
 use std::mem::size_of;
 
@@ -42,6 +43,7 @@ impl Model for PackedValue {
 
 impl PackedValue {
     /// The value 0, which is also the null pointer.
+    #[inline(always)]
     pub fn zero() -> PackedValue
         ensures { result ≡ value.Int (pos 0) }
     {
@@ -49,6 +51,7 @@ impl PackedValue {
     }
 
     /// A number.
+    #[inline(always)]
     pub fn from_int(n: i64) -> PackedValue
         ensures { result ≡ value.Int n }
     {
@@ -60,6 +63,7 @@ impl PackedValue {
 
     /// A value packed. There is none exactly where it points into an object of an iteration from 1,073,741,824 on, of
     /// which a loop has fewer.
+    #[inline(always)]
     pub fn pack(v: Val) -> Option<PackedValue>
         ensures same { IfSome result (λ c. c ≡ v) }
         ensures whole { is_some result ≡ fits v }
@@ -71,6 +75,7 @@ impl PackedValue {
     }
 
     /// A pointer to a word of an object, packed. There is none exactly where `pack` gives none.
+    #[inline(always)]
     pub fn point(obj: Obj, at: u32) -> Option<PackedValue>
         ensures same { IfSome result (λ c. c ≡ value.Ptr obj at) }
         ensures whole { is_some result ≡ fits (value.Ptr obj at) }
@@ -98,6 +103,7 @@ impl PackedValue {
     }
 
     /// The value.
+    #[inline(always)]
     pub fn unpack(self) -> Val
         ensures { result ≡ self }
     {
@@ -116,6 +122,7 @@ impl PackedValue {
     }
 
     /// The number, where the value is one.
+    #[inline(always)]
     pub fn int(self) -> Option<i64>
         ensures { result ≡ number_of self }
     {
@@ -127,12 +134,60 @@ impl PackedValue {
     }
 
     /// The object and the offset in words, where the value is a pointer.
+    #[inline(always)]
     pub fn pointer(self) -> Option<(Obj, u32)>
         ensures { result ≡ pointer_of self }
     {
         match self.unpack() {
             Val::Int(_) => None,
             Val::Ptr(obj, at) => Some((obj, at)),
+        }
+    }
+
+    /// The offset in words, where the value is a pointer.
+    #[inline(always)]
+    pub fn offset(self) -> Option<u32>
+        ensures { result ≡ offset_of self }
+    {
+        if self.hi == 0 {
+            None
+        } else {
+            Some((self.lo % HALF) as u32)
+        }
+    }
+
+    /// A pointer to another word of the same object, where the value is a pointer.
+    #[inline(always)]
+    pub fn with_offset(self, at: u32) -> Option<PackedValue>
+        ensures { result ≡ with_offset self at }
+    {
+        if self.hi == 0 {
+            None
+        } else {
+            Some(PackedValue {
+                hi: self.hi,
+                lo: self.lo / HALF * HALF + u64::from(at),
+            })
+        }
+    }
+
+    /// Whether two values are equal.
+    #[inline(always)]
+    pub fn is_same(self, other: PackedValue) -> bool
+        ensures { result ≡ spec.same self other }
+    {
+        self.hi == other.hi && self.lo == other.lo
+    }
+
+    /// The value, where it may be read as one of the kind: a number, or a pointer or null. It traps `Kind` else.
+    #[inline(always)]
+    pub fn of_kind(self, want: Kind) -> Result<PackedValue, Trap>
+        ensures { result ≡ spec.of_kind want self }
+    {
+        match (want, self.int()) {
+            (Kind::Int, None) => Err(Trap::Kind),
+            (Kind::Ptr, Some(n)) if n != 0 => Err(Trap::Kind),
+            _ => Ok(self),
         }
     }
 }

@@ -45,6 +45,7 @@ impl Words {
     }
 
     /// How many words there are.
+    #[inline(always)]
     pub fn len(&self) -> u32
         ensures { result ≡ length self.now }
     {
@@ -52,6 +53,7 @@ impl Words {
     }
 
     /// The word at an offset, where there is one.
+    #[inline(always)]
     pub fn get(&self, at: u32) -> Option<PackedValue>
         ensures { result ≡ slice_get self.now at }
     {
@@ -59,6 +61,7 @@ impl Words {
     }
 
     /// Puts a value in place of a word, where there is one, and answers whether there is.
+    #[inline(always)]
     pub fn put(&mut self, at: u32, value: PackedValue) -> bool
         ensures there { result ≡ nat_lt at (length self.old) }
         ensures after { self.new ≡ slice_set self.old at value }
