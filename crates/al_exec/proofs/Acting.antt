@@ -9,7 +9,7 @@ use Rattle.al_code.specs.declared.lowered.Code.{Code}
 use Rattle.al_exec.specs.declared.pause.Pause.{Pause}
 use Rattle.al_exec.specs.Active.{Active}
 use Rattle.al_exec.specs.Meets.{Did}
-use Rattle.al_exec.specs.Pauses.{Acted, gone}
+use Rattle.al_exec.specs.Pauses.{Acted, ActedOften, gone}
 
 gone_on : (input : List ℤ) (code : Code) (x : Instr) (s s' : Active) (w w' : Content) (r : Result (Unit {0}) ViewFault)
     → Did input code x s w r s' w' → Acted input code x s w (gone r) s' w'
@@ -21,6 +21,10 @@ pub done : (input : List ℤ) (code : Code) (x y : Instr) (s s' : Active) (w w' 
 done input code x y s s' w w' r q same is h =
     subst (λ x. Acted input code x s w q s' w') (sym same)
     (subst (λ q. Acted input code y s w q s' w') (sym is) (gone_on input code y s s' w w' r h))
+
+pub done_often : (input : List ℤ) (code : Code) (x y : Instr) (s s' : Active) (w w' : Content) (r : Result (Unit {0}) ViewFault)
+    → x ≡ y → Did input code y s w r s' w' → ActedOften input code x s w (Some r) s' w'
+done_often input code x y s s' w w' r same h = subst (λ x. Did input code x s w r s' w') (sym same) h
 
 -- a place that is within a list has an element
 pub is_missing : {X : Type 0} (xs : List X) (k : ℕ) → slice_get xs k ≡ None → length xs ≤ k

@@ -13,11 +13,13 @@ use Rattle.al_code.specs.declared.lowered.Code.{Code}
 use Rattle.al_code.specs.Machine.{Move, does}
 use Rattle.al_code.specs.Runs.{or_no_line, moved_to_stop, exec_to_stop}
 use Rattle.al_code.specs.Valid.{takes, puts, places_after, IsValid, IsSound}
+use Rattle.al_exec.specs.declared.fault.Fault.{Fault}
+use Rattle.al_exec.specs.declared.fault.Fault.TheVariants as exec_fault
 use Rattle.al_exec.specs.declared.pause.Pause.{Pause}
 use Rattle.al_exec.specs.Active.{Active, state_of}
 use Rattle.al_exec.specs.Meets.{Around, spot_of, Went, Did}
 use Rattle.al_exec.specs.Pauses.{instr_of}
-use Rattle.al_exec.specs.Running.{Fits, weight, Comes, Paused}
+use Rattle.al_exec.specs.Running.{Fits, weight, Comes, Paused, Further, Trapped, RanOn, Ran}
 use Rattle.al_exec.proofs.Weights.{lands_on, falls}
 
 module _ (code : Code) (place height room : ℕ) (tall : (q h : ℕ) → slice_get code.heights q ≡ Some h → h ≤ room) where
@@ -78,16 +80,7 @@ module _ (code : Code) (valid : IsValid code) (s : Active) (fits : Fits code s) 
 
 -- ---- the run of a function
 
--- how far it is from where it began
-pub record InRun (input : List ℤ) (code : Code) (s : Active) (w : Content) (s' : Active) (w' : Content) : Type 0 where
-  pub comes : Comes input code s w s' w'
-  pub fits : Fits code s'
-  pub below : s'.below ≡ s.below
-  pub room : s'.room ≡ s.room
-  pub size : s'.size ≡ s.size
-  pub weighs : (n : ℕ) → weight code (2 * s'.budget + n) s'.place ≤ weight code (2 * s.budget + n) s.place
-
-pub begun : (input : List ℤ) (code : Code) (s : Active) (w : Content) → Fits code s → InRun input code s w s w
+pub begun : (input : List ℤ) (code : Code) (s : Active) (w : Content) → Fits code s → Further input code s w s w
 begun input code s w fits = record { comes = λ a k. (k, refl); fits = fits; below = refl; room = refl; size = refl; weighs = λ n. omega arith }
 
 module _ (input : List ℤ) (code : Code) (s : Active) (w : Content) where
@@ -104,8 +97,8 @@ module _ (input : List ℤ) (code : Code) (s : Active) (w : Content) where
       (does in_iteration a.here input code o line (spot_of a s) (state_of s w)).1 go) at
       ∙ ap (λ (r : Answer Move × State Content). after r.0 r.1 go) did
 
-module _ (input : List ℤ) (code : Code) (s0 s s' : Active) (w0 w w' : Content) (run : InRun input code s0 w0 s w) where
-  pub went_on : IsValid code → (x : Instr) → slice_get code.instrs s.place ≡ Some x → Did input code x s w (Ok tt) s' w' → InRun input code s0 w0 s' w'
+module _ (input : List ℤ) (code : Code) (s0 s s' : Active) (w0 w w' : Content) (run : Further input code s0 w0 s w) where
+  pub went_on : IsValid code → (x : Instr) → slice_get code.instrs s.place ≡ Some x → Did input code x s w (Ok tt) s' w' → Further input code s0 w0 s' w'
   went_on valid x at did = record {
     comes = λ a k.
         let h = run.comes a (suc k) in
@@ -116,6 +109,34 @@ module _ (input : List ℤ) (code : Code) (s0 s s' : Active) (w0 w w' : Content)
     size = did.2 ∙ run.size;
     weighs = λ n. let h = falls_next code valid s run.fits x s' at did.1 n in omega (arith, h, run.weighs n);
   }
+
+  pub stayed : s' ≡ s → w' ≡ w → Further input code s0 w0 s' w'
+  stayed same_s same_w =
+      subst (λ s. Further input code s0 w0 s w') (sym same_s) (subst (λ w. Further input code s0 w0 s w) (sym same_w) run)
+
+  -- one run after another
+  pub goes_on : Further input code s w s' w' → Further input code s0 w0 s' w'
+  goes_on next = record {
+    comes = λ a k.
+        let h = next.comes a k in
+        let b = run.comes a h.0 in
+        (b.0, b.1 ∙ h.1);
+    fits = next.fits;
+    below = next.below ∙ run.below;
+    room = next.room ∙ run.room;
+    size = next.size ∙ run.size;
+    weighs = λ n. let h = next.weighs n in omega (arith, h, run.weighs n);
+  }
+
+  pub traps_on : (t : Trap) (line : ℕ) → Trapped input code s w t line s' w' → Trapped input code s0 w0 t line s' w'
+  traps_on t line next a =
+      let h = next a in
+      let b = run.comes a h.0 in
+      (b.0, b.1 ∙ h.1)
+
+  pub ends_on : (e : Fault) → RanOn input code s w (Err e) s' w' → Ran input code s0 w0 (Err e) s' w'
+  ends_on (exec_fault.Trap t line) next = traps_on t line next
+  ends_on exec_fault.Memory next = tt
 
   pub trapped_there : (x : Instr) (t : Trap) (line : ℕ) → slice_get code.instrs s.place ≡ Some x → line ≡ or_no_line (slice_get code.lines s.place)
       → Did input code x s w (Err (fault.Trap t)) s' w' → (a : Around)

@@ -27,3 +27,9 @@ abbrev pub Acted : List ℤ → Code → Instr → Active → Content → Result
 Acted input code x s w (Ok None) s' w' = Did input code x s w (Ok tt) s' w'
 Acted input code x s w (Ok (Some p)) s' w' = (x ≡ instr_of p) × (s' ≡ s) × (w' ≡ w)
 Acted input code x s w (Err e) s' w' = Did input code x s w (Err e) s' w'
+
+-- the instruction was done, or nothing was
+abbrev pub ActedOften : List ℤ → Code → Instr → Active → Content → Option (Result (Unit {0}) ViewFault) → Active
+    → Content → Type 0
+ActedOften input code x s w (Some r) s' w' = Did input code x s w r s' w'
+ActedOften input code x s w None s' w' = (s' ≡ s) × (w' ≡ w)

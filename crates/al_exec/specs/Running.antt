@@ -1,5 +1,6 @@
 -- How far a function has run.
 use Rattle.std.specs.Prelude.{◌≡◌, ⊤, ℕ, suc, ◌+◌, ◌-◌, ◌*◌, ◌≤◌, Bool, true, false, List, length, Some, Result, Ok, Err, slice_get, ℤ}
+use Rattle.al_core.specs.declared.values.Trap.{Trap}
 use Rattle.al_core.specs.Access.{Content, in_iteration}
 use Rattle.al_code.specs.declared.lowered.Code.{Code}
 use Rattle.al_code.specs.Checks.{is_step}
@@ -47,11 +48,30 @@ pub record Paused (input : List ℤ) (code : Code) (s : Active) (w : Content) (p
   pub room : s'.room ≡ s.room
   pub weighs : (n : ℕ) → weight code (2 * s'.budget + n) s'.place ≤ weight code (2 * s.budget + n) s.place
 
--- it runs to a pause, or to a trap
-abbrev pub Ran : List ℤ → Code → Active → Content → Result Pause Fault → Active → Content → Type 0
-Ran input code s w (Ok p) s' w' = Paused input code s w p s' w'
-Ran input code s w (Err (fault.Trap t line)) s' w' =
+-- the function has run further
+pub record Further (input : List ℤ) (code : Code) (s : Active) (w : Content) (s' : Active) (w' : Content) : Type 0 where
+  pub comes : Comes input code s w s' w'
+  pub fits : Fits code s'
+  pub below : s'.below ≡ s.below
+  pub room : s'.room ≡ s.room
+  pub size : s'.size ≡ s.size
+  pub weighs : (n : ℕ) → weight code (2 * s'.budget + n) s'.place ≤ weight code (2 * s.budget + n) s.place
+
+-- it has run to a trap
+abbrev pub Trapped : List ℤ → Code → Active → Content → Trap → ℕ → Active → Content → Type 0
+Trapped input code s w t line s' w' =
     (a : Around)
     → (j : ℕ)
     × (exec_to_stop in_iteration a.here input code j (spot_of a s) (state_of s w) ≡ (Err (t, line), state_of s' w'))
+
+-- it runs further, or to a trap
+abbrev pub RanOn : List ℤ → Code → Active → Content → Result (Unit {0}) Fault → Active → Content → Type 0
+RanOn input code s w (Ok u) s' w' = Further input code s w s' w'
+RanOn input code s w (Err (fault.Trap t line)) s' w' = Trapped input code s w t line s' w'
+RanOn input code s w (Err fault.Memory) s' w' = ⊤
+
+-- it runs to a pause, or to a trap
+abbrev pub Ran : List ℤ → Code → Active → Content → Result Pause Fault → Active → Content → Type 0
+Ran input code s w (Ok p) s' w' = Paused input code s w p s' w'
+Ran input code s w (Err (fault.Trap t line)) s' w' = Trapped input code s w t line s' w'
 Ran input code s w (Err fault.Memory) s' w' = ⊤

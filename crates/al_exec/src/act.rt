@@ -3,7 +3,7 @@ ghost use Rattle.al_code.specs.declared.instructions.Instr.TheVariants as i;
 ghost use Rattle.al_code.specs.Valid.{takes, puts, holes_of, NumberInRange};
 ghost use Rattle.std.specs.Prelude.{slice_get};
 ghost use Rattle.al_exec.specs.Meets.{Did};
-ghost use Rattle.al_exec.specs.Pauses.{Acted, gone};
+ghost use Rattle.al_exec.specs.Pauses.{Acted, ActedOften, gone};
 
 use crate::active::Active;
 use crate::pause::Pause;
@@ -43,8 +43,44 @@ impl Active {
         }
     }
 
-    /// Does an instruction, or says at which pause it stands.
+    /// Does an instruction of those that code has most of. Of another it does nothing, and gives none.
     #[inline(always)]
+    pub fn act_often<V: PackedView>(
+        &mut self,
+        code: &Code,
+        x: Instr,
+        view: &mut V,
+    ) -> Option<Result<(), ViewFault>>
+        requires place { self.old.place + 1 < 2 ^ 64 }
+        requires operands { takes code.now x ≤ self.old.height }
+        requires fits { self.old.height ≤ self.old.room }
+        requires room { self.old.height - takes code.now x + puts x ≤ self.old.room }
+        requires number { NumberInRange code.now x }
+        ensures { (input : List ℤ)
+            → ActedOften input code.now x self.old (V.content view.old) result self.new (V.content view.new) }
+    {
+        match x {
+            Instr::Push(n) => Some(self.push_number(n)),
+            Instr::GetLocal(k) => Some(self.get_local(k, view)),
+            Instr::SetLocal(k) => Some(self.put_local(k, view)),
+            Instr::Global(k) => Some(self.push_global(k)),
+            Instr::NotNull => Some(self.not_null()),
+            Instr::Plus(words) => Some(self.plus(words)),
+            Instr::Elem(size) => Some(self.elem(size)),
+            Instr::Load(want) => Some(self.load(want, view)),
+            Instr::Store => Some(self.store(view)),
+            Instr::Dup => Some(self.dup()),
+            Instr::Drop => Some(self.drop_top()),
+            Instr::Truth => Some(self.test()),
+            Instr::Binary(op) => Some(self.binary(op)),
+            Instr::Jump(to) => Some(self.jump(to)),
+            Instr::JumpIf(holds, to) => Some(self.jump_if(holds, to)),
+            Instr::Step => Some(self.step()),
+            _ => None,
+        }
+    }
+
+    /// Does an instruction, or says at which pause it stands.
     pub fn act<V: PackedView>(
         &mut self,
         code: &Code,

@@ -20,7 +20,11 @@ impl Active {
         requires own { action.is_private self.old.own k ≡ true }
         ensures { DidAlone (i.GetLocal k) self.old result self.new }
     {
-        self.push(self.local(k));
+        let v = self.local(k);
+        match v.int() {
+            Some(n) => self.push(PackedValue::from_int(n)),
+            None => self.push(v),
+        }
         self.advance();
         Ok(())
     }
@@ -49,7 +53,10 @@ impl Active {
         ensures { DidAlone (i.SetLocal k) self.old result self.new }
     {
         let v = self.pop();
-        self.set_local(k, v);
+        match v.int() {
+            Some(n) => self.set_local(k, PackedValue::from_int(n)),
+            None => self.set_local(k, v),
+        }
         self.advance();
         Ok(())
     }
