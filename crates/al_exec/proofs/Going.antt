@@ -19,7 +19,7 @@ use Rattle.al_exec.specs.declared.pause.Pause.{Pause}
 use Rattle.al_exec.specs.Active.{Active, state_of}
 use Rattle.al_exec.specs.Meets.{Around, spot_of, Went, Did}
 use Rattle.al_exec.specs.Pauses.{instr_of}
-use Rattle.al_exec.specs.Running.{Fits, weight, Comes, Paused, Further, Trapped, RanOn, Ran}
+use Rattle.al_exec.specs.Running.{Fits, weight, Paused, Further, Trapped, RanOn, Ran}
 use Rattle.al_exec.proofs.Weights.{lands_on, falls}
 
 module _ (code : Code) (place height room : ℕ) (tall : (q h : ℕ) → slice_get code.heights q ≡ Some h → h ≤ room) where

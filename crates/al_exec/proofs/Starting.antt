@@ -1,6 +1,6 @@
 -- From what comes first to the run.
-use Rattle.std.proofs.Common.{◌≡◌, ◌≤◌, ℕ, Bool, List, Option, Some, Ok, Err, sym, ap, ◌∙◌, subst}
-use Rattle.std.specs.Prelude.{slice_get, ℤ}
+use Rattle.std.proofs.Common.{◌≡◌, ℕ, Bool, List, Option, Some, Ok, Err, sym, ap, ◌∙◌, subst}
+use Rattle.std.specs.Prelude.{ℤ}
 use Rattle.al_core.specs.Action.{State, Answer, Act}
 use Rattle.al_core.specs.Access.{Content, in_iteration}
 use Rattle.al_code.specs.declared.lowered.Code.{Code}

@@ -1,5 +1,6 @@
-ghost use Rattle.std.specs.Prelude.{◌≡◌, ◌+◌, ◌<◌, ◌≤◌, ◌^◌, MatchResult};
+ghost use Rattle.std.specs.Prelude.{◌≡◌, ◌+◌, ◌<◌, ◌≤◌, ◌^◌, Ok, Err, MatchResult, pos, ◌+ℤ◌, ◌*ℤ◌};
 ghost use Rattle.al_core.specs.declared.view.ViewFault.TheVariants as fault;
+ghost use Rattle.al_core.specs.declared.values.Obj.{Obj};
 ghost use Rattle.al_core.specs.declared.values.Val.TheVariants as value;
 ghost use Rattle.al_source.specs.Steps.{and_then};
 ghost use Rattle.al_core.specs.Arithmetic as arithmetic;
@@ -10,8 +11,8 @@ ghost use Rattle.al_exec.specs.Meets.{DidAlone};
 
 use crate::active::Active;
 use al_core::{
-    BinOp, Obj, RedOp, Trap, UnOp, Val, ViewFault, binary, choose, element, input_at, number,
-    operate_one, truth, words_of,
+    BinOp, Obj, RedOp, Trap, UnOp, Val, ViewFault, binary, choose, input_at, number, operate_one,
+    truth, words_of,
 };
 use al_values::PackedValue;
 
@@ -116,6 +117,33 @@ fn near(v: PackedValue, at: u32) -> Result<PackedValue, ViewFault>
     match v.with_offset(at) {
         Some(c) => Ok(c),
         None => packed(Val::Ptr(Obj::Global(0), at)),
+    }
+}
+
+/// The offset of an element behind an offset.
+#[inline(always)]
+fn offset_behind(at: u32, n: i64, size: u32) -> Result<u32, Trap>
+    ensures { MatchResult result
+        (λ w. (o : Obj) → spec.offset_at o (pos at +ℤ (n *ℤ pos size)) ≡ Ok (o, w))
+        (λ t. (o : Obj) → spec.offset_at o (pos at +ℤ (n *ℤ pos size)) ≡ Err t) }
+{
+    match u32::try_from(i128::from(at) + i128::from(n) * i128::from(size)) {
+        Ok(w) => Ok(w),
+        Err(_) => Err(Trap::Bounds),
+    }
+}
+
+/// The offset of the element of an index behind a pointer.
+#[tactic(auto, using(crate::proofs::Numbers::element_of_none))]
+#[inline(always)]
+fn element_offset(v: PackedValue, index: PackedValue, size: u32) -> Result<u32, Trap>
+    ensures { MatchResult result
+        (λ at. spec.element (pointer_in v) index size ≡ Ok ((pointer_in v).0, at))
+        (λ t. spec.element (pointer_in v) index size ≡ Err t) }
+{
+    match number_in(index) {
+        Ok(n) => offset_behind(offset_in(v), n, size),
+        Err(t) => Err(t),
     }
 }
 
@@ -227,9 +255,10 @@ impl Active {
         ensures { DidAlone (i.Elem size) self.old result self.new }
     {
         let index = self.pop();
-        match element(pointer(self.pop()), index.unpack(), size) {
-            Ok((obj, at)) => {
-                self.push(packed(Val::Ptr(obj, at))?);
+        let v = self.pop();
+        match element_offset(v, index, size) {
+            Ok(at) => {
+                self.push(near(v, at)?);
                 self.advance();
                 Ok(())
             }

@@ -1,4 +1,4 @@
-use Rattle.std.proofs.Common.{rules, ◌≡◌, w64, ◌∙◌, ap}
+use Rattle.std.proofs.Common.{rules, w64, ◌∙◌, ap}
 use Rattle.std.proofs.lemmas.Int.{to_z-of_z}
 use mir.Val.{SFits}
 use Rattle.al_core.specs.declared.values.Val.TheVariants.{Int}

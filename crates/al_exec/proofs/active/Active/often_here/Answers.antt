@@ -5,7 +5,6 @@ use Rattle.al_core.specs.declared.view.ViewFault.TheVariants as fault
 use Rattle.al_exec.specs.Active.{Active}
 use Rattle.al_exec.specs.Meets.{Did}
 use Rattle.al_exec.specs.Pauses.{ActedOften}
-use Rattle.al_exec.specs.Running.{Further}
 use Rattle.al_exec.proofs.Going.{has_room, is_within, is_low, sound, begun, falls_next, went_on, trapped_there, stayed}
 use Rattle.al_exec.proofs.active.Active.often_here.Goals as goal
 
