@@ -2,6 +2,8 @@
 use Rattle.std.specs.Prelude.{ℕ, List, [], ◌∷◌, Some, None, pos}
 use Rattle.al_source.specs.declared.operators.BinOp.TheVariants as binary
 use Rattle.al_source.specs.declared.texts.Piece.TheVariants as piece
+use Rattle.al_core.specs.declared.choices.Bound.TheVariants as bound
+use Rattle.al_core.specs.declared.choices.Choice.{Choice}
 use Rattle.al_core.specs.declared.choices.LoopInfo.{LoopInfo}
 use Rattle.al_core.specs.declared.typed_tree.TStmt.{TStmt}
 use Rattle.al_core.specs.declared.typed_tree.TKind.{TKind}
@@ -76,3 +78,20 @@ tree = record {
   loops = notes;
   nodes = 52;
 }
+
+-- ---- the entries of its loops
+
+abbrev pub entry : ℕ → ℕ → ℕ → Choice → LoopInfo
+entry n line top choice = record {
+  number = n;
+  func = 0;
+  line = line;
+  counter = 0;
+  bound = bound.Number (pos top);
+  first = 2;
+  last = 2;
+  own = choice;
+}
+
+abbrev pub entries : List LoopInfo
+entries = entry 0 6 3 first_choice ∷ entry 1 11 9 second_choice ∷ []

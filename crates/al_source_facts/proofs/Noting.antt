@@ -1,0 +1,179 @@
+-- The loops of the typed tree have their entries.
+use Rattle.std.proofs.Common.{◌≡◌, refl, [], ◌∷◌, ℕ, Bool, List, true, false, ◌∙◌, ap, Some, None}
+use Rattle.std.specs.Prelude.{Ok, pos, map, ◌||◌}
+use Rattle.std.specs.List.{list_any}
+use Rattle.al_source.specs.declared.operators.BinOp.{BinOp}
+use Rattle.al_source.specs.declared.texts.Piece.{Piece}
+use Rattle.al_source.specs.declared.operators.RedOp.TheVariants as red
+use Rattle.al_core.specs.declared.choices.Bound.TheVariants as bound
+use Rattle.al_core.specs.declared.values.Addr.{Addr}
+use Rattle.al_core.specs.declared.values.Addr.TheVariants.{Word, Local}
+use Rattle.al_core.specs.declared.values.Obj.TheVariants.{Global}
+use Rattle.al_core.specs.declared.typed_tree.TExpr.{TExpr, fold-roll-TExpr, out-roll-TExpr}
+use Rattle.al_core.specs.declared.typed_tree.TPlace.{TPlace, fold-roll-TPlace, out-roll-TPlace}
+use Rattle.al_core.specs.declared.typed_tree.TStmt.{TStmt, fold-TStmt, fold-roll-TStmt, para-roll-TStmt}
+use Rattle.al_core.specs.declared.typed_tree.TKind.{TKind, map-TKind, fold-TKind, roll-TKind, fold-roll-TKind, para-roll-TKind, out-roll-TKind}
+use Rattle.al_core.specs.declared.typed_tree.TKind.TheOpen.{TKind-F}
+use Rattle.al_core.specs.Accepted.{Terms, kind_terms, no_terms, one_expr, both_terms, all_terms, terms, terms_of, takes_in, takes, takes_at, calls, calls_at, calls_of, mentions, mentions_at, only_updates}
+use Rattle.al_core.specs.Loops.{ForLoop, placed, program_loops, for_loops}
+use Rattle.al_rules.specs.Bodies.{assigns, has, reaches, has_return, has_break, is_reached, is_taken, is_misused}
+use Rattle.al_rules.specs.ForLoops.{form_of}
+use Rattle.al_rules.specs.Notes.{notes_of}
+use Rattle.al_runs_laws.specs.Small.{at, number, x, y, i, value, is, below, greater, sum}
+use Rattle.al_source_facts.specs.Tree.{tree, main, from_zero, next, first_kind, second_kind, entries}
+
+abbrev loop : ℕ → ℕ → ℕ → ForLoop
+loop n line top = record {
+  number = n;
+  first = Some (from_zero line);
+  test = Some (below top);
+  third = Some (next line);
+  body = at 6 first_kind;
+}
+
+abbrev first : ForLoop
+first = loop 0 6 3
+
+abbrev second : ForLoop
+second = record (loop 1 11 9) { body = at 11 second_kind }
+
+its_loops : program_loops tree ≡ placed main first ∷ placed main second ∷ []
+unfolding program_loops for_loops
+its_loops = simp (para-roll-TStmt, para-roll-TKind)
+
+first_form : form_of main.locals first ≡ Some (0, bound.Number (pos 3))
+first_form = simp (out-roll-TKind, out-roll-TExpr)
+
+second_form : form_of main.locals second ≡ Some (0, bound.Number (pos 9))
+second_form = simp (out-roll-TKind, out-roll-TExpr)
+
+first_assigns : assigns 0 (at 6 first_kind) ≡ false
+unfolding assigns
+first_assigns = simp (fold-roll-TStmt, fold-roll-TKind)
+
+second_assigns : assigns 0 (at 11 second_kind) ≡ false
+unfolding assigns
+second_assigns = simp (fold-roll-TStmt, fold-roll-TKind)
+
+first_returns : has_return (at 6 first_kind) ≡ false
+unfolding has_return
+first_returns = simp (fold-roll-TStmt, fold-roll-TKind)
+
+second_returns : has_return (at 11 second_kind) ≡ false
+unfolding has_return
+second_returns = simp (fold-roll-TStmt, fold-roll-TKind)
+
+first_breaks : has_break (at 6 first_kind) ≡ false
+unfolding has_break
+first_breaks = simp (fold-roll-TStmt, fold-roll-TKind)
+
+second_breaks : has_break (at 11 second_kind) ≡ false
+unfolding has_break
+second_breaks = simp (fold-roll-TStmt, fold-roll-TKind)
+
+-- ---- the terms of statements
+
+abbrev terms_kind : TKind → Terms
+terms_kind = fold-TKind Terms Terms kind_terms (λ s. s.kind)
+
+abbrev terms_stmt : TStmt → Terms
+terms_stmt = fold-TStmt Terms Terms kind_terms (λ s. s.kind)
+
+terms_roll : (line : ℕ) (d : TKind-F TKind TStmt)
+    → terms (at line d) ≡ kind_terms (map-TKind TKind TStmt Terms Terms terms_kind terms_stmt d)
+unfolding terms
+terms_roll line d =
+    fold-roll-TStmt Terms Terms kind_terms (λ s. s.kind) (record { line = line; kind = roll-TKind d })
+    ∙ fold-roll-TKind Terms Terms kind_terms (λ s. s.kind) d
+
+terms-SetLocal : (line n : ℕ) (e : TExpr) → terms (at line (TKind-F.SetLocal n e)) ≡ one_expr e
+terms-SetLocal line n e = terms_roll line _
+
+terms-UpdateLocal : (line n : ℕ) (op : BinOp) (e : TExpr) → terms (at line (TKind-F.UpdateLocal op n e)) ≡ one_expr e
+terms-UpdateLocal line n op e = terms_roll line _
+
+terms-Store : (line : ℕ) (p : TPlace) (e : TExpr) → terms (at line (TKind-F.Store p e)) ≡ record { exprs = e ∷ []; places = p ∷ [] }
+terms-Store line p e = terms_roll line _
+
+terms-Print : (line : ℕ) (f : List Piece) (es : List TExpr) → terms (at line (TKind-F.Print f es)) ≡ record { exprs = es; places = [] }
+terms-Print line f es = terms_roll line _
+
+terms-Return : (line : ℕ) (e : TExpr) → terms (at line (TKind-F.Return (Some e))) ≡ one_expr e
+terms-Return line e = terms_roll line _
+
+terms-If : (line : ℕ) (e : TExpr) (s : TStmt) → terms (at line (TKind-F.If e s None)) ≡ both_terms (one_expr e) (both_terms (terms s) no_terms)
+unfolding terms
+terms-If line e s = terms_roll line _
+
+terms-Block : (line : ℕ) (ss : List TStmt) → terms (at line (TKind-F.Block ss)) ≡ all_terms (map terms ss)
+unfolding terms
+terms-Block line ss = terms_roll line _
+
+terms-For : (line n : ℕ) (a : TStmt) (e : TExpr) (c s : TStmt)
+    → terms (at line (TKind-F.For (Some a) (Some e) (Some c) s (Some n)))
+    ≡ both_terms (terms a) (both_terms (one_expr e) (both_terms (terms c) (terms s)))
+unfolding terms
+terms-For line n a e c s = terms_roll line _
+
+ruleset statement_terms = (
+  terms-SetLocal,
+  terms-UpdateLocal,
+  terms-Store,
+  terms-Print,
+  terms-Return,
+  terms-If,
+  terms-Block,
+  terms-For,
+)
+
+abbrev second_terms : Terms
+second_terms = record { exprs = i ∷ greater ∷ []; places = x ∷ [] }
+
+second_terms_are : terms (at 11 second_kind) ≡ second_terms
+second_terms_are = simp statement_terms
+
+abbrev its_terms : Terms
+its_terms = record {
+  exprs =
+      number 0 ∷ number 0 ∷ number 0 ∷ below 3 ∷ number 1 ∷ is 0 ∷ number 1 ∷ is 1 ∷ value x ∷ i ∷ number 0 ∷ below 9 ∷ number 1 ∷ i ∷ greater ∷ sum ∷ [];
+  places = x ∷ y ∷ x ∷ [];
+}
+
+main_terms : terms_of main.body ≡ its_terms
+main_terms = simp statement_terms
+
+untaken_by : (a : Addr) → takes_in a its_terms ≡ false → is_taken tree a ≡ false
+untaken_by a is = ap (λ t. takes_in a t || false) main_terms ∙ ap (λ b. b || false) is
+
+sum_untaken : is_taken tree (Local 1) ≡ false
+unfolding takes takes_at
+sum_untaken = untaken_by (Local 1) (simp (fold-roll-TExpr, fold-roll-TPlace))
+
+greatest_untaken : is_taken tree (Word (Global 0) 0) ≡ false
+unfolding takes takes_at
+greatest_untaken = untaken_by (Word (Global 0) 0) (simp (fold-roll-TExpr, fold-roll-TPlace))
+
+no_calls_there : calls_of second_terms ≡ []
+unfolding calls calls_at
+no_calls_there = simp (fold-roll-TExpr, fold-roll-TPlace)
+
+no_calls : calls_of (terms (at 11 second_kind)) ≡ []
+no_calls = ap calls_of second_terms_are ∙ no_calls_there
+
+unreached : is_reached tree (at 11 second_kind) 0 ≡ false
+unfolding is_reached
+unreached = ap (λ ns. has 0 ns || list_any (λ f. reaches tree 1 f 0) ns) no_calls
+
+sum_used : is_misused tree (at 11 second_kind) red.Add (Local 1) ≡ false
+unfolding only_updates mentions mentions_at
+sum_used = simp (para-roll-TStmt, para-roll-TKind, fold-roll-TExpr, fold-roll-TPlace, out-roll-TExpr, out-roll-TPlace)
+
+greatest_used : is_misused tree (at 11 second_kind) red.Max (Word (Global 0) 0) ≡ false
+unfolding only_updates mentions mentions_at
+greatest_used =
+    simp (unreached, para-roll-TStmt, para-roll-TKind, fold-roll-TExpr, fold-roll-TPlace, out-roll-TExpr, out-roll-TPlace)
+
+pub is_noted : notes_of tree ≡ Ok entries
+unfolding notes_of
+is_noted =
+    simp (its_loops, first_form, second_form, first_assigns, second_assigns, first_returns, second_returns, first_breaks, second_breaks, sum_untaken, greatest_untaken, sum_used, greatest_used)
