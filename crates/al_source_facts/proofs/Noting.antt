@@ -2,6 +2,7 @@
 use Rattle.std.proofs.Common.{◌≡◌, refl, [], ◌∷◌, ℕ, Bool, List, true, false, ◌∙◌, ap, Some, None}
 use Rattle.std.specs.Prelude.{Ok, pos, map, ◌||◌}
 use Rattle.std.specs.List.{list_any}
+use Rattle.al_source.specs.declared.annotations.CommitOrder.{CommitOrder}
 use Rattle.al_source.specs.declared.operators.BinOp.{BinOp}
 use Rattle.al_source.specs.declared.texts.Piece.{Piece}
 use Rattle.al_source.specs.declared.operators.RedOp.TheVariants as red
@@ -36,10 +37,6 @@ first = loop 0 6 3
 
 abbrev second : ForLoop
 second = record (loop 1 11 9) { body = at 11 second_kind }
-
-its_loops : program_loops tree ≡ placed main first ∷ placed main second ∷ []
-unfolding program_loops for_loops
-its_loops = simp (para-roll-TStmt, para-roll-TKind)
 
 first_form : form_of main.locals first ≡ Some (0, bound.Number (pos 3))
 first_form = simp (out-roll-TKind, out-roll-TExpr)
@@ -139,19 +136,21 @@ its_terms = record {
   places = x ∷ y ∷ x ∷ [];
 }
 
+if_terms_are : (line : ℕ) (e : TExpr) (s : TStmt) (t : Terms) → terms s ≡ t
+    → terms (at line (TKind-F.If e s None)) ≡ both_terms (one_expr e) (both_terms t no_terms)
+if_terms_are line e s t is = terms-If line e s ∙ ap (λ z. both_terms (one_expr e) (both_terms z no_terms)) is
+
+first_if_terms : terms (at 7 (TKind-F.If (is 0) (at 7 (TKind-F.Store x (number 1))) None)) ≡ record { exprs = is 0 ∷ number 1 ∷ []; places = x ∷ [] }
+first_if_terms = if_terms_are 7 (is 0) _ _ (terms-Store 7 x (number 1))
+
+second_if_terms : terms (at 8 (TKind-F.If (is 1) (at 8 (TKind-F.Store y (value x))) None)) ≡ record { exprs = is 1 ∷ value x ∷ []; places = y ∷ [] }
+second_if_terms = if_terms_are 8 (is 1) _ _ (terms-Store 8 y (value x))
+
+first_terms_are : terms (at 6 first_kind) ≡ record { exprs = is 0 ∷ number 1 ∷ is 1 ∷ value x ∷ i ∷ []; places = x ∷ y ∷ [] }
+first_terms_are = simp (terms-Block, first_if_terms, second_if_terms, terms-Print)
+
 main_terms : terms_of main.body ≡ its_terms
-main_terms = simp statement_terms
-
-untaken_by : (a : Addr) → takes_in a its_terms ≡ false → is_taken tree a ≡ false
-untaken_by a is = ap (λ t. takes_in a t || false) main_terms ∙ ap (λ b. b || false) is
-
-sum_untaken : is_taken tree (Local 1) ≡ false
-unfolding takes takes_at
-sum_untaken = untaken_by (Local 1) (simp (fold-roll-TExpr, fold-roll-TPlace))
-
-greatest_untaken : is_taken tree (Word (Global 0) 0) ≡ false
-unfolding takes takes_at
-greatest_untaken = untaken_by (Word (Global 0) 0) (simp (fold-roll-TExpr, fold-roll-TPlace))
+main_terms = simp (first_terms_are, second_terms_are, terms-SetLocal, terms-UpdateLocal, terms-Return, terms-For)
 
 no_calls_there : calls_of second_terms ≡ []
 unfolding calls calls_at
@@ -160,20 +159,38 @@ no_calls_there = simp (fold-roll-TExpr, fold-roll-TPlace)
 no_calls : calls_of (terms (at 11 second_kind)) ≡ []
 no_calls = ap calls_of second_terms_are ∙ no_calls_there
 
-unreached : is_reached tree (at 11 second_kind) 0 ≡ false
-unfolding is_reached
-unreached = ap (λ ns. has 0 ns || list_any (λ f. reaches tree 1 f 0) ns) no_calls
+-- ---- the whole tree
 
-sum_used : is_misused tree (at 11 second_kind) red.Add (Local 1) ≡ false
-unfolding only_updates mentions mentions_at
-sum_used = simp (para-roll-TStmt, para-roll-TKind, fold-roll-TExpr, fold-roll-TPlace, out-roll-TExpr, out-roll-TPlace)
+module _ (o : CommitOrder) where
+  its_loops : program_loops (tree o) ≡ placed main first ∷ placed main second ∷ []
+  unfolding program_loops for_loops
+  its_loops = simp (para-roll-TStmt, para-roll-TKind)
 
-greatest_used : is_misused tree (at 11 second_kind) red.Max (Word (Global 0) 0) ≡ false
-unfolding only_updates mentions mentions_at
-greatest_used =
-    simp (unreached, para-roll-TStmt, para-roll-TKind, fold-roll-TExpr, fold-roll-TPlace, out-roll-TExpr, out-roll-TPlace)
+  untaken_by : (a : Addr) → takes_in a its_terms ≡ false → is_taken (tree o) a ≡ false
+  untaken_by a is = ap (λ t. takes_in a t || false) main_terms ∙ ap (λ b. b || false) is
 
-pub is_noted : notes_of tree ≡ Ok entries
-unfolding notes_of
-is_noted =
-    simp (its_loops, first_form, second_form, first_assigns, second_assigns, first_returns, second_returns, first_breaks, second_breaks, sum_untaken, greatest_untaken, sum_used, greatest_used)
+  sum_untaken : is_taken (tree o) (Local 1) ≡ false
+  unfolding takes takes_at
+  sum_untaken = untaken_by (Local 1) (simp (fold-roll-TExpr, fold-roll-TPlace))
+
+  greatest_untaken : is_taken (tree o) (Word (Global 0) 0) ≡ false
+  unfolding takes takes_at
+  greatest_untaken = untaken_by (Word (Global 0) 0) (simp (fold-roll-TExpr, fold-roll-TPlace))
+
+  unreached : is_reached (tree o) (at 11 second_kind) 0 ≡ false
+  unfolding is_reached
+  unreached = ap (λ ns. has 0 ns || list_any (λ f. reaches (tree o) 1 f 0) ns) no_calls
+
+  sum_used : is_misused (tree o) (at 11 second_kind) red.Add (Local 1) ≡ false
+  unfolding only_updates mentions mentions_at
+  sum_used = simp (para-roll-TStmt, para-roll-TKind, fold-roll-TExpr, fold-roll-TPlace, out-roll-TExpr, out-roll-TPlace)
+
+  greatest_used : is_misused (tree o) (at 11 second_kind) red.Max (Word (Global 0) 0) ≡ false
+  unfolding only_updates mentions mentions_at
+  greatest_used =
+      simp (unreached, para-roll-TStmt, para-roll-TKind, fold-roll-TExpr, fold-roll-TPlace, out-roll-TExpr, out-roll-TPlace)
+
+  pub is_noted : notes_of (tree o) ≡ Ok (entries o)
+  unfolding notes_of
+  is_noted =
+      simp (its_loops, first_form, second_form, first_assigns, second_assigns, first_returns, second_returns, first_breaks, second_breaks, sum_untaken, greatest_untaken, sum_used, greatest_used)

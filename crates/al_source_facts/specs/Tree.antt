@@ -1,7 +1,8 @@
--- The typed tree of the small source, and the entries of its loops.
+-- The typed tree of the small source, and the entries of its loops, by the order of its first loop.
 use Rattle.std.specs.Prelude.{ℕ, List, [], ◌∷◌, Some, None, pos}
 use Rattle.al_source.specs.declared.operators.BinOp.TheVariants as binary
 use Rattle.al_source.specs.declared.texts.Piece.TheVariants as piece
+use Rattle.al_source.specs.declared.annotations.CommitOrder.{CommitOrder}
 use Rattle.al_core.specs.declared.choices.Bound.TheVariants as bound
 use Rattle.al_core.specs.declared.choices.Choice.{Choice}
 use Rattle.al_core.specs.declared.choices.LoopInfo.{LoopInfo}
@@ -67,15 +68,19 @@ main = record {
 abbrev pub global : Name → TGlobal
 global name = record { name = name; words = 1; scalar = Some kind.Int; start = pos 0 }
 
-abbrev pub notes : List TNote
-notes = note 6 first_choice ∷ note 11 second_choice ∷ []
+-- RAW, and no reductions
+abbrev pub first_own : CommitOrder → Choice
+first_own o = record first_choice { order = o }
 
-abbrev pub tree : Typed
-tree = record {
+abbrev pub notes : CommitOrder → List TNote
+notes o = note 6 (first_own o) ∷ note 11 second_choice ∷ []
+
+abbrev pub tree : CommitOrder → Typed
+tree o = record {
   globals = global x_name ∷ global y_name ∷ [];
   funcs = main ∷ [];
   main = 0;
-  loops = notes;
+  loops = notes o;
   nodes = 52;
 }
 
@@ -93,5 +98,5 @@ entry n line top choice = record {
   own = choice;
 }
 
-abbrev pub entries : List LoopInfo
-entries = entry 0 6 3 first_choice ∷ entry 1 11 9 second_choice ∷ []
+abbrev pub entries : CommitOrder → List LoopInfo
+entries o = entry 0 6 3 (first_own o) ∷ entry 1 11 9 second_choice ∷ []

@@ -1,4 +1,4 @@
--- The source tree of the small source.
+-- The source tree of the small source, by the order of its first loop.
 use Rattle.std.specs.Prelude.{ℕ, List, [], ◌∷◌, Option, Some, None, pos, codes}
 use Rattle.al_source.specs.declared.annotations.Policy.{Policy}
 use Rattle.al_source.specs.declared.annotations.Policy.TheVariants as policy
@@ -16,6 +16,7 @@ use Rattle.al_source.specs.declared.source_tree.Stmt.{Stmt}
 use Rattle.al_source.specs.declared.source_tree.StmtKind.{StmtKind}
 use Rattle.al_source.specs.declared.source_tree.StmtKind.TheVariants as kind
 use Rattle.al_source.specs.declared.source_tree.Start.TheVariants as start
+use Rattle.al_source.specs.declared.source_tree.Func.{Func}
 use Rattle.al_source.specs.declared.source_tree.Item.{Item}
 use Rattle.al_source.specs.declared.source_tree.Item.TheVariants as item
 use Rattle.al_source.specs.declared.source_tree.Program.{Program}
@@ -107,8 +108,8 @@ second_body = kind.Block second_stmts
 abbrev pub note : Policy → CommitOrder → List NamedRed → LoopNote
 note p o rs = record { policy = p; order = o; reduce = rs }
 
-abbrev pub first_note : LoopNote
-first_note = note policy.Raw order.OutOfOrder []
+abbrev pub first_note : CommitOrder → LoopNote
+first_note o = note policy.Raw o []
 
 abbrev pub second_note : LoopNote
 second_note =
@@ -123,8 +124,8 @@ loop line n body note =
     (statement_of line body)
     (Some note)
 
-abbrev pub first_loop : StmtKind
-first_loop = loop 6 3 first_body first_note
+abbrev pub first_loop : CommitOrder → StmtKind
+first_loop o = loop 6 3 first_body (first_note o)
 
 abbrev pub second_loop : StmtKind
 second_loop = loop 11 9 second_body second_note
@@ -132,18 +133,16 @@ second_loop = loop 11 9 second_body second_note
 abbrev pub result : StmtKind
 result = kind.Return (Some s)
 
-abbrev pub body : List Stmt
-body =
-    statement_of 3 (zero i_name) ∷ statement_of 4 (zero s_name) ∷ statement_of 6 first_loop
+abbrev pub body : CommitOrder → List Stmt
+body o =
+    statement_of 3 (zero i_name) ∷ statement_of 4 (zero s_name) ∷ statement_of 6 (first_loop o)
     ∷ statement_of 11 second_loop ∷ statement_of 14 result ∷ []
 
 abbrev pub global : Name → Item
 global name = item.Global (record { name = name; ty = type.Int; start = start.Zero; line = 1 })
 
-abbrev pub items : List Item
-items =
-    global x_name ∷ global y_name
-    ∷ item.Func (record { name = codes "main"; result = type.Int; params = []; body = body; line = 2 }) ∷ []
+abbrev pub main : CommitOrder → Func
+main o = record { name = codes "main"; result = type.Int; params = []; body = body o; line = 2 }
 
-abbrev pub program : Program
-program = record { items = items }
+abbrev pub program : CommitOrder → Program
+program o = record { items = global x_name ∷ global y_name ∷ item.Func (main o) ∷ [] }
