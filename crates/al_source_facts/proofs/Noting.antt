@@ -15,13 +15,14 @@ use Rattle.al_core.specs.declared.typed_tree.TPlace.{TPlace, fold-roll-TPlace, o
 use Rattle.al_core.specs.declared.typed_tree.TStmt.{TStmt, fold-TStmt, fold-roll-TStmt, para-roll-TStmt}
 use Rattle.al_core.specs.declared.typed_tree.TKind.{TKind, map-TKind, fold-TKind, roll-TKind, fold-roll-TKind, para-roll-TKind, out-roll-TKind}
 use Rattle.al_core.specs.declared.typed_tree.TKind.TheOpen.{TKind-F}
-use Rattle.al_core.specs.Accepted.{Terms, kind_terms, no_terms, one_expr, both_terms, all_terms, terms, terms_of, takes_in, takes, takes_at, calls, calls_at, calls_of, mentions, mentions_at, only_updates}
+use Rattle.al_core.specs.Accepted.{Terms, no_terms, one_expr, both_terms, terms, terms_of, takes_in, takes, takes_at, calls, calls_at, calls_of, mentions, mentions_at, only_updates}
 use Rattle.al_core.specs.Loops.{ForLoop, placed, program_loops, for_loops}
 use Rattle.al_rules.specs.Bodies.{assigns, has, reaches, has_return, has_break, is_reached, is_taken, is_misused}
 use Rattle.al_rules.specs.ForLoops.{form_of}
 use Rattle.al_rules.specs.Notes.{notes_of}
 use Rattle.al_runs_laws.specs.Small.{at, number, x, y, i, value, is, below, greater, sum}
 use Rattle.al_source_facts.specs.Tree.{tree, main, from_zero, next, first_kind, second_kind, entries}
+use Rattle.al_source_facts.proofs.StatementTerms.{statement_terms, terms-SetLocal, terms-UpdateLocal, terms-Store, terms-Print, terms-Return, terms-If, terms-Block, terms-For}
 
 abbrev loop : ℕ → ℕ → ℕ → ForLoop
 loop n line top = record {
@@ -69,59 +70,6 @@ unfolding has_break
 second_breaks = simp (fold-roll-TStmt, fold-roll-TKind)
 
 -- ---- the terms of statements
-
-abbrev terms_kind : TKind → Terms
-terms_kind = fold-TKind Terms Terms kind_terms (λ s. s.kind)
-
-abbrev terms_stmt : TStmt → Terms
-terms_stmt = fold-TStmt Terms Terms kind_terms (λ s. s.kind)
-
-terms_roll : (line : ℕ) (d : TKind-F TKind TStmt)
-    → terms (at line d) ≡ kind_terms (map-TKind TKind TStmt Terms Terms terms_kind terms_stmt d)
-unfolding terms
-terms_roll line d =
-    fold-roll-TStmt Terms Terms kind_terms (λ s. s.kind) (record { line = line; kind = roll-TKind d })
-    ∙ fold-roll-TKind Terms Terms kind_terms (λ s. s.kind) d
-
-terms-SetLocal : (line n : ℕ) (e : TExpr) → terms (at line (TKind-F.SetLocal n e)) ≡ one_expr e
-terms-SetLocal line n e = terms_roll line _
-
-terms-UpdateLocal : (line n : ℕ) (op : BinOp) (e : TExpr) → terms (at line (TKind-F.UpdateLocal op n e)) ≡ one_expr e
-terms-UpdateLocal line n op e = terms_roll line _
-
-terms-Store : (line : ℕ) (p : TPlace) (e : TExpr) → terms (at line (TKind-F.Store p e)) ≡ record { exprs = e ∷ []; places = p ∷ [] }
-terms-Store line p e = terms_roll line _
-
-terms-Print : (line : ℕ) (f : List Piece) (es : List TExpr) → terms (at line (TKind-F.Print f es)) ≡ record { exprs = es; places = [] }
-terms-Print line f es = terms_roll line _
-
-terms-Return : (line : ℕ) (e : TExpr) → terms (at line (TKind-F.Return (Some e))) ≡ one_expr e
-terms-Return line e = terms_roll line _
-
-terms-If : (line : ℕ) (e : TExpr) (s : TStmt) → terms (at line (TKind-F.If e s None)) ≡ both_terms (one_expr e) (both_terms (terms s) no_terms)
-unfolding terms
-terms-If line e s = terms_roll line _
-
-terms-Block : (line : ℕ) (ss : List TStmt) → terms (at line (TKind-F.Block ss)) ≡ all_terms (map terms ss)
-unfolding terms
-terms-Block line ss = terms_roll line _
-
-terms-For : (line n : ℕ) (a : TStmt) (e : TExpr) (c s : TStmt)
-    → terms (at line (TKind-F.For (Some a) (Some e) (Some c) s (Some n)))
-    ≡ both_terms (terms a) (both_terms (one_expr e) (both_terms (terms c) (terms s)))
-unfolding terms
-terms-For line n a e c s = terms_roll line _
-
-ruleset statement_terms = (
-  terms-SetLocal,
-  terms-UpdateLocal,
-  terms-Store,
-  terms-Print,
-  terms-Return,
-  terms-If,
-  terms-Block,
-  terms-For,
-)
 
 abbrev second_terms : Terms
 second_terms = record { exprs = i ∷ greater ∷ []; places = x ∷ [] }

@@ -34,20 +34,7 @@ use Rattle.al_runs_laws.specs.Small.{at, number, x, y, i, value, is, sum, greate
 use Rattle.al_source_facts.specs.Trees as source
 use Rattle.al_source_facts.specs.Trees.{program, i_name, s_name}
 use Rattle.al_source_facts.specs.Tree.{tree, layout, first_own, main, notes, local, first_kind, second_kind, first_for, second_for}
-
--- ---- one step of a walk
-
-abbrev stands : (known : Known) (func : ℕ) (result : CType) (line : ℕ) → StmtKind → Bool → Progress → TKind → Progress → Type 0
-stands known func result line d looped s k z =
-    (part known func result (statement_of line d)).walk looped s ≡ Ok (roll-TStmt (record { line = line; kind = k }), z)
-
-step : (known : Known) (func : ℕ) (result : CType) (line : ℕ) (d : StmtKind) (looped : Bool) (s : Progress) (w : Walk TKind) (k : TKind) (z : Progress)
-    → (kind_part known func result d).walk line looped ≡ w → w s ≡ Ok (k, z) → stands known func result line d looped s k z
-unfolding bind pure
-step known func result line d looped s w k z is ends =
-    ap (λ f. f s) (nodes.walks-stmt known func result (statement_of line d) looped)
-    ∙ ap (λ (v : Walk TKind). bind v (λ k. pure (roll-TStmt (record { line = line; kind = k }))) s) is
-    ∙ ap (λ r. r) (rw ends refl)
+use Rattle.al_source_facts.proofs.Steps.{stands, step}
 
 -- ---- its states
 

@@ -1,3 +1,5 @@
 pub mod Texts
 pub mod Trees
 pub mod Tree
+pub mod Generated
+pub mod GeneratedTree
