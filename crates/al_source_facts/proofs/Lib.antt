@@ -7,3 +7,6 @@ pub mod Noting
 pub mod Accepting
 pub mod GeneratedParsing
 pub mod GeneratedTyping
+pub mod GeneratedNoting
+pub mod GeneratedAccepting
+pub mod SourceLaws

@@ -3,3 +3,4 @@ pub mod Trees
 pub mod Tree
 pub mod Generated
 pub mod GeneratedTree
+pub mod Met

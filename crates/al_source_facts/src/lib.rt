@@ -1,26 +1,29 @@
-//! Facts: sources that are accepted.
+//! Facts: sources that are accepted, by computation, and that what the laws of sources ask is met by them. A fact stands
+//! on a function that does nothing.
 #![tactic(auto)]
 
-ghost use Rattle.std.specs.Prelude.{◌≡◌, Ok};
-ghost use Rattle.al_source.specs.declared.annotations.CommitOrder.TheVariants.{InOrder, OutOfOrder};
-ghost use Rattle.al_rules.specs.Refusals.{accepted};
-ghost use Rattle.al_source_facts.specs.Texts.{source, ordered_source};
-ghost use Rattle.al_source_facts.specs.Tree.{tree, entries};
+ghost use Rattle.al_source_facts.specs.Met.{AcceptedInOrderIsMet, AcceptedIsMet, ReportInOrderIsMet, ReportIsMet};
+ghost use Rattle.al_source_facts.specs.Met.{GeneratedIsAccepted, OrderedSourceIsAccepted, SourceIsAccepted};
 
+/// A small source with two annotated loops is accepted, with a typed tree and two entries that are told, and so is the
+/// same source with both loops in order.
 #[tactic(auto, using(crate::proofs::Accepting::source_accepted, crate::proofs::Accepting::ordered_accepted))]
 pub fn sources_are_accepted()
-    ensures source { accepted source ≡ Ok (tree OutOfOrder, entries OutOfOrder) }
-    ensures ordered { accepted ordered_source ≡ Ok (tree InOrder, entries InOrder) }
+    ensures source { SourceIsAccepted }
+    ensures ordered { OrderedSourceIsAccepted }
 {}
 
-ghost use Rattle.al_gen.specs.Generated.{source as made_source};
-ghost use Rattle.al_rules.specs.Refusals.{tokens_of};
-ghost use Rattle.al_rules.specs.Programs.{typed_with};
-ghost use Rattle.al_source_facts.specs.Generated.{tokens, program};
-ghost use Rattle.al_source_facts.specs.GeneratedTree.{tree as made_tree, layout};
+/// The program that `demo` makes is accepted.
+#[tactic(auto, using(crate::proofs::GeneratedAccepting::generated_accepted))]
+pub fn generated_program_is_accepted()
+    ensures { GeneratedIsAccepted }
+{}
 
-#[tactic(auto, using(crate::proofs::GeneratedTyping::is_typed, crate::proofs::GeneratedParsing::reads))]
-pub fn b()
-    ensures s { tokens_of made_source ≡ Ok tokens }
-    ensures t { typed_with layout program ≡ Ok made_tree }
+/// What the laws of sources ask of a source, of its numbers, annotations and choices is met by these two.
+#[tactic(auto, using(crate::proofs::SourceLaws::report_is_met, crate::proofs::SourceLaws::report_in_order_is_met, crate::proofs::SourceLaws::accepted_is_met, crate::proofs::SourceLaws::accepted_in_order_is_met))]
+pub fn laws_of_sources_are_met()
+    ensures report { ReportIsMet }
+    ensures report_in_order { ReportInOrderIsMet }
+    ensures accepted { AcceptedIsMet }
+    ensures accepted_in_order { AcceptedInOrderIsMet }
 {}
