@@ -35,10 +35,10 @@ object o =
     map.get-insert obj_total map.empty (Serial 0) (Int (pos 7) ∷ []) o
     ∙ ap (cond (obj_eq o (Serial 0)) (Some (Int (pos 7) ∷ []))) (map.get-empty obj_cmp o)
 
-is_unnamed : (e first last : ℕ) (o : Obj) → IsNameFrom e first last o → has_object at_making o ≡ false
-is_unnamed e first last (Global k) h = absurd h
-is_unnamed e first last (Serial k) h = absurd h
-is_unnamed e first last (Iter f j k) h = ap is_some (object (Iter f j k))
+is_unnamed : (e from to : ℕ) (o : Obj) → IsNameFrom e from to o → has_object at_making o ≡ false
+is_unnamed e from to (Global k) h = absurd h
+is_unnamed e from to (Serial k) h = absurd h
+is_unnamed e from to (Iter f j k) h = ap is_some (object (Iter f j k))
 
 fresh : (c : ℕ) → IsFresh making at_making c
 fresh c = is_unnamed 2 (chunk_start making c) (chunk_end making c)
@@ -67,7 +67,10 @@ module _ {S : Type 0} (world : World S) (now : S) where
   )
 
 pub actions_are_met : ActionsAreMet
-actions_are_met = (parts_add_nothing in_iteration _, parts_add_nothing (outside (setting small_choices)) _)
+actions_are_met = (
+  parts_add_nothing in_iteration (direct first at_first),
+  parts_add_nothing (outside (setting small_choices)) (start (setting small_choices)).world,
+)
 
 -- ---- ends
 

@@ -14,7 +14,6 @@ pub fn records_meet()
 
 /// There are an execution that ends without a trap, parts of a loop that add no steps, runs that end alike, and numbers
 /// of 64 bits.
-#[tactic(auto, using(crate::proofs::Ended::end_is_met, crate::proofs::Ended::actions_are_met, crate::proofs::Ended::ends_are_met, crate::proofs::Ended::numbers_fit))]
 pub fn ends_meet()
     ensures complete { EndIsMet }
     ensures actions { ActionsAreMet }
