@@ -1,6 +1,6 @@
 -- An execution ends without a trap, actions add no steps, and ends are alike.
-use Rattle.std.proofs.Common.{◌≡◌, ℕ, List, [], ◌∷◌, Some, None, true, false, refl, ap, ◌∙◌, arith}
-use Rattle.std.specs.Prelude.{cond, is_some, ℤ, pos}
+use Rattle.std.proofs.Common.{◌≡◌, ℕ, List, [], ◌∷◌, Some, None, false, refl, ap, ◌∙◌, arith}
+use Rattle.std.specs.Prelude.{cond, is_some, pos}
 use Rattle.std.specs.FinMap as map
 use Rattle.al_core.specs.declared.reports.Ending.TheVariants.{Done}
 use Rattle.al_core.specs.declared.values.Val.{Val}
@@ -19,7 +19,7 @@ use Rattle.al_core.specs.Iteration.{iteration}
 use Rattle.al_core.specs.Readiness.{IsFresh, IsNameFrom}
 use Rattle.al_core.specs.Run.{start, outside}
 use Rattle.al_core.specs.Serial.{plain_loop, direct}
-use Rattle.al_laws.specs.Ends.{EndsAlike, WhereOk}
+use Rattle.al_laws.specs.Ends.{EndsAlike}
 use Rattle.al_laws.proofs.Falls.{value_never_adds, call_never_adds, never_adds_steps}
 use Rattle.al_laws.proofs.Orders.{obj_total}
 use Rattle.al_rounds_laws.proofs.NoReds.{plain_without_reds}
@@ -51,7 +51,7 @@ pub end_is_met : EndIsMet
 end_is_met = (
   omega arith,
   ap (λ e. e.ending) (plain_without_reds making raw_in_order 2 at_making refl refl refl (omega arith) (omega arith) (fresh 0, tt))
-  ∙ plain_ends,
+      ∙ plain_ends,
   omega arith,
 )
 

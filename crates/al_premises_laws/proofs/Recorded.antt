@@ -1,23 +1,22 @@
 -- What chunks record: one reads a global, and one makes an object and frees another one.
-use Rattle.std.proofs.Common.{◌≡◌, ℕ, zero, suc, List, [], ◌∷◌, Option, Some, None, Bool, true, false, refl, sym, ap, subst, ◌∙◌, arith}
+use Rattle.std.proofs.Common.{◌≡◌, List, [], ◌∷◌, Some, None, Bool, true, false, refl, sym, ap, subst, ◌∙◌, arith}
 use Rattle.std.proofs.Math.Bool.{true≢false}
-use Rattle.std.specs.Prelude.{cond, ℤ, pos, Contains, is_some}
+use Rattle.std.specs.Prelude.{cond, pos, Contains, is_some}
 use Rattle.std.specs.FinMap as map
 use Rattle.std.specs.FinSet as set
 use Rattle.std.specs.FinSet.{FinSet}
 use Rattle.al_core.specs.declared.values.Addr.{Addr}
-use Rattle.al_core.specs.declared.values.Addr.TheVariants.{Word, Head, Local}
-use Rattle.al_core.specs.declared.values.Obj.{Obj}
+use Rattle.al_core.specs.declared.values.Addr.TheVariants.{Word, Head}
 use Rattle.al_core.specs.declared.values.Val.{Val}
 use Rattle.al_core.specs.declared.values.Obj.TheVariants.{Global, Serial, Iter}
-use Rattle.al_core.specs.declared.values.Val.TheVariants.{Int, Ptr}
-use Rattle.al_core.specs.Orders.{obj_cmp, obj_eq, addr_cmp}
+use Rattle.al_core.specs.declared.values.Val.TheVariants.{Int}
+use Rattle.al_core.specs.Orders.{obj_cmp, addr_cmp}
 use Rattle.al_core.specs.Access.{load, store, make, free, print}
 use Rattle.al_core.specs.Action.{bind, pure, lift, asks, spend, get_frame, set_frame}
 use Rattle.al_core.specs.Meaning.{value, place, execute}
 use Rattle.al_core.specs.Values.{operate, words_of}
 use Rattle.al_core.specs.Iteration.{iteration}
-use Rattle.al_core.specs.Chunk.{outcome, made_objects, writes_of}
+use Rattle.al_core.specs.Chunk.{outcome, made_objects}
 use Rattle.al_core.specs.Clash.{meets}
 use Rattle.al_core.specs.Memory.{Memory, add, remove}
 use Rattle.al_laws.proofs.Orders.{obj_total, addr_total}
@@ -41,14 +40,30 @@ second_reads = simp (stmt_roll, kind_roll, expr_roll, place_roll, object_of (pos
 
 making_frees : (outcome making [] at_making 0).freed ≡ Serial 0 ∷ []
 unfolding outcome iteration execute value place bind pure lift asks spend get_frame set_frame load store make free words_of
-making_frees = simp (stmt_roll, kind_roll, expr_roll, set.contains-empty, set.contains-insert {R = addr_cmp} addr_total, set.contains-insert {R = obj_cmp} obj_total, map.get-insert {X = List Val} obj_total)
+making_frees = simp (
+  stmt_roll,
+  kind_roll,
+  expr_roll,
+  set.contains-empty,
+  set.contains-insert {R = addr_cmp} addr_total,
+  set.contains-insert {R = obj_cmp} obj_total,
+  map.get-insert {X = List Val} obj_total,
+)
 
 abbrev left : Memory
 left = remove (add at_making (Iter 2 0 0) (Int (pos 0) ∷ [])) (Serial 0)
 
 making_makes : (outcome making [] at_making 0).made ≡ made_objects left (set.insert set.empty (Iter 2 0 0))
 unfolding outcome iteration execute value place bind pure lift asks spend get_frame set_frame load store make free words_of
-making_makes = simp (stmt_roll, kind_roll, expr_roll, set.contains-empty, set.contains-insert {R = addr_cmp} addr_total, set.contains-insert {R = obj_cmp} obj_total, map.get-insert {X = List Val} obj_total)
+making_makes = simp (
+  stmt_roll,
+  kind_roll,
+  expr_roll,
+  set.contains-empty,
+  set.contains-insert {R = addr_cmp} addr_total,
+  set.contains-insert {R = obj_cmp} obj_total,
+  map.get-insert {X = List Val} obj_total,
+)
 
 there : map.get left.objects (Iter 2 0 0) ≡ Some (Int (pos 0) ∷ [])
 there = simp (map.get-remove {X = List Val} obj_total, map.get-insert {X = List Val} obj_total)

@@ -17,9 +17,9 @@ use Rattle.al_core.specs.declared.values.Val.TheVariants.{Int, Ptr}
 use Rattle.al_core.specs.Memory.{Memory}
 use Rattle.al_core.specs.Loops.{Loop}
 use Rattle.al_core.specs.Iteration.{Execution}
-use Rattle.al_core.specs.Run.{Sizes, Setting, sizes_of}
+use Rattle.al_core.specs.Run.{Setting, sizes_of}
 use Rattle.al_core.specs.Report.{by_choices}
-use Rattle.al_runs_laws.specs.Small.{small, at, number, first_body, second_body, first_choice, second_choice, small_choices}
+use Rattle.al_runs_laws.specs.Small.{small, at, number, first_body, second_body, first_choice, second_choice}
 
 -- ---- the loops
 

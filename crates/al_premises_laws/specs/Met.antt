@@ -1,10 +1,9 @@
 -- What the laws of the serial order ask is met by the small program: its two loops, and memories in which they run.
-use Rattle.std.specs.Prelude.{◌≡◌, ◌≢◌, ℕ, ◌+◌, ◌<◌, ◌≤◌, true, List, [], ◌∷◌, length, Some, None, is_some, reverse, slice_get, IsPermutation, Contains, Err, ℤ, pos, negsuc, FitsSigned}
+use Rattle.std.specs.Prelude.{◌≡◌, ◌≢◌, ℕ, ◌+◌, ◌<◌, ◌≤◌, true, [], ◌∷◌, length, Some, None, is_some, reverse, IsPermutation, Contains, Err, pos, negsuc, FitsSigned}
 use Rattle.std.specs.Int.{w64}
 use Rattle.std.specs.List.{AllByRecursion}
 use Rattle.std.specs.FinMap as map
 use Rattle.std.specs.FinSet as set
-use Rattle.al_core.specs.declared.choices.LoopInfo.{LoopInfo}
 use Rattle.al_core.specs.declared.values.Addr.{Addr}
 use Rattle.al_core.specs.declared.values.Addr.TheVariants.{Word, Local}
 use Rattle.al_core.specs.declared.values.Obj.TheVariants.{Global, Serial, Iter}

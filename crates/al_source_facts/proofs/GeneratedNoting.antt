@@ -1,5 +1,5 @@
 -- The loop of the generated program has its entry.
-use Rattle.std.proofs.Common.{◌≡◌, [], ◌∷◌, ℕ, Bool, List, true, false, ◌∙◌, ap, Some, None}
+use Rattle.std.proofs.Common.{◌≡◌, [], ◌∷◌, false, ◌∙◌, ap, Some}
 use Rattle.std.specs.Prelude.{Ok, ◌||◌}
 use Rattle.al_source.specs.declared.operators.RedOp.TheVariants as red
 use Rattle.al_core.specs.declared.choices.Bound.TheVariants as bound

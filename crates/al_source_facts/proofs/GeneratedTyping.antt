@@ -1,6 +1,6 @@
 -- The generated program has its typed tree.
 use Rattle.std.proofs.Common.{◌≡◌, refl, [], ◌∷◌, ℕ, Bool, List, true, false, Some, None}
-use Rattle.std.specs.Prelude.{Ok, pos, length, ◌++◌}
+use Rattle.std.specs.Prelude.{Ok, length, ◌++◌}
 use Rattle.al_source.specs.declared.operators.BinOp.TheVariants as binary
 use Rattle.al_source.specs.declared.source_tree.CType.TheVariants as type
 use Rattle.al_source.specs.declared.source_tree.StmtKind.{StmtKind}
@@ -26,7 +26,7 @@ use Rattle.al_rules.proofs.TypeNodes.{part_nodes, form_nodes, known_nodes}
 use Rattle.al_rules.proofs.ExpressionNodes.{operand_nodes}
 use Rattle.al_rules.proofs.StatementNodes as nodes
 use Rattle.al_rules.proofs.StatementNodes.{sort_nodes}
-use Rattle.al_runs_laws.specs.Small.{at, number}
+use Rattle.al_runs_laws.specs.Small.{number}
 use Rattle.al_source_facts.specs.Generated as source
 use Rattle.al_source_facts.specs.Generated.{program, n_name, s_name, i_name, k_name}
 use Rattle.al_source_facts.specs.GeneratedTree as typed
@@ -112,7 +112,19 @@ counts_one : (loops : List TNote) → Walks 7 source.counts true (inside loops) 
 unfolding bind pure checks integer used called binary indexed
 counts_one loops =
     step known 0 type.Int 7 _ true (inside loops) _ _ _ (nodes.walks-Update known 0 type.Int binary.Add source.slot (source.number 1) 7 true)
-    (simp (operand_nodes, part_nodes, words_nodes, type.outs-Int, k.rolls-UpdateAt, e.rolls-Number, e.rolls-Local, e.rolls-Input, e.rolls-Binary, p.rolls-Global, p.rolls-Elem))
+    (simp (
+      operand_nodes,
+      part_nodes,
+      words_nodes,
+      type.outs-Int,
+      k.rolls-UpdateAt,
+      e.rolls-Number,
+      e.rolls-Local,
+      e.rolls-Input,
+      e.rolls-Binary,
+      p.rolls-Global,
+      p.rolls-Elem,
+    ))
 
 adds : (loops : List TNote) → Walks 8 source.sums true (inside loops) typed.sums (inside loops)
 unfolding bind pure checks integer used called
@@ -136,8 +148,21 @@ runs_loop : Walks 6 source.loop false two_locals typed.loop looped
 unfolding bind pure checks get_scope set_scope begin_loop end_loop scalar integer used binary
 runs_loop =
     step known 0 type.Int 6 _ false two_locals _ _ _
-    (nodes.walks-For known 0 type.Int (Some (statement_of 6 (source.declare i_name (source.number 0)))) (Some (source.less source.i source.n)) (Some (statement_of 6 (source.next source.i))) (statement_of 6 source.body) (Some source.note) 6 false)
-    (simp (declares_zero 6 i_name (state [] of_function two []) refl, advances_i [], block (note ∷ []), operand_nodes, sort_nodes, part_nodes, type.outs-Int, k.rolls-For, e.rolls-Number, e.rolls-Local, e.rolls-Binary))
+    (nodes.walks-For known 0 type.Int (Some (statement_of 6 (source.declare i_name (source.number 0))))
+    (Some (source.less source.i source.n)) (Some (statement_of 6 (source.next source.i))) (statement_of 6 source.body) (Some source.note) 6 false)
+    (simp (
+      declares_zero 6 i_name (state [] of_function two []) refl,
+      advances_i [],
+      block (note ∷ []),
+      operand_nodes,
+      sort_nodes,
+      part_nodes,
+      type.outs-Int,
+      k.rolls-For,
+      e.rolls-Number,
+      e.rolls-Local,
+      e.rolls-Binary,
+    ))
 
 prints_slot : Walks 10 source.print_slot true printing typed.print_slot printing
 unfolding bind pure checks integer used indexed
@@ -155,8 +180,20 @@ prints_all : Walks 10 source.prints false looped typed.prints ended
 unfolding bind pure checks get_scope set_scope scalar integer used binary
 prints_all =
     step known 0 type.Int 10 _ false looped _ _ _
-    (nodes.walks-For known 0 type.Int (Some (statement_of 10 (source.declare k_name (source.number 0)))) (Some (source.less source.k (source.number 16))) (Some (statement_of 10 (source.next source.k))) (statement_of 10 source.print_slot) None 10 false)
-    (simp (declares_zero 10 k_name (state [] of_function three (note ∷ [])) refl, advances_k, prints_slot, operand_nodes, sort_nodes, part_nodes, type.outs-Int, k.rolls-For, e.rolls-Number, e.rolls-Local, e.rolls-Binary))
+    (nodes.walks-For known 0 type.Int (Some (statement_of 10 (source.declare k_name (source.number 0))))
+    (Some (source.less source.k (source.number 16))) (Some (statement_of 10 (source.next source.k))) (statement_of 10 source.print_slot) None 10 false)
+    (simp (
+      declares_zero 10 k_name (state [] of_function three (note ∷ [])) refl,
+      advances_k,
+      prints_slot,
+      operand_nodes,
+      sort_nodes,
+      type.outs-Int,
+      k.rolls-For,
+      e.rolls-Number,
+      e.rolls-Local,
+      e.rolls-Binary,
+    ))
 
 prints_sum : Walks 11 source.print_sum false ended typed.print_sum ended
 unfolding bind pure checks integer used

@@ -1,19 +1,17 @@
 -- The loops of the typed tree have their entries.
-use Rattle.std.proofs.Common.{◌≡◌, refl, [], ◌∷◌, ℕ, Bool, List, true, false, ◌∙◌, ap, Some, None}
-use Rattle.std.specs.Prelude.{Ok, pos, map, ◌||◌}
+use Rattle.std.proofs.Common.{◌≡◌, [], ◌∷◌, ℕ, false, ◌∙◌, ap, Some, None}
+use Rattle.std.specs.Prelude.{Ok, pos, ◌||◌}
 use Rattle.std.specs.List.{list_any}
 use Rattle.al_source.specs.declared.annotations.CommitOrder.{CommitOrder}
-use Rattle.al_source.specs.declared.operators.BinOp.{BinOp}
-use Rattle.al_source.specs.declared.texts.Piece.{Piece}
 use Rattle.al_source.specs.declared.operators.RedOp.TheVariants as red
 use Rattle.al_core.specs.declared.choices.Bound.TheVariants as bound
 use Rattle.al_core.specs.declared.values.Addr.{Addr}
 use Rattle.al_core.specs.declared.values.Addr.TheVariants.{Word, Local}
 use Rattle.al_core.specs.declared.values.Obj.TheVariants.{Global}
 use Rattle.al_core.specs.declared.typed_tree.TExpr.{TExpr, fold-roll-TExpr, out-roll-TExpr}
-use Rattle.al_core.specs.declared.typed_tree.TPlace.{TPlace, fold-roll-TPlace, out-roll-TPlace}
-use Rattle.al_core.specs.declared.typed_tree.TStmt.{TStmt, fold-TStmt, fold-roll-TStmt, para-roll-TStmt}
-use Rattle.al_core.specs.declared.typed_tree.TKind.{TKind, map-TKind, fold-TKind, roll-TKind, fold-roll-TKind, para-roll-TKind, out-roll-TKind}
+use Rattle.al_core.specs.declared.typed_tree.TPlace.{fold-roll-TPlace, out-roll-TPlace}
+use Rattle.al_core.specs.declared.typed_tree.TStmt.{TStmt, fold-roll-TStmt, para-roll-TStmt}
+use Rattle.al_core.specs.declared.typed_tree.TKind.{fold-roll-TKind, para-roll-TKind, out-roll-TKind}
 use Rattle.al_core.specs.declared.typed_tree.TKind.TheOpen.{TKind-F}
 use Rattle.al_core.specs.Accepted.{Terms, no_terms, one_expr, both_terms, terms, terms_of, takes_in, takes, takes_at, calls, calls_at, calls_of, mentions, mentions_at, only_updates}
 use Rattle.al_core.specs.Loops.{ForLoop, placed, program_loops, for_loops}
@@ -141,4 +139,18 @@ module _ (o : CommitOrder) where
   pub is_noted : notes_of (tree o) ≡ Ok (entries o)
   unfolding notes_of
   is_noted =
-      simp (its_loops, first_form, second_form, first_assigns, second_assigns, first_returns, second_returns, first_breaks, second_breaks, sum_untaken, greatest_untaken, sum_used, greatest_used)
+      simp (
+        its_loops,
+        first_form,
+        second_form,
+        first_assigns,
+        second_assigns,
+        first_returns,
+        second_returns,
+        first_breaks,
+        second_breaks,
+        sum_untaken,
+        greatest_untaken,
+        sum_used,
+        greatest_used,
+      )

@@ -1,6 +1,6 @@
 -- The tokens of the two sources have their trees.
 use Rattle.std.proofs.Common.{◌≡◌, refl}
-use Rattle.std.specs.Prelude.{Ok, []}
+use Rattle.std.specs.Prelude.{Ok}
 use Rattle.al_source.specs.declared.annotations.CommitOrder.TheVariants.{InOrder, OutOfOrder}
 use Rattle.al_grammar.specs.ExpressionParser.{guard, go, parse}
 use Rattle.al_grammar.specs.StatementParser.{statement}

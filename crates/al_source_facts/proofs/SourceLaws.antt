@@ -1,6 +1,6 @@
 -- What the laws of sources ask is met.
-use Rattle.std.proofs.Common.{◌≡◌, ℕ, zero, suc, List, [], ◌∷◌, Option, Some, None, Bool, true, refl, inl, sym, ap, subst, ◌∙◌, arith, w64, FitsSigned}
-use Rattle.std.specs.Prelude.{Ok, slice_get, ◌⊎◌, ℤ, pos, negsuc}
+use Rattle.std.proofs.Common.{◌≡◌, ℕ, zero, suc, [], ◌∷◌, Some, true, refl, inl, sym, ap, subst, ◌∙◌, arith, w64, FitsSigned}
+use Rattle.std.specs.Prelude.{slice_get, ℤ}
 use Rattle.al_source.specs.declared.annotations.CommitOrder.{CommitOrder}
 use Rattle.al_source.specs.declared.annotations.CommitOrder.TheVariants.{InOrder, OutOfOrder}
 use Rattle.al_core.specs.declared.choices.Choice.{Choice}
@@ -12,13 +12,13 @@ use Rattle.al_core.specs.declared.typed_tree.TKind.{para-roll-TKind, out-roll-TK
 use Rattle.al_core.specs.declared.typed_tree.TGlobal.{TGlobal}
 use Rattle.al_core.specs.Meaning.{body_of}
 use Rattle.al_core.specs.Verdicts.{is_in_order}
-use Rattle.al_rules.specs.Layouts.{fault_of, layout_fault, layout_of, sizes}
-use Rattle.al_rules.specs.Notes.{note_fault, infos, or_no_infos}
-use Rattle.al_rules.specs.Programs.{Resolved, typed_of, typed_with}
+use Rattle.al_rules.specs.Layouts.{fault_of, sizes}
+use Rattle.al_rules.specs.Notes.{or_no_infos}
+use Rattle.al_rules.specs.Programs.{Resolved, typed_with}
 use Rattle.al_rules.proofs.LayoutNodes.{words_nodes}
 use Rattle.al_laws.proofs.Words.{same_some, some_none}
 use Rattle.al_rounds_laws.specs.Loops.{LooksAtReads}
-use Rattle.al_graded_laws.specs.InRange.{IsInRange, in_range}
+use Rattle.al_graded_laws.specs.InRange.{in_range}
 use Rattle.al_graded_laws.specs.Rules.{stmts_obey, stmt_obeys, obeys, obeys_at}
 use Rattle.al_graded_laws.proofs.Values.{zero_fits}
 use Rattle.al_runs_laws.specs.Accepted.{IsSized, IsInput, LookAtReads, AreInOrder}

@@ -1,20 +1,17 @@
 -- The small source has its typed tree.
-use Rattle.std.proofs.Common.{◌≡◌, refl, [], ◌∷◌, ℕ, Bool, List, true, false, ◌∙◌, ap, Some, None}
-use Rattle.std.specs.Prelude.{Ok, pos}
-use Rattle.al_source.specs.declared.source_tree.CType.{CType}
+use Rattle.std.proofs.Common.{◌≡◌, [], ◌∷◌, ℕ, Bool, List, true, false, Some, None}
+use Rattle.std.specs.Prelude.{Ok}
 use Rattle.al_source.specs.declared.source_tree.CType.TheVariants as type
 use Rattle.al_source.specs.declared.annotations.CommitOrder.{CommitOrder}
 use Rattle.al_source.specs.declared.operators.BinOp.TheVariants as binary
 use Rattle.al_source.specs.declared.texts.Piece.TheVariants as piece
-use Rattle.al_source.specs.declared.source_tree.Stmt.{Stmt}
 use Rattle.al_source.specs.declared.source_tree.StmtKind.{StmtKind}
-use Rattle.al_core.specs.declared.choices.Choice.{Choice}
 use Rattle.al_core.specs.declared.typed_tree.TExpr.TheVariants as e
 use Rattle.al_core.specs.declared.typed_tree.TPlace.TheVariants as p
 use Rattle.al_core.specs.declared.typed_tree.TKind.TheVariants as k
 use Rattle.al_core.specs.declared.typed_tree.TKind.TheOpen.{TKind-F}
 use Rattle.al_core.specs.declared.typed_tree.TKind.{TKind, roll-TKind}
-use Rattle.al_core.specs.declared.typed_tree.TStmt.{TStmt, roll-TStmt}
+use Rattle.al_core.specs.declared.typed_tree.TStmt.{TStmt}
 use Rattle.al_core.specs.declared.typed_tree.TNote.{TNote}
 use Rattle.al_ast.specs.Nodes.{program_nodes}
 use Rattle.al_ast.proofs.Cases.{expr_counts, kind_counts, stmt_counts}
@@ -22,15 +19,15 @@ use Rattle.al_grammar.specs.Statements.{statement_of}
 use Rattle.al_rules.specs.Layouts.{layout_of}
 use Rattle.al_rules.specs.Programs.{items_checked, typed_with}
 use Rattle.al_rules.specs.Scopes.{Known, Binding, known_of, no_scope}
-use Rattle.al_rules.specs.Statements.{part, kind_part, statements, is_void}
+use Rattle.al_rules.specs.Statements.{statements, is_void}
 use Rattle.al_rules.specs.Operands.{used, integer, scalar, fitting, binary, called}
-use Rattle.al_rules.specs.Walks.{Walk, Progress, bind, pure, checks, get_scope, set_scope, add_local, begin_loop, end_loop}
+use Rattle.al_rules.specs.Walks.{Progress, bind, pure, checks, get_scope, set_scope, add_local, begin_loop, end_loop}
 use Rattle.al_rules.proofs.LayoutNodes.{words_nodes}
 use Rattle.al_rules.proofs.TypeNodes.{part_nodes, form_nodes, known_nodes}
 use Rattle.al_rules.proofs.ExpressionNodes.{operand_nodes}
 use Rattle.al_rules.proofs.StatementNodes as nodes
 use Rattle.al_rules.proofs.StatementNodes.{sort_nodes}
-use Rattle.al_runs_laws.specs.Small.{at, number, x, y, i, value, is, sum, greater, first_body, second_body, below, note}
+use Rattle.al_runs_laws.specs.Small.{at, number, x, y, i, value, is, sum, greater, note}
 use Rattle.al_source_facts.specs.Trees as source
 use Rattle.al_source_facts.specs.Trees.{program, i_name, s_name}
 use Rattle.al_source_facts.specs.Tree.{tree, layout, first_own, main, notes, local, first_kind, second_kind, first_for, second_for}
@@ -164,15 +161,29 @@ module _ (o : CommitOrder) where
   unfolding bind pure checks get_scope set_scope begin_loop end_loop scalar integer used binary
   runs_first =
       step known 0 type.Int 6 _ false (with_loops []) _ _ _
-      (nodes.walks-For known 0 type.Int (Some (statement_of 6 source.from_zero)) (Some (source.below 3)) (Some (statement_of 6 source.next)) (statement_of 6 source.first_body) (Some (source.first_note o)) 6 false)
+      (nodes.walks-For known 0 type.Int (Some (statement_of 6 source.from_zero)) (Some (source.below 3))
+      (Some (statement_of 6 source.next)) (statement_of 6 source.first_body) (Some (source.first_note o)) 6 false)
       (simp (starts, advances, first_block first_note, operand_nodes, sort_nodes, type.outs-Int, k.rolls-For, e.rolls-Number, e.rolls-Local, e.rolls-Binary))
 
   runs_second : Walks 11 source.second_loop false (with_loops first_note) second_for (with_loops (notes o))
   unfolding bind pure checks get_scope set_scope begin_loop end_loop scalar integer used binary
   runs_second =
       step known 0 type.Int 11 _ false (with_loops first_note) _ _ _
-      (nodes.walks-For known 0 type.Int (Some (statement_of 11 source.from_zero)) (Some (source.below 9)) (Some (statement_of 11 source.next)) (statement_of 11 source.second_body) (Some source.second_note) 11 false)
-      (simp (starts, advances, second_block (notes o), operand_nodes, sort_nodes, part_nodes, type.outs-Int, k.rolls-For, e.rolls-Number, e.rolls-Local, e.rolls-Binary))
+      (nodes.walks-For known 0 type.Int (Some (statement_of 11 source.from_zero)) (Some (source.below 9))
+      (Some (statement_of 11 source.next)) (statement_of 11 source.second_body) (Some source.second_note) 11 false)
+      (simp (
+        starts,
+        advances,
+        second_block (notes o),
+        operand_nodes,
+        sort_nodes,
+        part_nodes,
+        type.outs-Int,
+        k.rolls-For,
+        e.rolls-Number,
+        e.rolls-Local,
+        e.rolls-Binary,
+      ))
 
   returns : Walks 14 source.result false (with_loops (notes o)) (TKind-F.Return (Some sum)) (with_loops (notes o))
   unfolding bind pure checks fitting integer used is_void
@@ -187,4 +198,3 @@ module _ (o : CommitOrder) where
   pub is_typed : typed_with layout (program o) ≡ Ok (tree o)
   unfolding typed_with
   is_typed = simp (checked, body_is_typed, counts, words_nodes, part_nodes)
-

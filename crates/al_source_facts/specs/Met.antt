@@ -1,6 +1,6 @@
 -- What the laws of sources ask is met: by a small source whose first loop commits out of order, by the same source with
 -- both loops in order, and by the generated program.
-use Rattle.std.specs.Prelude.{◌≡◌, ℕ, ◌<◌, List, [], ◌∷◌, map, Option, Some, Ok, ℤ, pos, negsuc}
+use Rattle.std.specs.Prelude.{◌≡◌, ◌<◌, List, [], ◌∷◌, Option, Some, Ok, ℤ, pos, negsuc}
 use Rattle.al_source.specs.declared.annotations.CommitOrder.{CommitOrder}
 use Rattle.al_source.specs.declared.annotations.CommitOrder.TheVariants.{InOrder, OutOfOrder}
 use Rattle.al_core.specs.declared.choices.Choice.{Choice}

@@ -1,5 +1,5 @@
 -- The source tree of the small source, by the order of its first loop.
-use Rattle.std.specs.Prelude.{ℕ, List, [], ◌∷◌, Option, Some, None, pos, codes}
+use Rattle.std.specs.Prelude.{ℕ, List, [], ◌∷◌, Some, None, pos, codes}
 use Rattle.al_source.specs.declared.annotations.Policy.{Policy}
 use Rattle.al_source.specs.declared.annotations.Policy.TheVariants as policy
 use Rattle.al_source.specs.declared.annotations.CommitOrder.{CommitOrder}
@@ -113,7 +113,10 @@ first_note o = note policy.Raw o []
 
 abbrev pub second_note : LoopNote
 second_note =
-    note policy.Full order.InOrder (record { op = red.Add; name = s_name } ∷ record { op = red.Max; name = x_name } ∷ [])
+    note
+    policy.Full
+    order.InOrder
+    (record { op = red.Add; name = s_name } ∷ record { op = red.Max; name = x_name } ∷ [])
 
 abbrev pub loop : ℕ → ℕ → StmtKind → LoopNote → StmtKind
 loop line n body note =

@@ -1,5 +1,5 @@
-//! Facts: sources that are accepted, by computation, and that what the laws of sources ask is met by them. A fact stands
-//! on a function that does nothing.
+//! Facts: sources that are accepted, by computation, and that they meet what the laws of sources ask. A fact stands on
+//! a function that does nothing.
 #![tactic(auto)]
 
 ghost use Rattle.al_source_facts.specs.Met.{AcceptedInOrderIsMet, AcceptedIsMet, ReportInOrderIsMet, ReportIsMet};
