@@ -5,3 +5,5 @@ pub mod FirstLoop
 pub mod SecondLoop
 pub mod WholeRuns
 pub mod Outcomes
+pub mod Recorded
+pub mod Ended

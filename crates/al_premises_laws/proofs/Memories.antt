@@ -1,5 +1,5 @@
 -- Memories of two globals of one word and two locals, with numbers in all of them.
-use Rattle.std.proofs.Common.{◌≡◌, ℕ, zero, suc, List, [], ◌∷◌, Option, Some, None, Bool, true, false, refl, sym, ap, subst, ◌∙◌}
+use Rattle.std.proofs.Common.{◌≡◌, ℕ, zero, suc, [], ◌∷◌, Some, None, Bool, true, false, sym, ap, subst, ◌∙◌}
 use Rattle.std.specs.Prelude.{cond, is_some, slice_get, ℤ}
 use Rattle.std.specs.FinMap as map
 use Rattle.al_core.specs.declared.values.Addr.{Addr}
@@ -10,8 +10,7 @@ use Rattle.al_core.specs.declared.values.Val.{Val}
 use Rattle.al_core.specs.declared.values.Val.TheVariants.{Int}
 use Rattle.al_core.specs.Orders.{obj_cmp, obj_eq}
 use Rattle.al_core.specs.Memory.{has_object, word_in, value_at}
-use Rattle.al_core.specs.Iteration.{Execution}
-use Rattle.al_core.specs.Readiness.{IsNameFrom, IsFresh}
+use Rattle.al_core.specs.Readiness.{IsNameFrom}
 use Rattle.al_laws.proofs.Orders.{obj_total}
 use Rattle.al_laws.proofs.Words.{same_some, some_none}
 use Rattle.al_premises_laws.specs.Executions.{holding}

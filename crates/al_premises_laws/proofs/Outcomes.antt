@@ -1,5 +1,5 @@
 -- Chunks that touch nothing: they print, or change reduction variables alone.
-use Rattle.std.proofs.Common.{◌≡◌, ◌≢◌, ℕ, true, false, List, [], ◌∷◌, refl, sym, ap, ◌∙◌, arith}
+use Rattle.std.proofs.Common.{◌≡◌, ℕ, false, List, [], refl, sym, ap, ◌∙◌}
 use Rattle.std.proofs.Math.Bool.{true≢false}
 use Rattle.std.specs.FinSet as set
 use Rattle.std.specs.FinSet.{FinSet}
@@ -50,14 +50,14 @@ module _ (call : Call) where
   its_place =
       fold-TPlace (At Content Val) (At Content Pointer) (expr_case in_iteration Inside [] call) (place_case in_iteration Inside [] call)
 
-  stmt_roll : (line : ℕ) (k : TKind) (s : State Content)
+  pub stmt_roll : (line : ℕ) (k : TKind) (s : State Content)
       → doing (roll-TStmt (record { line = line; kind = k })) s ≡ bind (spend line) (λ _. doing_kind k line) s
   stmt_roll line k s =
       ap (λ f. f s)
       (para-roll-TStmt (At Content Flow) (Act Content Flow) (kind_does in_iteration Inside [] call)
       (stmt_does in_iteration Inside [] call) (record { line = line; kind = k }))
 
-  kind_roll : (d : TKind-F TKind TStmt) (line : ℕ) (s : State Content)
+  pub kind_roll : (d : TKind-F TKind TStmt) (line : ℕ) (s : State Content)
       → doing_kind (roll-TKind d) line s
       ≡ kind_does in_iteration Inside [] call
       (map-TKind TKind TStmt (TKind × At Content Flow) (TStmt × Act Content Flow) (λ k. (k, doing_kind k)) (λ s. (s, doing s)) d)
@@ -66,14 +66,14 @@ module _ (call : Call) where
       ap (λ f. f line s)
       (para-roll-TKind (At Content Flow) (Act Content Flow) (kind_does in_iteration Inside [] call) (stmt_does in_iteration Inside [] call) d)
 
-  expr_roll : (d : TExpr-F TExpr TPlace) (line : ℕ) (s : State Content)
+  pub expr_roll : (d : TExpr-F TExpr TPlace) (line : ℕ) (s : State Content)
       → its_value (roll-TExpr d) line s
       ≡ expr_case in_iteration Inside [] call (map-TExpr TExpr TPlace (At Content Val) (At Content Pointer) its_value its_place d) line s
   expr_roll d line s =
       ap (λ f. f line s)
       (fold-roll-TExpr (At Content Val) (At Content Pointer) (expr_case in_iteration Inside [] call) (place_case in_iteration Inside [] call) d)
 
-  place_roll : (d : TPlace-F TExpr TPlace) (line : ℕ) (s : State Content)
+  pub place_roll : (d : TPlace-F TExpr TPlace) (line : ℕ) (s : State Content)
       → its_place (roll-TPlace d) line s
       ≡ place_case in_iteration Inside [] call (map-TPlace TExpr TPlace (At Content Val) (At Content Pointer) its_value its_place d) line s
   place_roll d line s =
@@ -86,7 +86,7 @@ third_touches_nothing : (outcome first [] at_first 2).touched ≡ set.empty
 unfolding outcome iteration execute value place bind pure lift asks spend get_frame set_frame load store print operate choose
 third_touches_nothing = simp (stmt_roll, kind_roll, expr_roll)
 
-last_touches_nothing : (outcome second small_reductions at_second 4).touched ≡ set.empty
+pub last_touches_nothing : (outcome second small_reductions at_second 4).touched ≡ set.empty
 unfolding outcome iteration execute value place bind pure lift asks spend get_frame set_frame load store print operate choose
 last_touches_nothing = simp (stmt_roll, kind_roll, expr_roll, place_roll)
 

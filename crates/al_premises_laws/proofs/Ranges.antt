@@ -1,6 +1,6 @@
 -- The numbers of both executions have their sizes, and so have the values in their memories.
-use Rattle.std.proofs.Common.{◌≡◌, ℕ, ◌<◌, true, [], ◌∷◌, refl, arith, w64, FitsSigned}
-use Rattle.std.specs.Prelude.{ℤ, pos, ◌+ℤ◌}
+use Rattle.std.proofs.Common.{◌≡◌, ℕ, ◌<◌, true, arith, w64, FitsSigned}
+use Rattle.std.specs.Prelude.{pos, ◌+ℤ◌}
 use Rattle.al_core.specs.declared.typed_tree.TExpr.{fold-roll-TExpr}
 use Rattle.al_core.specs.declared.typed_tree.TPlace.{fold-roll-TPlace}
 use Rattle.al_core.specs.declared.typed_tree.TKind.{para-roll-TKind}

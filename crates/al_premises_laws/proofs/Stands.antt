@@ -1,12 +1,12 @@
 -- The loops of the small program, and what it is known to meet.
-use Rattle.std.proofs.Common.{◌≡◌, ℕ, List, [], ◌∷◌, Some, true, refl, ap, ◌∙◌}
+use Rattle.std.proofs.Common.{◌≡◌, [], ◌∷◌, Some, ap, ◌∙◌}
 use Rattle.std.specs.Prelude.{slice_get}
 use Rattle.al_core.specs.declared.typed_tree.TExpr.{out-roll-TExpr}
 use Rattle.al_core.specs.declared.typed_tree.TKind.{para-roll-TKind, out-roll-TKind}
 use Rattle.al_core.specs.declared.typed_tree.TStmt.{para-roll-TStmt}
 use Rattle.al_core.specs.Loops.{ForLoop, placed, program_loops, for_loops, noted_loop, loop_at}
 use Rattle.al_runs_laws.specs.Small.{small, main, first_body, second_body, from_zero, below, next}
-use Rattle.al_premises_laws.specs.Executions.{info, first_loop, second_loop}
+use Rattle.al_premises_laws.specs.Executions.{first_loop, second_loop}
 
 abbrev first_for : ForLoop
 first_for = record { number = 0; first = Some from_zero; test = Some (below 3); third = Some next; body = first_body }

@@ -1,6 +1,6 @@
 -- What the laws of numbers, values, runs and reports ask is met by the small program.
-use Rattle.std.proofs.Common.{◌≡◌, ℕ, zero, suc, ◌<◌, ◌≤◌, List, [], ◌∷◌, length, Option, Some, None, Bool, true, false, refl, sym, ap, subst, ◌∙◌, arith, w64, FitsSigned}
-use Rattle.std.specs.Prelude.{cond, not, ◌&&◌, ◌||◌, is_some, slice_get, ℤ, pos, negsuc}
+use Rattle.std.proofs.Common.{◌≡◌, ℕ, zero, suc, [], ◌∷◌, Some, None, Bool, true, false, refl, sym, ap, subst, ◌∙◌, arith, w64, FitsSigned}
+use Rattle.std.specs.Prelude.{cond, not, ◌||◌, is_some, slice_get, ℤ, pos, negsuc}
 use Rattle.std.specs.FinMap as map
 use Rattle.std.proofs.Math.Bool.{true≢false}
 use Rattle.al_core.specs.declared.choices.Choice.{Choice}
@@ -10,14 +10,13 @@ use Rattle.al_core.specs.declared.typed_tree.TFunc.{TFunc}
 use Rattle.al_core.specs.declared.values.Addr.TheVariants.{Word}
 use Rattle.al_core.specs.declared.values.Obj.{Obj}
 use Rattle.al_core.specs.declared.values.Obj.TheVariants.{Global}
-use Rattle.al_core.specs.declared.values.Val.{Val}
 use Rattle.al_core.specs.declared.values.Val.TheVariants.{Int}
 use Rattle.al_core.specs.Accepted.{IsAccepted, IsRedVariable, terms_of, takes_in}
 use Rattle.al_core.specs.Loops.{Loop, loop_at}
-use Rattle.al_core.specs.Memory.{has_object, word_in}
+use Rattle.al_core.specs.Memory.{word_in}
 use Rattle.al_core.specs.Orders.{obj_eq}
 use Rattle.al_core.specs.Report.{by_choices}
-use Rattle.al_core.specs.Run.{Whole, start}
+use Rattle.al_core.specs.Run.{start}
 use Rattle.al_core.specs.Verdicts.{is_in_order}
 use Rattle.al_laws.specs.Names.{IsWithin, HasNames}
 use Rattle.al_laws.proofs.Orders.{obj_equal}
@@ -33,7 +32,7 @@ use Rattle.al_runs_laws.specs.Numbers.{IsLoopOf}
 use Rattle.al_runs_laws.specs.Reports.{ChoicesAreSerializable, ChoicesAreOrdered}
 use Rattle.al_runs_laws.specs.Small.{small, main, small_choices, small_reductions, first_choice, second_choice}
 use Rattle.al_runs_laws.proofs.SmallFacts.{small_is_program, small_choices_fit}
-use Rattle.al_premises_laws.specs.Executions.{info, first_loop, second_loop, first, second, holding, at_first, at_second, raw_in_order, ordered_choices, setting, own_infos, ordered_infos}
+use Rattle.al_premises_laws.specs.Executions.{info, first_loop, second_loop, first, second, holding, at_second, raw_in_order, ordered_choices, setting}
 use Rattle.al_premises_laws.specs.Met.{ValuesAreMet, NumbersAreMet, RunsAreMet, RunsInOrderAreMet, ReportsInOrderAreMet, LimitsAreMet, InputIsMet, AnnotationsAreMet}
 use Rattle.al_premises_laws.proofs.Memories.{object_of, held}
 use Rattle.al_premises_laws.proofs.Stands.{first_stands, second_stands}

@@ -7,14 +7,19 @@ use Rattle.al_core.specs.declared.choices.Bound.TheVariants as bound
 use Rattle.al_core.specs.declared.choices.Choice.{Choice}
 use Rattle.al_core.specs.declared.choices.Knobs.{Knobs}
 use Rattle.al_core.specs.declared.choices.LoopInfo.{LoopInfo}
-use Rattle.al_core.specs.declared.values.Obj.TheVariants.{Global}
-use Rattle.al_core.specs.declared.values.Val.TheVariants.{Int}
+use Rattle.al_core.specs.declared.typed_tree.TExpr.{TExpr}
+use Rattle.al_core.specs.declared.typed_tree.TExpr.TheOpen.{TExpr-F}
+use Rattle.al_core.specs.declared.typed_tree.TExpr.TheViews.{roll-TExpr}
+use Rattle.al_core.specs.declared.typed_tree.TKind.TheOpen.{TKind-F}
+use Rattle.al_core.specs.declared.typed_tree.TStmt.{TStmt}
+use Rattle.al_core.specs.declared.values.Obj.TheVariants.{Global, Serial}
+use Rattle.al_core.specs.declared.values.Val.TheVariants.{Int, Ptr}
 use Rattle.al_core.specs.Memory.{Memory}
 use Rattle.al_core.specs.Loops.{Loop}
 use Rattle.al_core.specs.Iteration.{Execution}
-use Rattle.al_core.specs.Run.{Sizes, Setting, sizes_of}
+use Rattle.al_core.specs.Run.{Setting, sizes_of}
 use Rattle.al_core.specs.Report.{by_choices}
-use Rattle.al_runs_laws.specs.Small.{small, first_body, second_body, first_choice, second_choice, small_choices}
+use Rattle.al_runs_laws.specs.Small.{small, at, number, first_body, second_body, first_choice, second_choice}
 
 -- ---- the loops
 
@@ -62,6 +67,28 @@ second = record {
   iter_steps = 100;
 }
 
+-- for (i = 0; i < 1; i += 1) { calloc(1, 8); free(p); }, where the local 1 is the pointer p
+abbrev pub made : TExpr
+made = roll-TExpr (TExpr-F.Calloc (number 1) 1)
+
+abbrev pub freed : TExpr
+freed = roll-TExpr (TExpr-F.Free (roll-TExpr (TExpr-F.Local 1)))
+
+abbrev pub making_body : TStmt
+making_body = at 16 (TKind-F.Block (at 17 (TKind-F.Call made) ∷ at 18 (TKind-F.Call freed) ∷ []))
+
+abbrev pub making : Execution
+making = record {
+  typed = small;
+  input = [];
+  loop = record { info = info 2 16 1 first_choice; locals = 2; body = making_body };
+  number = 2;
+  lo = pos 0;
+  trips = 1;
+  factor = 1;
+  iter_steps = 100;
+}
+
 -- ---- memories
 
 -- the globals x and y, and the locals i and s
@@ -81,6 +108,13 @@ at_second = holding (pos 1) (pos 1) (pos 3) (pos 0)
 -- another one, with other numbers in x and s alone
 abbrev pub reduced : Memory
 reduced = holding (pos 8) (pos 1) (pos 3) (pos 36)
+
+-- with an object of one word, and the locals i and p, which leads to it
+abbrev pub at_making : Memory
+at_making = record {
+  objects = map.insert map.empty (Serial 0) (Int (pos 7) ∷ []);
+  locals = Int (pos 0) ∷ Ptr (Serial 0) 0 ∷ [];
+}
 
 -- ---- choices
 

@@ -1,24 +1,37 @@
 -- What the laws of the serial order ask is met by the small program: its two loops, and memories in which they run.
-use Rattle.std.specs.Prelude.{◌≡◌, ◌≢◌, ℕ, ◌+◌, ◌<◌, ◌≤◌, true, List, [], ◌∷◌, length, Some, None, is_some, reverse, map, slice_get, IsPermutation, ℤ, pos, negsuc, FitsSigned}
+use Rattle.std.specs.Prelude.{◌≡◌, ◌≢◌, ℕ, ◌+◌, ◌<◌, ◌≤◌, true, [], ◌∷◌, length, Some, None, is_some, reverse, IsPermutation, Contains, Err, pos, negsuc, FitsSigned}
 use Rattle.std.specs.Int.{w64}
 use Rattle.std.specs.List.{AllByRecursion}
+use Rattle.std.specs.FinMap as map
 use Rattle.std.specs.FinSet as set
-use Rattle.al_core.specs.declared.choices.LoopInfo.{LoopInfo}
 use Rattle.al_core.specs.declared.values.Addr.{Addr}
 use Rattle.al_core.specs.declared.values.Addr.TheVariants.{Word, Local}
-use Rattle.al_core.specs.declared.values.Obj.TheVariants.{Global}
+use Rattle.al_core.specs.declared.values.Obj.TheVariants.{Global, Serial, Iter}
+use Rattle.al_core.specs.declared.values.Val.{Val}
+use Rattle.al_core.specs.declared.values.Val.TheVariants.{Int}
+use Rattle.al_core.specs.declared.values.Trap.TheVariants as trap
+use Rattle.al_core.specs.declared.reports.Ending.TheVariants.{Done}
+use Rattle.al_core.specs.declared.typed_tree.TExpr.{TExpr}
+use Rattle.al_core.specs.declared.typed_tree.TStmt.{TStmt}
+use Rattle.al_core.specs.World.{World}
+use Rattle.al_core.specs.Action.{Frame, AllPrivate, State, Act, lift, pure}
+use Rattle.al_core.specs.Meaning.{Flow, Inside, execute, call_to, value}
+use Rattle.al_core.specs.Clash.{meets}
+use Rattle.al_core.specs.Serial.{direct}
 use Rattle.al_core.specs.Accepted.{IsAccepted}
 use Rattle.al_core.specs.Memory.{AgreeAt}
-use Rattle.al_core.specs.Access.{red_index}
-use Rattle.al_core.specs.Chunk.{outcome, chunk_from}
+use Rattle.al_core.specs.Access.{red_index, in_iteration}
+use Rattle.al_core.specs.Chunk.{outcome, chunk_from, chunk_count}
 use Rattle.al_core.specs.Limits.{AreInRange}
-use Rattle.al_core.specs.Lockstep.{commits, all_chunks}
+use Rattle.al_core.specs.Lockstep.{commits, all_chunks, lockstep}
 use Rattle.al_core.specs.Loops.{loop_at}
 use Rattle.al_core.specs.Readiness.{IsFresh, IsRunnable, IsReady, HasValues}
 use Rattle.al_core.specs.Round.{outcomes, round}
-use Rattle.al_core.specs.Run.{start}
+use Rattle.al_core.specs.Run.{start, outside}
 use Rattle.al_core.specs.Verdicts.{is_in_order}
-use Rattle.al_laws.specs.Commits.{IsVariable, IsUntouched}
+use Rattle.al_laws.specs.Budgets.{NeverAdds}
+use Rattle.al_laws.specs.Commits.{IsVariable, IsUntouched, IsOff}
+use Rattle.al_laws.specs.Ends.{EndsAlike}
 use Rattle.al_laws.specs.Names.{HasNames}
 use Rattle.al_laws.specs.Recording.{HasNoReds}
 use Rattle.al_rounds_laws.specs.InOrder.{Ascend}
@@ -36,8 +49,8 @@ use Rattle.al_runs_laws.specs.Accepted.{IsInput, LookAtReads, AreInOrder}
 use Rattle.al_runs_laws.specs.Modes.{AreSerializable, AreAllowed, AreOrdered}
 use Rattle.al_runs_laws.specs.Numbers.{IsLoopOf}
 use Rattle.al_runs_laws.specs.Reports.{ChoicesAreSerializable, ChoicesAreOrdered}
-use Rattle.al_runs_laws.specs.Small.{small, main, small_choices, small_reductions, first_choice, second_choice}
-use Rattle.al_premises_laws.specs.Executions.{first_loop, second_loop, first, second, at_first, at_second, reduced, raw_in_order, full_out_of_order, ordered_choices, knobs, setting, own_infos, ordered_infos}
+use Rattle.al_runs_laws.specs.Small.{small, main, first_body, below, next, small_choices, small_reductions, first_choice, second_choice}
+use Rattle.al_premises_laws.specs.Executions.{making, at_making, first_loop, second_loop, first, second, at_first, at_second, reduced, raw_in_order, full_out_of_order, ordered_choices, knobs, setting, own_infos, ordered_infos}
 
 -- ---- the loops are those of the program
 
@@ -164,7 +177,80 @@ UntouchedIsMet =
 abbrev pub RecordIsMet : Type 0
 RecordIsMet = HasNoReds (chunk_from first [] at_first 0).accesses
 
+-- ---- records
+
+-- the second chunk of the first loop reads x
+abbrev pub ReadIsMet : Type 0
+ReadIsMet = set.contains (outcome first [] at_first 1).reads (Word (Global 0) 0) ≡ true
+
+-- a chunk makes an object
+abbrev pub MadeIsMet : Type 0
+MadeIsMet = is_some (map.get (outcome making [] at_making 0).made (Iter 2 0 0)) ≡ true
+
+-- and frees another one
+abbrev pub FreedIsMet : Type 0
+FreedIsMet = Contains (outcome making [] at_making 0).freed (Serial 0)
+
+-- an outcome says nothing of a global, which is neither written nor a reduction variable
+abbrev pub OffIsMet : Type 0
+OffIsMet = IsOff small_reductions (outcome second small_reductions at_second 4) (Word (Global 1) 0)
+
+-- what the first chunk of the first loop writes, the second one reads
+abbrev pub SetsMeet : Type 0
+SetsMeet = meets (outcome first [] at_first 0).touched (outcome first [] at_first 1).reads ≡ true
+
+-- ---- executions and actions
+
+abbrev pub frame : Frame
+frame = record { locals = []; own = AllPrivate }
+
+abbrev pub other_frame : Frame
+other_frame = record { locals = Int (pos 1) ∷ []; own = AllPrivate }
+
+abbrev pub state_of : {S : Type 0} → S → ℕ → State S
+state_of now steps = record { frame = frame; budget = steps; world = now }
+
+-- it divides by 0
+abbrev pub traps : {S : Type 0} → Act S Flow
+traps = lift 6 (Err trap.Divide)
+
+-- an execution, in rounds of two chunks each, ends without a trap
+abbrev pub EndIsMet : Type 0
+EndIsMet = (0 < 2) × ((lockstep making raw_in_order 2 at_making).ending ≡ Done) × (0 < chunk_count making)
+
+-- a statement, and an expression where no call is known
+abbrev pub does : {S : Type 0} → World S → TStmt → Act S Flow
+does world stmt = execute world Inside [] (call_to world Inside small.funcs [] 1) stmt
+
+abbrev pub gives : {S : Type 0} → World S → TExpr → Act S Val
+gives world e = value world Inside [] (call_to world Inside small.funcs [] 1) e 6
+
+-- the test, the body and the third part of the first loop add no steps, and there are fewer steps than turns
+abbrev pub PartsAddNothing : {S : Type 0} → World S → S → Type 0
+PartsAddNothing world now =
+    NeverAdds (gives world (below 3)) × NeverAdds (does world first_body) × NeverAdds (does world next)
+    × ((state_of now 100).budget < 101)
+
+abbrev pub ActionsAreMet : Type 0
+ActionsAreMet =
+    PartsAddNothing in_iteration (direct first at_first)
+    × PartsAddNothing (outside (setting small_choices)) (start (setting small_choices)).world
+
+-- After a trap two states with other locals are alike, and after what answers by the state two that are one.
+abbrev pub TrapsAlike : {S : Type 0} → S → Type 0
+TrapsAlike {S} now =
+    EndsAlike {S = S} {A = Flow} (traps (state_of now 5)) (traps (record (state_of now 5) { frame = other_frame }))
+    × ((flow : Flow) (s : State S) → EndsAlike (pure flow s) (pure flow s))
+
+abbrev pub EndsAreMet : Type 0
+EndsAreMet = TrapsAlike (direct first at_first) × TrapsAlike (start (setting small_choices)).world
+
 -- ---- numbers and values
+
+-- the greatest number of 64 bits, the least one, and 0
+abbrev pub NumbersFit : Type 0
+NumbersFit =
+    FitsSigned w64 (pos 9223372036854775807) × FitsSigned w64 (negsuc 9223372036854775807) × FitsSigned w64 (pos 0)
 
 -- of both loops; in the second one two iterations from the seventh on
 abbrev pub ValuesAreMet : Type 0

@@ -3,4 +3,5 @@
 #![tactic(auto)]
 
 pub mod loops;
+pub mod records;
 pub mod runs;

@@ -1,0 +1,12 @@
+pub mod Steps
+pub mod StatementTerms
+pub mod Reading
+pub mod Parsing
+pub mod Typing
+pub mod Noting
+pub mod Accepting
+pub mod GeneratedParsing
+pub mod GeneratedTyping
+pub mod GeneratedNoting
+pub mod GeneratedAccepting
+pub mod SourceLaws
