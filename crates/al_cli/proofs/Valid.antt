@@ -9,6 +9,8 @@ use Rattle.al_rules.specs.declared.faults.LexicalCause.TheVariants as lex
 use Rattle.al_front.specs.declared.fault.BadTokens.{BadTokens}
 use Rattle.al_front.specs.Places.{IsBadIn}
 use Rattle.al_front.proofs.Places.{bad_one, bad_refused}
+use Rattle.al_source_facts.specs.GeneratedTree.{tree, entries}
+use Rattle.al_source_facts.proofs.GeneratedAccepting.{generated_accepted}
 use Rattle.al_answers.specs.declared.answers.Answer.{Answer}
 use Rattle.al_answers.specs.Plans.{Plan, Answers, failed, played}
 use Rattle.al_answers.specs.Written.{IsOneOf}
@@ -89,9 +91,9 @@ holds_shows words files c job program inputs e is has h =
 pub valid_status : (words : List (List ℕ)) (files : Contents) → IsValid words files → IsOneOf (0 ∷ 3 ∷ []) (shown words files).status
 valid_status words files (to_do c job program inputs e is h has) = subst (λ (a : Answer). IsOneOf (0 ∷ 3 ∷ []) a.status)
     (sym (holds_shows words files c job program inputs e is has h)) (done_status c (source_name words job) program inputs)
-valid_status words files (to_show c program e is h) =
+valid_status words files (to_show c e is) =
     subst (λ (a : Answer). IsOneOf (0 ∷ 3 ∷ []) a.status) (sym (shown_of words files c None e is))
-    (rw h (done_status c (codes "demo") program (made_inputs c)))
+    (rw generated_accepted (done_status c (codes "demo") (tree, entries) (made_inputs c)))
 
 -- ---- a source whose tokens derive no program
 

@@ -1,7 +1,6 @@
 -- What valid words do, said by itself.
 use Rattle.std.specs.Prelude.{⊤, ◌≡◌, ℕ, List, [], ◌∷◌, Some, None, Ok, ℤ}
 use Rattle.al_rules.specs.Refusals.{Noted, accepted}
-use Rattle.al_gen.specs.Generated.{source as made_source}
 use Rattle.al_io.specs.Contents.{Contents, contents_of}
 use Rattle.al_text.specs.Numbers.{numbers_of}
 use Rattle.al_words.specs.declared.command.Command.{Command}
@@ -29,6 +28,4 @@ pub record Holds (words : List (List ℕ)) (files : Contents) (job : Job) (progr
 pub data IsValid (words : List (List ℕ)) (files : Contents) : Type 0 where
   to_do : (c : Command) (job : Job) (program : Noted) (inputs : List (List ℤ)) → command words ≡ Ok c
       → job_of c ≡ Some job → Holds words files job program inputs → missing_loop c program ≡ None → IsValid words files
-  -- that the generated program is accepted is a premise
-  to_show : (c : Command) (program : Noted) → command words ≡ Ok c → job_of c ≡ None
-      → accepted made_source ≡ Ok program → IsValid words files
+  to_show : (c : Command) → command words ≡ Ok c → job_of c ≡ None → IsValid words files
