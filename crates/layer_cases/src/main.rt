@@ -3,31 +3,13 @@
 
 ghost use Rattle.al_code.specs.Valid.{IsValid};
 
-mod beside;
-mod choices;
-mod chunks;
-mod endings;
-mod engine;
-mod globals;
-mod made;
-mod options;
-mod places;
-mod plain;
-mod rounds;
-mod runs;
-mod same;
-mod sources;
-mod tally;
-mod walk;
 
-use crate::chunks::check_loops;
-use crate::engine::check_reports;
-use crate::made::check_made;
-use crate::options::{Row, rows_of};
-use crate::rounds::{check_first_round, check_rounds};
-use crate::runs::check_run;
-use crate::sources::{Said, Source, Trial, expanded, lower_source, numbers, read_case};
-use crate::tally::Tally;
+use al_case_loops::{check_loops, check_made};
+use al_case_rounds::{check_first_round, check_reports, check_rounds};
+use al_case_runs::check_run;
+use al_case_sources::{
+    Row, Said, Source, Tally, Trial, expanded, lower_source, numbers, read_case, rows_of,
+};
 use al_source::limits::{DEFAULT_ITERATION_STEPS, DEFAULT_SERIAL_STEPS};
 use anyhow::Error;
 use std::alloc::{AllocError, Global};

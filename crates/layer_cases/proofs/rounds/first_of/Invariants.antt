@@ -1,8 +1,0 @@
-use Rattle.std.proofs.Common.{◌<◌, ◌≤◌, length}
-use Rattle.std.specs.Prelude.{All}
-use Rattle.std.specs.Int.{div_ceil}
-use Rattle.layer_cases.proofs.rounds.first_of.Given as goal
-
-abbrev pub invariant-loop-chunk : goal.invariant-loop-chunk
-invariant-loop-chunk l =
-    (All (λ c. c < div_ceil l.env.trips l.env.chunk) l.chunks.items) × (length l.chunks.items ≤ 64)
