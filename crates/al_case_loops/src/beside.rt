@@ -85,29 +85,39 @@ fn object(at: Addr) -> Option<Obj> {
     }
 }
 
-/// Each written value is that of the memory, unless it is a word of a freed object; and each touched word is written.
+/// Whether each touched word is written with its value in the memory, unless it is a word of a freed object.
+fn has_writes(writes: &AddrMap, touched: &[Addr], plain: &Accesses, memory: &Memory) -> bool {
+    touched.iter().all(|at| {
+        let value = writes.get(*at).map(|v: PackedValue| v.unpack());
+        let is_gone = object(*at).is_some_and(|o| plain.freed.as_slice().contains(&o));
+        is_gone || memory.value_at(*at) == value
+    })
+}
+
+/// Whether each written word is touched.
+fn has_no_other_writes(writes: &mut AddrMap, touched: &Addresses) -> bool {
+    for _ in 0..100_000 {
+        let Some((at, _)) = writes.pop() else {
+            return true;
+        };
+        if !touched.contains(at) {
+            return false;
+        }
+    }
+    false
+}
+
 fn is_same_writes(
     alloc: Global,
-    mut writes: AddrMap,
+    writes: &mut AddrMap,
     plain: &Accesses,
     memory: &Memory,
 ) -> Result<bool, AllocError> {
-    for at in plain.touched.items(alloc)?.as_slice() {
-        let value = writes.get(*at).map(|v: PackedValue| v.unpack());
-        let is_gone = object(*at).is_some_and(|o| plain.freed.as_slice().contains(&o));
-        if !is_gone && memory.value_at(*at) != value {
-            return Ok(false);
-        }
-    }
-    for _ in 0..100_000 {
-        let Some((at, _)) = writes.pop() else {
-            return Ok(true);
-        };
-        if !plain.touched.contains(at) {
-            return Ok(false);
-        }
-    }
-    Ok(false)
+    let touched = plain.touched.items(alloc)?;
+    Ok(
+        has_writes(writes, touched.as_slice(), plain, memory)
+            && has_no_other_writes(writes, &plain.touched),
+    )
 }
 
 fn is_same_sums(sums: &Items<PackedValue>, plain: &Items<Val>) -> bool {
@@ -119,6 +129,10 @@ fn is_same_sums(sums: &Items<PackedValue>, plain: &Items<Val>) -> bool {
             .all(|(v, p)| v.unpack() == *p)
 }
 
+fn is_same_object(made: &Slots, memory: &Memory, obj: Obj) -> bool {
+    made.has(obj) && is_same_words(made.get(obj), memory.words(obj))
+}
+
 /// Whether the objects that a chunk made are those, with their words.
 fn is_same_made(
     alloc: Global,
@@ -126,31 +140,34 @@ fn is_same_made(
     plain: &Accesses,
     memory: &Memory,
 ) -> Result<bool, AllocError> {
-    for obj in plain.made.items(alloc)?.as_slice() {
-        if !made.has(*obj) || !is_same_words(made.get(*obj), memory.words(*obj)) {
-            return Ok(false);
-        }
-    }
-    Ok(true)
+    let all = plain.made.items(alloc)?;
+    Ok(
+        all.as_slice()
+            .iter()
+            .all(|obj| is_same_object(made, memory, *obj)),
+    )
 }
 
-/// Whether a change tells of an outcome.
+/// Whether a change ends as an outcome, with the same bytes, freed objects and accumulators.
+fn ends_alike(change: &Change, plain: &Outcome) -> bool {
+    change.ending == plain.ending
+        && u128::from(change.steps) == plain.steps
+        && change.printed.as_slice() == plain.printed.as_slice()
+        && change.freed.as_slice() == plain.accesses.freed.as_slice()
+        && is_same_sums(&change.accumulators, &plain.accesses.accumulators)
+}
+
+/// Whether a change tells of an outcome. It takes the written values out.
 pub fn is_same(
     alloc: Global,
-    change: Change,
+    change: &mut Change,
     plain: &Outcome,
     others: &[Addr],
 ) -> Result<bool, AllocError> {
     let accesses = &plain.accesses;
-    Ok(
-        change.ending == plain.ending
-            && u128::from(change.steps) == plain.steps
-            && change.printed.as_slice() == plain.printed.as_slice()
-            && change.freed.as_slice() == accesses.freed.as_slice()
-            && is_same_sums(&change.accumulators, &accesses.accumulators)
-            && is_same_set(alloc, &change.reads, &accesses.reads, others)?
-            && is_same_set(alloc, &change.touched, &accesses.touched, others)?
-            && is_same_made(alloc, &change.made, accesses, &plain.memory)?
-            && is_same_writes(alloc, change.writes, accesses, &plain.memory)?,
-    )
+    let reads = is_same_set(alloc, &change.reads, &accesses.reads, others)?;
+    let touched = is_same_set(alloc, &change.touched, &accesses.touched, others)?;
+    let made = is_same_made(alloc, &change.made, accesses, &plain.memory)?;
+    let writes = is_same_writes(alloc, &mut change.writes, accesses, &plain.memory)?;
+    Ok(ends_alike(change, plain) && reads && touched && made && writes)
 }

@@ -4,11 +4,13 @@
 mod beside;
 mod chunks;
 mod made;
+mod memories;
 mod places;
+mod stores;
 mod walk;
 
 pub use beside::addresses;
 pub use chunks::check_loops;
 pub use made::check_made;
 pub use places::holds_the_same;
-pub use walk::{AtLoop, info_of, plain_execution, to_loop};
+pub use walk::{AtLoop, Spot, info_of, plain_execution, to_loop};

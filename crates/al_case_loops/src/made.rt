@@ -69,8 +69,8 @@ pub fn check_made(
         return tally.expect(alloc, false, "no loop", 0);
     };
     let (Some(info), Some(env)) = (
-        info_of(&trial.source.code, there.number),
-        there.env(trial, 1),
+        info_of(&trial.source.code, there.spot.number),
+        there.spot.env(trial, 1),
     ) else {
         return tally.expect(alloc, false, "no loop", 0);
     };

@@ -169,12 +169,12 @@ fn loop_rounds<R: Threads + Sync>(
 {
     let chunk = row.chunk.max(1);
     let (Some(info), Some(env)) = (
-        info_of(&trial.source.code, there.number),
-        there.env(trial, chunk),
+        info_of(&trial.source.code, there.spot.number),
+        there.spot.env(trial, chunk),
     ) else {
         return Ok(Items::new(alloc));
     };
-    let Some(x) = plain_execution(trial, program, &env, there.number) else {
+    let Some(x) = plain_execution(trial, program, &env, there.spot.number) else {
         return Ok(Items::new(alloc));
     };
     let AtLoop { store, memory, .. } = there;

@@ -1,5 +1,0 @@
-use Rattle.al_exec.specs.Machines.{Stands}
-use Rattle.al_case_loops.proofs.walk.to_loop.Given as goal
-
-abbrev pub invariant-loop-execution : goal.invariant-loop-execution
-invariant-loop-execution g l = record { machine : Stands l.code l.machine; beside : Stands l.code l.beside }
