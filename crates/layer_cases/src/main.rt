@@ -3,7 +3,6 @@
 
 ghost use Rattle.al_code.specs.Valid.{IsValid};
 
-
 use al_case_loops::{check_loops, check_made};
 use al_case_rounds::{check_first_round, check_reports, check_rounds};
 use al_case_runs::check_run;
