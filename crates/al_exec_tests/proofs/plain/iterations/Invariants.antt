@@ -1,5 +1,0 @@
-use Rattle.al_exec.specs.Starts.{HasRoom}
-use Rattle.al_exec_tests.proofs.plain.iterations.Given as goal
-
-abbrev pub invariant-loop-j : goal.invariant-loop-j
-invariant-loop-j g l = HasRoom l.code l.info l.machine

@@ -1,5 +1,0 @@
-use Rattle.al_exec.specs.Machines.{Stands}
-use Rattle.al_exec_tests.proofs.plain.run_plain.Given as goal
-
-abbrev pub invariant-loop-execution : goal.invariant-loop-execution
-invariant-loop-execution g l = Stands l.code l.machine
