@@ -2,3 +2,4 @@ pub mod Places
 pub mod Blocks
 pub mod Members
 pub mod Rows
+pub mod Logs

@@ -1,4 +1,4 @@
-ghost use Rattle.std.specs.Prelude.{◌≡◌, ◌||◌, ◌<◌, ◌≤◌, ◌+◌, ◌==◌, length, ℕ, true, IfOk, IfErr, OnOk, OnErr, IsOk};
+ghost use Rattle.std.specs.Prelude.{◌≡◌, ◌||◌, ◌<◌, ◌≤◌, ◌+◌, ◌==◌, length, ℕ, true, false, IfOk, IfErr, OnOk, OnErr, IsOk};
 ghost use Rattle.std.specs.Vec.{vec_len, vec_capacity};
 ghost use Rattle.al_core.specs.declared.values.Addr.{Addr};
 ghost use Rattle.al_core.specs.Orders.{addr_eq};
@@ -29,6 +29,7 @@ pub(crate) fn search(blocks: &[Block], place: Addr) -> Result<usize, usize>
     blocks.binary_search_by(|b| compare_addresses(&b.place, &place))
 }
 
+#[inline]
 fn is_same(a: Addr, b: Addr) -> bool
     ensures { result ≡ addr_eq a b }
 {
@@ -36,6 +37,7 @@ fn is_same(a: Addr, b: Addr) -> bool
 }
 
 /// The same. It is sought first at i.
+#[inline]
 pub(crate) fn search_near(blocks: &[Block], place: Addr, i: usize) -> Result<usize, usize>
     requires { IsAscending blocks.now }
     ensures found { IfOk result (IsAt blocks.now place) }
@@ -69,6 +71,17 @@ pub(crate) fn single(at: Addr) -> Block
     Block {
         place: place(at),
         masks,
+    }
+}
+
+/// A block with no address.
+pub(crate) fn empty(place: Addr) -> Block
+    ensures place { result.place ≡ place }
+    ensures bits { (j : ℕ) → bit_in result.masks j ≡ false }
+{
+    Block {
+        place,
+        masks: [0; 8],
     }
 }
 

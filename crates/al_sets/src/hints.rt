@@ -9,6 +9,7 @@ pub(crate) struct Hints {
 }
 
 /// A number that differs between objects that are often used together.
+#[inline]
 fn mixed(obj: Obj) -> u32 {
     match obj {
         Obj::Global(k) | Obj::Serial(k) => k,
@@ -17,6 +18,7 @@ fn mixed(obj: Obj) -> u32 {
 }
 
 /// Which hint is for an address: one of eight for words, one for heads, and one for locals.
+#[inline]
 fn slot(at: Addr) -> usize
     ensures { result < 10 }
 {
@@ -33,11 +35,13 @@ impl Hints {
     }
 
     /// Where the block of an address is sought first.
+    #[inline]
     pub fn of(&self, at: Addr) -> usize {
         self.indices[slot(at)]
     }
 
     /// The block of an address is at i.
+    #[inline]
     pub fn set(&mut self, at: Addr, i: usize) {
         self.indices[slot(at)] = i;
     }

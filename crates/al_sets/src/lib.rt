@@ -1,13 +1,15 @@
-//! Sets of addresses and maps from addresses to values, in blocks of 512.
+//! Sets of addresses, maps from addresses to values, and logs of accesses, in blocks of 512.
 #![tactic(auto)]
 
 mod bits;
 mod blocks;
 mod hints;
+mod logs;
 mod maps;
 mod places;
 mod rows;
 mod sets;
 
+pub use logs::{AddrLog, Loaded, LogParts};
 pub use maps::AddrMap;
 pub use sets::AddrSet;

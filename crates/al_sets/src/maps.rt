@@ -4,7 +4,9 @@ ghost use Rattle.al_core.specs.Orders.{addr_eq};
 ghost use Rattle.al_sets.specs.Places.{place_of, offset_of};
 ghost use Rattle.al_sets.specs.Blocks.{IsAscending, ArePlaces, IsAt, IsGapFor};
 ghost use Rattle.al_planes.specs.Masks.{bit_in};
-ghost use Rattle.al_sets.specs.Rows.{IsSingle, IsTrimmed, HasLast, value_in_row, value_in};
+ghost use Rattle.al_sets.specs.Rows.{IsSingle, IsTrimmed, HasLast, value_in_row, value_in, values_of};
+ghost use Rattle.al_sets.specs.Logs.{places_of};
+ghost use Rattle.std.specs.List.{insert as inserted};
 ghost use Rattle.std.specs.FinMap as map;
 
 use crate::bits::{clear_bit, first_bit};
@@ -46,7 +48,7 @@ impl Model for AddrMap {
 }
 
 /// Puts a value into the block at i, which is that of the address. After want of memory the values are as before.
-fn put(
+pub(crate) fn put(
     blocks: &mut Vec<Block>,
     rows: &mut Vec<Row>,
     i: usize,
@@ -60,6 +62,7 @@ fn put(
     ensures ascending { IsAscending blocks.new.items }
     ensures long { length rows.new.items ≡ length blocks.new.items }
     ensures places { ArePlaces blocks.new.items }
+    ensures same { places_of blocks.new.items ≡ places_of blocks.old.items }
     ensures values { OnOk result
         ((a : Addr)
         → value_in blocks.new.items rows.new.items a
@@ -74,7 +77,7 @@ fn put(
 }
 
 /// Makes a block at i, with the row of one value. After want of memory the values are as before.
-fn add(
+pub(crate) fn add(
     blocks: &mut Vec<Block>,
     rows: &mut Vec<Row>,
     i: usize,
@@ -89,6 +92,9 @@ fn add(
     ensures ascending { IsAscending blocks.new.items }
     ensures long { length rows.new.items ≡ length blocks.new.items }
     ensures places { ArePlaces blocks.new.items }
+    ensures added { OnOk result
+        (places_of blocks.new.items ≡ inserted (places_of blocks.old.items) i (place_of at)) }
+    ensures kept { OnErr result (places_of blocks.new.items ≡ places_of blocks.old.items) }
     ensures values { OnOk result
         ((a : Addr)
         → value_in blocks.new.items rows.new.items a
@@ -156,6 +162,26 @@ impl AddrMap {
             blocks: Vec::new(alloc),
             rows: Vec::new(alloc),
             hints: Hints::new(),
+        }
+    }
+
+    /// The map of the values of these rows.
+    pub(crate) fn from_rows(
+        alloc: Global,
+        blocks: Vec<Block>,
+        rows: Vec<Row>,
+        hints: Hints,
+    ) -> AddrMap
+        requires ascending { IsAscending blocks.items }
+        requires long { length rows.items ≡ length blocks.items }
+        requires places { ArePlaces blocks.items }
+        ensures { result ≡ values_of blocks.items rows.items }
+    {
+        AddrMap {
+            alloc,
+            blocks,
+            rows,
+            hints,
         }
     }
 

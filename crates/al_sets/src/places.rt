@@ -4,6 +4,7 @@ ghost use Rattle.al_sets.specs.Places.{number_of, renumbered, place_of, offset_o
 use al_core::{Addr, Obj};
 
 /// The last number of an object's name.
+#[inline]
 fn last_number(obj: Obj) -> u32
     ensures { result ≡ number_of obj }
 {
@@ -13,6 +14,7 @@ fn last_number(obj: Obj) -> u32
 }
 
 /// The object's name with another last number.
+#[inline]
 fn renumber(obj: Obj, number: u32) -> Obj
     ensures { result ≡ renumbered obj number }
 {
@@ -24,6 +26,7 @@ fn renumber(obj: Obj, number: u32) -> Obj
 }
 
 /// The place of the block that an address is in.
+#[inline]
 pub(crate) fn place(at: Addr) -> Addr
     ensures exact { result ≡ place_of at }
     ensures fits { is_place (place_of at) ≡ true }
@@ -49,6 +52,7 @@ pub(crate) fn address(place: Addr, n: usize) -> Addr
 }
 
 /// Where an address is in its block.
+#[inline]
 pub(crate) fn offset(at: Addr) -> usize
     ensures exact { result ≡ offset_of at }
     ensures within { result < 512 }

@@ -62,6 +62,7 @@ fn from_the_start(
 }
 
 /// The value at a place; past the end it is 0.
+#[inline]
 fn value_at(values: &[PackedValue], i: usize) -> PackedValue
     ensures { result ≡ value_in_row values.now i }
 {
@@ -84,6 +85,7 @@ impl Row {
     }
 
     /// The value at an offset; where none was put it is 0.
+    #[inline]
     pub fn value(&self, offset: usize) -> PackedValue
         ensures { result ≡ value_in_row self.now offset }
     {
@@ -106,6 +108,7 @@ impl Row {
     }
 
     /// Puts a value at an offset. After want of memory the values are as before.
+    #[inline]
     pub fn put(&mut self, offset: usize, v: PackedValue) -> Result<(), AllocError>
         ensures ok { OnOk result
             ((n : ℕ) → value_in_row self.new n ≡ (if n == offset then v else value_in_row self.old n)) }

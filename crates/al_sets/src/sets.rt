@@ -3,6 +3,8 @@ ghost use Rattle.std.specs.FinSet as set;
 ghost use Rattle.al_core.specs.Clash as clash;
 ghost use Rattle.al_core.specs.Lines.{IsLineSize};
 ghost use Rattle.al_planes.specs.Lines.{size as line_size};
+ghost use Rattle.al_sets.specs.Blocks.{IsAscending};
+ghost use Rattle.al_sets.specs.Members.{members};
 
 use crate::blocks::{Block, has, insert, join, meet, meet_by_lines};
 use crate::hints::Hints;
@@ -60,6 +62,14 @@ impl AddrSet {
             blocks: Vec::new(alloc),
             hints: Hints::new(),
         }
+    }
+
+    /// The set of the addresses of these blocks.
+    pub(crate) fn from_blocks(blocks: Vec<Block>, hints: Hints) -> AddrSet
+        requires { IsAscending blocks.items }
+        ensures { result.members ≡ members blocks.items }
+    {
+        AddrSet { blocks, hints }
     }
 
     /// How many blocks the set takes.
