@@ -9,3 +9,4 @@ pub mod MemberLemmas
 pub mod RowStart
 pub mod RowLemmas
 pub mod Taken
+pub mod Aligned

@@ -74,7 +74,7 @@ module _ (a : Addr) where
   other_set (b ∷ bs) (r ∷ rows) (suc i) x d row h g l m =
       ap (cond (block_has a b) (Some (value_in_row r (offset_of a)))) (other_set bs rows i x d row h g (omega arith) (omega arith))
 
-  other_inserted : (bs : List Block) (rows : List (List Val)) (i : ℕ) (x : Block) (row : List Val) → block_has a x ≡ false
+  pub other_inserted : (bs : List Block) (rows : List (List Val)) (i : ℕ) (x : Block) (row : List Val) → block_has a x ≡ false
       → i ≤ length bs → length rows ≡ length bs → value_in (insert bs i x) (insert rows i row) a ≡ value_in bs rows a
   other_inserted bs rows zero x row h l m =
       ap (λ t. cond t (Some (value_in_row row (offset_of a))) (value_in bs rows a)) h

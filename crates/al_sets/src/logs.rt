@@ -185,10 +185,10 @@ impl Lists {
 
     /// Makes room for a block of what was read and one of what was touched.
     fn reserve(&mut self) -> Result<(), AllocError>
+        requires { AreAligned self.old }
+        ensures aligned { AreAligned self.new }
         ensures reads { self.new.reads.items ≡ self.old.reads.items }
-        ensures touched { self.new.touched.items ≡ self.old.touched.items }
-        ensures written { self.new.written ≡ self.old.written }
-        ensures rows { self.new.rows ≡ self.old.rows }
+        ensures log { log_of self.new ≡ log_of self.old }
         ensures room { OnOk result (vec_len self.new.reads < vec_capacity self.new.reads) }
         ensures more_room { OnOk result (vec_len self.new.touched < vec_capacity self.new.touched) }
     {

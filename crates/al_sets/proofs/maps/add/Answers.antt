@@ -6,6 +6,9 @@ use Rattle.al_sets.specs.Rows.{value_in, value_in_row}
 use Rattle.al_sets.specs.Blocks.{IsAscending, ArePlaces}
 use Rattle.al_sets.proofs.Edits.{ascending_inserted, places_inserted}
 use Rattle.al_sets.proofs.RowLemmas.{value_added}
+use Rattle.al_core.specs.declared.values.Addr.{Addr}
+use Rattle.al_sets.specs.Logs.{places_of}
+use Rattle.al_sets.proofs.Aligned.{places_insert}
 use Rattle.al_sets.proofs.maps.add.Goals as goal
 
 pub returns-clause-ascending : goal.returns-clause-ascending
@@ -33,3 +36,9 @@ returns-clause-places c =
     subst ArePlaces (sym c.in_ok-insert.ensures.items)
     (places_inserted c.args.blocks.now.items (place_of c.args.at) c.args.i c.single.result c.single.ensures.place
     c.requires.gap c.single.ensures.fits c.requires.places)
+
+pub returns-clause-added : goal.returns-clause-added
+returns-clause-added c =
+    ap places_of c.in_ok-insert.ensures.items
+    ∙ places_insert c.args.blocks.now.items c.args.i c.single.result
+    ∙ ap (λ (p : Addr). insert (places_of c.args.blocks.now.items) c.args.i p) c.single.ensures.place

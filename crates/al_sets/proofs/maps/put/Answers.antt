@@ -7,6 +7,7 @@ use Rattle.al_sets.proofs.Edits.{ascending_set, places_set}
 use Rattle.al_sets.proofs.Meeting.{same_default}
 use Rattle.al_sets.proofs.Truth.{on_any_err}
 use Rattle.al_sets.proofs.RowLemmas.{value_put, row_kept}
+use Rattle.std.proofs.Math.Seq.{map-set_same}
 use Rattle.al_sets.proofs.maps.put.Goals as goal
 
 pub returns-clause-ascending : goal.returns-clause-ascending
@@ -40,3 +41,8 @@ returns-clause-places c =
     places_set c.args.blocks.now.items (place_of c.args.at) c.args.i _
     (ap (λ (b : Block). b.place) c.index_mut-2.ensures.value ∙ c.requires.here.same c.index_mut-2.result.now)
     c.requires.here c.requires.places
+
+pub returns-clause-same : goal.returns-clause-same
+returns-clause-same c =
+    map-set_same (λ (b : Block). b.place) c.args.blocks.now.items c.args.i _ c.index_mut-2.result.now
+    (ap (λ (b : Block). b.place) c.index_mut-2.ensures.value)
