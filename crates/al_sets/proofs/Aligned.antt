@@ -1,10 +1,10 @@
 -- Lists of blocks that have the same places.
-use Rattle.std.proofs.Common.{◌≡◌, ℕ, zero, suc, ◌+◌, ◌<◌, ◌≤◌, Bool, true, false, ◌&&◌, ◌||◌, List, [], ◌∷◌, length, map, get_or, inl, inr, refl, sym, ap, subst, ◌∙◌, arith}
+use Rattle.std.proofs.Common.{◌≡◌, ℕ, zero, suc, ◌+◌, ◌<◌, ◌≤◌, Bool, true, false, ◌&&◌, ◌||◌, cond, List, [], ◌∷◌, length, map, nat_eq, get_or, Option, None, inl, inr, refl, sym, ap, subst, ◌∙◌, arith}
 use Rattle.std.specs.List.{insert}
 use Rattle.std.specs.FinMap as finmap
 use Rattle.std.specs.FinSet as set
 use Rattle.std.proofs.Math.ListN.{get_or-map}
-use Rattle.std.proofs.lemmas.Bool.{cases_lt}
+use Rattle.std.proofs.lemmas.Bool.{cases_lt, eq-eqb}
 use Rattle.std.proofs.lemmas.Bool.Decides.{eqb_tells}
 use Rattle.std.proofs.lemmas.List.{length-map}
 use Rattle.std.proofs.lemmas.List.Edits.{get_or-insert_below, get_or-insert_at, get_or-insert_above, length-insert}
@@ -17,9 +17,11 @@ use Rattle.al_sets.specs.declared.logs.Lists.{Lists}
 use Rattle.al_sets.specs.Places.{place_of, offset_of, is_place}
 use Rattle.al_sets.specs.Blocks.{IsAscending, ArePlaces, IsAt, IsGapFor, block_has, has_address}
 use Rattle.al_sets.specs.Members.{members}
-use Rattle.al_sets.specs.Logs.{places_of, IsUsed, IsNear, AreAligned, log_of}
-use Rattle.al_sets.proofs.Edits.{ascending_inserted, places_inserted, block_added}
-use Rattle.al_sets.proofs.MemberLemmas.{members_have}
+use Rattle.al_sets.specs.Logs.{places_of, IsUsed, IsNear, AreAligned, AddressLog, with_read, with_load, log_of}
+use Rattle.al_sets.proofs.Edits.{ascending_inserted, places_inserted, block_added, address_inserted}
+use Rattle.al_sets.proofs.Found.{has_at, no_address}
+use Rattle.al_sets.proofs.MemberLemmas.{members_have, members_insert}
+use Rattle.al_sets.proofs.RowLemmas.{nothing_got}
 
 -- ---- lists with the same places
 
@@ -75,13 +77,28 @@ pub members_kept : (bs cs : List Block) → ((a : Addr) → has_address cs a ≡
 members_kept bs cs e = set.same_set addr_total addr_apart _ _ (λ q.
     members_have cs q ∙ e q ∙ sym (members_have bs q))
 
-or_true : (b c : Bool) → c ≡ true → (b || c) ≡ true
+pub or_true : (b c : Bool) → c ≡ true → (b || c) ≡ true
 or_true true c h = refl
 or_true false c h = h
 
 pub still : (bs cs : List Block) (at a : Addr) → has_address cs a ≡ (addr_eq a at || has_address bs a) → has_address bs a ≡ true
     → has_address cs a ≡ true
 still bs cs at a e h = e ∙ or_true (addr_eq a at) (has_address bs a) h
+
+-- a block with one address has it
+pub single_there : (x : Block) (at : Addr) → x.place ≡ place_of at → ((j : ℕ) → bit_in x.masks j ≡ nat_eq j (offset_of at))
+    → block_has at x ≡ true
+single_there x at px bits = has_at at x px ∙ bits (offset_of at) ∙ eq-eqb (offset_of at) (offset_of at) refl
+
+-- the addresses of blocks with one more, which has one address or none
+pub members_added : (bs cs : List Block) (at : Addr) (i : ℕ) (x : Block) → cs ≡ insert bs i x → x.place ≡ place_of at
+    → ((j : ℕ) → bit_in x.masks j ≡ nat_eq j (offset_of at)) → members cs ≡ set.insert (members bs) at
+members_added bs cs at i x e px bits =
+    members_insert bs cs at (λ a. ap (λ l. has_address l a) e ∙ address_inserted bs at i x px bits a)
+
+pub members_empty : (bs cs : List Block) (i : ℕ) (x : Block) → cs ≡ insert bs i x → ((j : ℕ) → bit_in x.masks j ≡ false)
+    → members cs ≡ members bs
+members_empty bs cs i x e none = members_kept bs cs (λ a. ap (λ l. has_address l a) e ∙ empty_added bs i x none a)
 
 -- ---- an edit of blocks that are there
 
@@ -205,3 +222,23 @@ near_found l al at i there =
       same = u.same;
       there = (λ t. members_have l.reads.items u.address t || members_have l.touched.items u.address t) ∙ u.there;
     }
+
+-- ---- an address whose block is missing
+
+module _ (l : Lists) (log : AddressLog) (view : log_of l ≡ log) (al : AreAligned l) (at p : Addr) (ep : p ≡ place_of at) (i : ℕ)
+    (gap : IsGapFor l.reads.items p i) where
+  pub gap_value : None ≡ finmap.get log.values at
+  gap_value =
+      nothing_got l.written.items l.rows.items log.values (ap (λ (s : AddressLog). s.values) view) at p ep i
+      (same_gap l.written.items l.reads.items al.written_places p i gap)
+
+  untouched : set.contains (log_of l).touched at ≡ false
+  untouched =
+      members_have l.touched.items at
+      ∙ no_address l.touched.items at i (subst (λ q. IsGapFor l.touched.items q i) ep
+      (same_gap l.touched.items l.reads.items al.touched_places p i gap))
+
+  pub gap_load : with_read (log_of l) at ≡ with_load log at
+  gap_load =
+      ap (λ b. cond b (log_of l) (with_read (log_of l) at)) (sym untouched)
+      ∙ ap (λ (s : AddressLog). with_load s at) view
