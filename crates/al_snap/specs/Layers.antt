@@ -1,5 +1,5 @@
 -- A memory under what a chunk did to it.
-use Rattle.std.specs.Prelude.{◌≡◌, ℕ, suc, Bool, true, false, if◌then◌else◌, List, [], ◌∷◌, ◌++◌, Option, Some, None, is_some, unwrap_or, Result, Ok, Err, slice_get, refl}
+use Rattle.std.specs.Prelude.{◌≡◌, ℕ, suc, Bool, true, false, ◌||◌, if◌then◌else◌, List, [], ◌∷◌, ◌++◌, Option, Some, None, is_some, unwrap_or, Result, Ok, Err, slice_get, refl}
 use Rattle.std.specs.Coded.{Coded, code_by, coded×, coded_list, coded_option}
 use Rattle.std.specs.List.{list_any}
 use Rattle.std.specs.FinMap as map
@@ -19,10 +19,12 @@ use Rattle.al_core.specs.Orders.{obj_cmp, addr_cmp, obj_eq}
 use Rattle.al_core.specs.Memory.{Memory, value_at}
 use Rattle.al_heap.specs.Stores.{objects_in}
 
--- the memory below, what was written over it, the addresses that were written, which of its objects were freed, and the
--- objects that the chunk made, of which those that it freed again have none
+-- the memory below, the addresses that were read before they were written, what was written over it, the addresses that
+-- were written, which of its objects were freed, and the objects that the chunk made, of which those that it freed again
+-- have none
 pub record Layers : Type 0 where
   pub base : Memory
+  pub reads : FinSet addr_cmp
   pub writes : FinMap addr_cmp Val
   pub touched : FinSet addr_cmp
   pub freed : List Obj
@@ -79,7 +81,7 @@ own_has l (Local k) = false
 
 -- the layers of a chunk that did nothing yet
 abbrev pub over : Memory → Layers
-over m = record { base = m; writes = map.empty; touched = set.empty; freed = []; own = map.empty }
+over m = record { base = m; reads = set.empty; writes = map.empty; touched = set.empty; freed = []; own = map.empty }
 
 abbrev pub is_head : Addr → Bool
 is_head (Word o w) = false
@@ -94,6 +96,42 @@ pub record Fits (l : Layers) : Type 0 where
   pub same : (a : Addr) → is_head a ≡ false → set.contains l.touched a ≡ map.contains_key l.writes a
   -- and each of them has a value in the memory below
   pub there : (a : Addr) → map.contains_key l.writes a ≡ true → is_some (value_at l.base a) ≡ true
+  -- of each word that was read or touched the head was read
+  pub heads : (o : Obj) (w : ℕ) → (set.contains l.reads (Word o w) || set.contains l.touched (Word o w)) ≡ true
+      → set.contains l.reads (Head o) ≡ true
+
+-- ---- what is recorded
+
+-- an access to a word reads the object's head
+abbrev pub with_head : Layers → Addr → Layers
+with_head l (Word o w) = record l { reads = set.insert l.reads (Head o) }
+with_head l (Head o) = l
+with_head l (Local k) = l
+
+-- a load of an address that was not touched reads it
+abbrev pub with_load : Layers → Addr → Layers
+with_load l a = if set.contains l.touched a then l else record l { reads = set.insert l.reads a }
+
+abbrev pub with_write : Layers → Addr → Val → Layers
+with_write l a v = record l { touched = set.insert l.touched a; writes = map.insert l.writes a v }
+
+-- a load of an address that is no word of an own object, where a value was found or not
+abbrev pub with_found : Layers → Addr → Bool → Layers
+with_found l a true = with_load (with_head l a) a
+with_found l a false = with_head l a
+
+-- the layers after a load
+abbrev pub loaded_in : Layers → Addr → Layers
+loaded_in l a = if own_has l a then l else with_found l a (is_some (value_at (seen l) a))
+
+-- what is found at an address, with what was written over it
+abbrev pub changed : (Val → Val) → Result Val Trap → Result Val Trap
+changed f (Ok v) = Ok (f v)
+changed f (Err t) = Err t
+
+-- freeing an object reads its head, where it is not an own one
+abbrev pub with_freed_head : Layers → Bool → Obj → Layers
+with_freed_head l own o = if own then l else record l { reads = set.insert l.reads (Head o) }
 
 -- the touched addresses with one more, where it is not a word of an own object
 abbrev pub touched_unless : Bool → FinSet addr_cmp → Addr → FinSet addr_cmp
@@ -109,9 +147,18 @@ memory_code =
 
 abbrev pub layers_code : Coded Layers
 layers_code =
-    code_by (Memory × (FinMap addr_cmp Val × (FinSet addr_cmp × (List Obj × FinMap obj_cmp (Option (List Val))))))
-    (coded× memory_code (coded× (map.code addr.the_row.coded val.the_row.coded) (coded× (set.code addr.the_row.coded)
-    (coded× (coded_list obj.the_row.coded) (map.code obj.the_row.coded (coded_option words_code))))))
-    (λ l. (l.base, (l.writes, (l.touched, (l.freed, l.own)))))
-    (λ p. record { base = p.0; writes = p.1.0; touched = p.1.1.0; freed = p.1.1.1.0; own = p.1.1.1.1 })
+    code_by (Memory × (FinSet addr_cmp × (FinMap addr_cmp Val × (FinSet addr_cmp
+    × (List Obj × FinMap obj_cmp (Option (List Val)))))))
+    (coded× memory_code (coded× (set.code addr.the_row.coded) (coded× (map.code addr.the_row.coded val.the_row.coded)
+    (coded× (set.code addr.the_row.coded) (coded× (coded_list obj.the_row.coded)
+    (map.code obj.the_row.coded (coded_option words_code)))))))
+    (λ l. (l.base, (l.reads, (l.writes, (l.touched, (l.freed, l.own))))))
+    (λ p. record {
+      base = p.0;
+      reads = p.1.0;
+      writes = p.1.1.0;
+      touched = p.1.1.1.0;
+      freed = p.1.1.1.1.0;
+      own = p.1.1.1.1.1;
+    })
     (λ _. refl)

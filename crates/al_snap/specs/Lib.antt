@@ -1,5 +1,4 @@
 pub mod Makers
 pub mod Layers
-pub mod Marks
 pub mod Snaps
 pub mod Changes

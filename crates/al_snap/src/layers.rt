@@ -1,19 +1,22 @@
-ghost use Rattle.std.specs.Prelude.{◌≡◌, true, false, OnOk, IfOk, Ok, Err, IsSome, [], ◌∷◌, ◌++◌, if◌then◌else◌, option_map, unwrap_or, slice_get};
+ghost use Rattle.std.specs.Prelude.{◌≡◌, true, false, OnOk, IfOk, IsSome, [], ◌∷◌, ◌++◌, if◌then◌else◌, unwrap_or, Some, None};
+ghost use Rattle.al_source.specs.Answers.{Does};
+ghost use Rattle.al_core.specs.Access.{store_recorded};
+ghost use Rattle.al_core.specs.Views.{trapped};
 ghost use Rattle.al_core.specs.Orders.{obj_eq};
 ghost use Rattle.al_core.specs.Memory.{value_at};
-ghost use Rattle.al_core.specs.declared.values.Addr.TheVariants.{Word, Head, Local};
-ghost use Rattle.al_core.specs.declared.values.Trap.TheVariants as trap;
+ghost use Rattle.al_core.specs.declared.values.Addr.TheVariants.{Word, Head};
 ghost use Rattle.std.specs.FinMap as map;
 ghost use Rattle.std.specs.FinSet as set;
 ghost use Rattle.al_core.specs.Memory as spec;
 ghost use Rattle.al_core.specs.Chunk.{writes_of, made_objects};
 ghost use Rattle.al_heap.specs.Stores.{value_or_trap, objects_in};
-ghost use Rattle.al_snap.specs.Layers.{is_among, laid, option_ok_or, word_or_trap, own_has, made_by, seen, over, touched_unless};
+ghost use Rattle.al_snap.specs.Layers.{is_among, word_or_trap, own_has, made_by, seen, over, touched_unless, changed, with_head, with_load, with_write, with_freed_head, loaded_in};
+ghost use Rattle.al_snap.specs.Snaps.{Rest, chunk_record, content_of};
 ghost use Rattle.al_snap.specs.Changes.{writes_left};
 
-use al_core::{Addr, Obj, Trap};
+use al_core::{Addr, Obj, Trap, ViewFault};
 use al_heap::{Slots, Store};
-use al_sets::{AddrMap, AddrSet};
+use al_sets::{AddrLog, AddrMap, AddrSet};
 use al_values::{PackedValue, Words};
 use sqlite_items::Items;
 use std::alloc::{AllocError, Global};
@@ -22,29 +25,18 @@ use std::marker::Model;
 /// What a chunk did to a store.
 #[derive(Drop)]
 pub(crate) struct Parts {
+    pub reads: AddrSet,
     pub writes: AddrMap,
     pub touched: AddrSet,
     pub freed: Items<Obj>,
     pub own: Slots,
 }
 
-/// What a chunk sees at an address.
-#[derive(Drop)]
-pub(crate) struct Sight {
-    /// The value, or why there is none.
-    pub value: Result<PackedValue, Trap>,
-    /// Whether it is a word of an own object, also of one that was freed again.
-    pub own: bool,
-    /// Whether the value was written over one of the store.
-    pub written: bool,
-}
-
 /// A store under what a chunk does to it. The store itself is only read.
 #[derive(Drop)]
 pub(crate) struct Layers<'a, S: Store> {
     base: &'a S,
-    writes: AddrMap,
-    touched: AddrSet,
+    log: AddrLog,
     freed: Items<Obj>,
     own: Slots,
 }
@@ -58,30 +50,21 @@ impl<'a, S: Store> Model for Layers<'a, S> {
 
     ghost view = { λ l. record {
       base = S.memory l.base.now;
-      writes = l.writes;
-      touched = l.touched.members;
+      reads = l.log.reads;
+      writes = l.log.values;
+      touched = l.log.touched;
       freed = l.freed;
       own = l.own;
     } };
 
     ghost invariant = { λ l. layers.Fits (record {
       base = S.memory l.base.now;
-      writes = l.writes;
-      touched = l.touched.members;
+      reads = l.log.reads;
+      writes = l.log.values;
+      touched = l.log.touched;
       freed = l.freed;
       own = l.own;
     }) };
-}
-
-/// Nothing is seen, and this is why.
-fn nothing(t: Trap) -> Sight
-    ensures { result ≡ record { value = Err t; own = false; written = false } }
-{
-    Sight {
-        value: Err(t),
-        own: false,
-        written: false,
-    }
 }
 
 fn is_same(a: Obj, b: Obj) -> bool
@@ -109,8 +92,7 @@ impl<'a, S: Store> Layers<'a, S> {
     {
         Layers {
             base,
-            writes: AddrMap::new(alloc),
-            touched: AddrSet::new(alloc),
+            log: AddrLog::new(alloc),
             freed: Items::new(alloc),
             own: Slots::new(alloc),
         }
@@ -133,74 +115,39 @@ impl<'a, S: Store> Layers<'a, S> {
         }
     }
 
-    /// What is seen at an address that is no head, where the store has a value.
-    fn below(&self, at: Addr, v: PackedValue) -> Sight
-        ensures value { result.value ≡ Ok (unwrap_or (map.get self.now.writes at) v) }
-        ensures own { result.own ≡ false }
-        ensures written { result.written ≡ map.contains_key self.now.writes at }
-    {
-        let over = self.writes.get(at);
-        Sight {
-            value: Ok(over.unwrap_or(v)),
-            own: false,
-            written: over.is_some(),
-        }
-    }
-
-    /// What is seen at a word of an object of the store.
-    fn below_word(&self, obj: Obj, w: u32) -> Sight
-        ensures value { result.value
-            ≡ word_or_trap (option_map (laid self.now.writes (Word obj) 0) (map.get self.now.base.objects obj)) w }
-        ensures own { result.own ≡ false }
-        ensures written { IfOk result.value (λ _. result.written ≡ set.contains self.now.touched (Word obj w)) }
-    {
-        match self.base.read(obj, w) {
-            Ok(v) => self.below(Addr::Word(obj, w), v),
-            Err(t) => nothing(t),
-        }
-    }
-
-    fn word(&self, obj: Obj, w: u32) -> Sight
-        ensures value { result.value ≡ word_or_trap (map.get (seen self.now).objects obj) w }
-        ensures own { result.own ≡ own_has self.now (Word obj w) }
-        ensures written { result.own ≡ false
-            → IfOk result.value (λ _. result.written ≡ set.contains self.now.touched (Word obj w)) }
-    {
-        if self.own.has(obj) {
-            Sight {
-                value: self.own_word(obj, w),
-                own: true,
-                written: false,
-            }
-        } else if self.is_freed(obj) {
-            nothing(Trap::Missing)
-        } else {
-            self.below_word(obj, w)
-        }
-    }
-
-    fn local(&self, k: u32) -> Sight
-        ensures value { result.value ≡ option_ok_or trap.Missing (slice_get (seen self.now).locals k) }
-        ensures own { result.own ≡ false }
-        ensures written { IfOk result.value (λ _. result.written ≡ set.contains self.now.touched (Local k)) }
-    {
-        match self.base.local(k) {
-            Some(v) => self.below(Addr::Local(k), v),
-            None => nothing(Trap::Missing),
-        }
-    }
-
-    /// What is seen at an address.
-    pub fn look(&self, at: Addr) -> Sight
-        ensures value { result.value ≡ value_or_trap (seen self.now) at (value_at (seen self.now) at) }
-        ensures own { result.own ≡ own_has self.now at }
-        ensures written { result.own ≡ false
-            → IfOk result.value (λ _. result.written ≡ set.contains self.now.touched at) }
+    /// What is seen at a word of an own object.
+    fn own_value(&self, at: Addr) -> Result<PackedValue, Trap>
+        requires { own_has self.now at ≡ true }
+        ensures { result ≡ value_or_trap (seen self.now) at (value_at (seen self.now) at) }
     {
         match at {
-            Addr::Word(obj, w) => self.word(obj, w),
-            Addr::Head(_) => nothing(Trap::Missing),
-            Addr::Local(k) => self.local(k),
+            Addr::Word(obj, w) => self.own_word(obj, w),
+            Addr::Head(_) | Addr::Local(_) => Err(Trap::Missing),
+        }
+    }
+
+    /// What the store has at a word, where its object was not freed.
+    fn below_word(&self, obj: Obj, w: u32) -> Result<PackedValue, Trap>
+        requires { own_has self.now (Word obj w) ≡ false }
+        ensures { changed (unwrap_or (map.get self.now.writes (Word obj w))) result
+            ≡ word_or_trap (map.get (seen self.now).objects obj) w }
+    {
+        if self.is_freed(obj) {
+            return Err(Trap::Missing);
+        }
+        self.base.read(obj, w)
+    }
+
+    /// What the store has at an address that is no word of an own object.
+    fn below(&self, at: Addr) -> Result<PackedValue, Trap>
+        requires { own_has self.now at ≡ false }
+        ensures { changed (unwrap_or (map.get self.now.writes at)) result
+            ≡ value_or_trap (seen self.now) at (value_at (seen self.now) at) }
+    {
+        match at {
+            Addr::Word(obj, w) => self.below_word(obj, w),
+            Addr::Head(_) => Err(Trap::Missing),
+            Addr::Local(k) => self.base.local(k).ok_or(Trap::Missing),
         }
     }
 
@@ -227,11 +174,60 @@ impl<'a, S: Store> Layers<'a, S> {
         }
     }
 
-    /// The addresses that were written: words and locals, and the heads of objects that were made or freed.
-    pub fn touched(&self) -> &AddrSet
-        ensures { result.now.members ≡ self.now.touched }
+    /// Whether an address was read before it was written.
+    pub fn has_read(&self, at: Addr) -> bool
+        ensures { result ≡ set.contains self.now.reads at }
     {
-        &self.touched
+        self.log.has_read(at)
+    }
+
+    /// Whether an address was written.
+    pub fn has_touched(&self, at: Addr) -> bool
+        ensures { result ≡ set.contains self.now.touched at }
+    {
+        self.log.has_touched(at)
+    }
+
+    /// An access to a word reads its object's head.
+    fn read_head(&mut self, at: Addr) -> Result<(), AllocError>
+        ensures { OnOk result (self.new ≡ with_head self.old at) }
+    {
+        match at {
+            Addr::Word(obj, _) => self.log.read(Addr::Head(obj)),
+            Addr::Head(_) | Addr::Local(_) => Ok(()),
+        }
+    }
+
+    /// What was written at an address, of which the store has a value, as it is loaded. Where an address of the same
+    /// block was read or touched before, so was the head.
+    #[inline]
+    fn load_over(&mut self, at: Addr) -> Result<Option<PackedValue>, AllocError>
+        ensures value { IfOk result (λ v. v ≡ map.get self.old.writes at) }
+        ensures after { OnOk result (self.new ≡ with_load (with_head self.old at) at) }
+    {
+        if let Some(value) = self.log.load_near(at) {
+            return Ok(value);
+        }
+        self.read_head(at)?;
+        self.log.load(at)
+    }
+
+    /// Loads the value at an address.
+    #[inline]
+    pub fn load(&mut self, at: Addr) -> Result<PackedValue, ViewFault>
+        ensures { Does trapped
+            (value_or_trap (seen self.old) at (value_at (seen self.old) at), loaded_in self.old at) result self.new }
+    {
+        if self.is_own(at) {
+            return self.own_value(at).map_err(ViewFault::Trap);
+        }
+        match self.below(at) {
+            Ok(v) => Ok(self.load_over(at)?.unwrap_or(v)),
+            Err(t) => {
+                self.read_head(at)?;
+                Err(ViewFault::Trap(t))
+            }
+        }
     }
 
     /// Puts a value in place of a word of an own object.
@@ -241,6 +237,7 @@ impl<'a, S: Store> Layers<'a, S> {
         ensures made { made_by self.new.own ≡ made_by self.old.own }
         ensures freed { self.new.freed ≡ self.old.freed }
         ensures touched { self.new.touched ≡ self.old.touched }
+        ensures reads { self.new.reads ≡ self.old.reads }
     {
         if let Some(mut words) = self.own.replace(obj, None) {
             words.put(w, v);
@@ -248,25 +245,53 @@ impl<'a, S: Store> Layers<'a, S> {
         }
     }
 
-    /// Puts a value in place of the one at an address.
-    pub fn put(&mut self, at: Addr, v: PackedValue) -> Result<(), AllocError>
-        requires { IsSome (value_at (seen self.old) at) }
-        ensures seen { OnOk result (seen self.new ≡ spec.put (seen self.old) at v) }
-        ensures made { OnOk result (made_by self.new.own ≡ made_by self.old.own) }
-        ensures freed { OnOk result (self.new.freed ≡ self.old.freed) }
-        ensures touched { OnOk result
-            (self.new.touched ≡ touched_unless (own_has self.old at) self.old.touched at) }
+    /// Writes a value over one of the store. Where an address of the same block was read or touched before, the head was
+    /// read.
+    #[inline]
+    fn write_over(&mut self, at: Addr, v: PackedValue) -> Result<(), AllocError>
+        requires other { own_has self.old at ≡ false }
+        requires there { IsSome (value_at (seen self.old) at) }
+        ensures { OnOk result (self.new ≡ with_write (with_head self.old at) at v) }
+    {
+        if self.log.write_near(at, v)? {
+            return Ok(());
+        }
+        self.read_head(at)?;
+        self.log.write(at, v)
+    }
+
+    /// Stores a value in place of a word of an own object.
+    fn store_own(&mut self, at: Addr, v: PackedValue) -> Result<(), Trap>
+        requires { own_has self.old at ≡ true }
+        ensures { (r : Rest)
+            → Does (λ t. Some t)
+            (store_recorded (content_of self.old r) (chunk_record self.old r.reds r.accumulators) at v None)
+            result (content_of self.new r) }
+    {
+        self.own_value(at)?;
+        if let Addr::Word(obj, w) = at {
+            self.put_own(obj, w, v);
+        }
+        Ok(())
+    }
+
+    /// Stores a value in place of the one at an address.
+    #[inline]
+    pub fn store(&mut self, at: Addr, v: PackedValue) -> Result<(), ViewFault>
+        ensures { (r : Rest)
+            → Does trapped
+            (store_recorded (content_of self.old r) (chunk_record self.old r.reds r.accumulators) at v None)
+            result (content_of self.new r) }
     {
         if self.is_own(at) {
-            if let Addr::Word(obj, w) = at {
-                self.put_own(obj, w, v);
+            return self.store_own(at, v).map_err(ViewFault::Trap);
+        }
+        match self.below(at) {
+            Ok(_) => Ok(self.write_over(at, v)?),
+            Err(t) => {
+                self.read_head(at)?;
+                Err(ViewFault::Trap(t))
             }
-            Ok(())
-        } else {
-            self.touched.reserve(1)?;
-            self.writes.insert(at, v)?;
-            self.touched.insert(at)?;
-            Ok(())
         }
     }
 
@@ -277,14 +302,26 @@ impl<'a, S: Store> Layers<'a, S> {
         ensures made { OnOk result (made_by self.new.own ≡ set.insert (made_by self.old.own) obj) }
         ensures freed { OnOk result (self.new.freed ≡ self.old.freed) }
         ensures touched { OnOk result (self.new.touched ≡ set.insert self.old.touched (Head obj)) }
+        ensures reads { OnOk result (self.new.reads ≡ self.old.reads) }
     {
         if self.base.length(obj).is_some() {
             return Err(AllocError);
         }
-        self.touched.insert(Addr::Head(obj))?;
+        self.log.touch(Addr::Head(obj))?;
         self.own.make(obj)?;
         self.own.set(obj, Some(words));
         Ok(())
+    }
+
+    /// Freeing an object, whether or not it is there, reads its head, where it is not an own one.
+    pub fn read_freed(&mut self, own: bool, obj: Obj) -> Result<(), AllocError>
+        ensures { OnOk result (self.new ≡ with_freed_head self.old own obj) }
+    {
+        if own {
+            Ok(())
+        } else {
+            self.log.read(Addr::Head(obj))
+        }
     }
 
     /// Takes an object out, and touches its head where it is not an own one.
@@ -296,12 +333,13 @@ impl<'a, S: Store> Layers<'a, S> {
             ≡ (if set.contains (made_by self.old.own) obj then self.old.freed else self.old.freed ++ obj ∷ [])) }
         ensures touched { OnOk result
             (self.new.touched ≡ touched_unless (set.contains (made_by self.old.own) obj) self.old.touched (Head obj)) }
+        ensures reads { OnOk result (self.new.reads ≡ self.old.reads) }
     {
         if self.own.has(obj) {
             self.own.set(obj, None);
             Ok(())
         } else {
-            self.touched.insert(Addr::Head(obj))?;
+            self.log.touch(Addr::Head(obj))?;
             self.freed.push(obj)?;
             Ok(())
         }
@@ -309,14 +347,17 @@ impl<'a, S: Store> Layers<'a, S> {
 
     /// What was done, without the store.
     pub fn into_parts(self) -> Parts
+        ensures reads { result.reads.members ≡ self.entry.reads }
         ensures writes { writes_left result.writes result.freed ≡ writes_of (seen self.entry) self.entry.touched }
         ensures touched { result.touched.members ≡ self.entry.touched }
         ensures freed { result.freed ≡ self.entry.freed }
         ensures made { objects_in result.own ≡ made_objects (seen self.entry) (made_by self.entry.own) }
     {
+        let log = self.log.into_parts();
         Parts {
-            writes: self.writes,
-            touched: self.touched,
+            reads: log.reads,
+            writes: log.values,
+            touched: log.touched,
             freed: self.freed,
             own: self.own,
         }

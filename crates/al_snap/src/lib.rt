@@ -4,7 +4,6 @@
 mod change;
 mod direct;
 mod layers;
-mod marks;
 mod names;
 mod snap;
 

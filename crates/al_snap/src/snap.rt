@@ -7,17 +7,15 @@ ghost use Rattle.al_core.specs.Orders.{addr_eq};
 ghost use Rattle.al_core.specs.Views.{trapped};
 ghost use Rattle.al_snap.specs.Changes.{IsOutcome};
 ghost use Rattle.al_snap.specs.Layers.{seen, made_by};
-ghost use Rattle.al_snap.specs.Marks.{marked};
 ghost use Rattle.al_snap.specs.Snaps.{chunk_record};
+ghost use Rattle.std.specs.FinSet as set;
 
 use crate::change::Change;
 use crate::direct::is_freeable;
 use crate::layers::Layers;
-use crate::marks::Marks;
 use crate::names::Names;
 use al_core::{Addr, Ending, Kind, Obj, Red, Trap, Val, View, ViewFault, red_identity};
 use al_heap::Store;
-use al_sets::AddrSet;
 use al_values::{PackedValue, PackedView, Words};
 use sqlite_items::{Items, at};
 use std::alloc::{AllocError, Global};
@@ -27,7 +25,6 @@ use std::alloc::{AllocError, Global};
 pub struct Snap<'a, S: Store> {
     alloc: Global,
     layers: Layers<'a, S>,
-    marks: Marks,
     names: Names,
     printed: Items<u8>,
     reds: Items<Red>,
@@ -104,7 +101,6 @@ impl<'a, S: Store> Snap<'a, S> {
         Ok(Snap {
             alloc,
             layers: Layers::new(alloc, base),
-            marks: Marks::new(alloc),
             names,
             printed: Items::new(alloc),
             reds: Items::from_slice(alloc, reds)?,
@@ -112,20 +108,20 @@ impl<'a, S: Store> Snap<'a, S> {
         })
     }
 
-    /// The addresses that were read before they were written.
-    pub fn reads(&self) -> &AddrSet
-        ensures { option_map (λ x. x.reads) (⟦<Snap<'a, S> as View>⟧.content self.now).accesses
-            ≡ Some result.now.members }
+    /// Whether an address was read before it was written.
+    pub fn has_read(&self, at: Addr) -> bool
+        ensures { option_map (λ x. set.contains x.reads at) (⟦<Snap<'a, S> as View>⟧.content self.now).accesses
+            ≡ Some result }
     {
-        &self.marks.reads
+        self.layers.has_read(at)
     }
 
-    /// The addresses that were written.
-    pub fn touched(&self) -> &AddrSet
-        ensures { option_map (λ x. x.touched) (⟦<Snap<'a, S> as View>⟧.content self.now).accesses
-            ≡ Some result.now.members }
+    /// Whether an address was written.
+    pub fn has_touched(&self, at: Addr) -> bool
+        ensures { option_map (λ x. set.contains x.touched at) (⟦<Snap<'a, S> as View>⟧.content self.now).accesses
+            ≡ Some result }
     {
-        self.layers.touched()
+        self.layers.has_touched(at)
     }
 
     /// From now on the next objects have these names.
@@ -144,7 +140,7 @@ impl<'a, S: Store> Snap<'a, S> {
     {
         let parts = self.layers.into_parts();
         Change {
-            reads: self.marks.reads,
+            reads: parts.reads,
             touched: parts.touched,
             writes: parts.writes,
             made: parts.own,
@@ -162,7 +158,7 @@ impl<'a, S: Store> View for Snap<'a, S> {
       memory = seen s.layers;
       allocations = s.names;
       printed = s.printed;
-      accesses = Some (marked (chunk_record s.layers s.reds s.accumulators) s.marks);
+      accesses = Some (chunk_record s.layers s.reds s.accumulators);
     } };
 
     fn load(&mut self, at: Addr, want: Kind) -> Result<Val, ViewFault> {
@@ -196,7 +192,7 @@ impl<'a, S: Store> View for Snap<'a, S> {
         }
         let there = self.layers.has_object(obj);
         let own = self.layers.is_own(Addr::Word(obj, 0));
-        self.marks.free(own, obj)?;
+        self.layers.read_freed(own, obj)?;
         if !there {
             return Err(ViewFault::Trap(Trap::Freed));
         }
@@ -217,14 +213,8 @@ impl<'a, S: Store> PackedView for Snap<'a, S> {
             let v = accumulator(self.accumulators.as_slice(), i);
             return read_as(at, want, v).map_err(ViewFault::Trap);
         }
-        let sight = self.layers.look(at);
-        if !sight.own {
-            self.marks.load(at, sight.value.is_ok(), sight.written)?;
-        }
-        match sight.value {
-            Ok(v) => read_as(at, want, v).map_err(ViewFault::Trap),
-            Err(t) => Err(ViewFault::Trap(t)),
-        }
+        let v = self.layers.load(at)?;
+        read_as(at, want, v).map_err(ViewFault::Trap)
     }
 
     #[tactic(auto, unfolding(al_core::specs::Access::store))]
@@ -235,11 +225,6 @@ impl<'a, S: Store> PackedView for Snap<'a, S> {
             }
             return Ok(());
         }
-        let sight = self.layers.look(at);
-        self.marks.store(sight.own, at)?;
-        match sight.value {
-            Ok(_) => Ok(self.layers.put(at, value)?),
-            Err(t) => Err(ViewFault::Trap(t)),
-        }
+        self.layers.store(at, value)
     }
 }

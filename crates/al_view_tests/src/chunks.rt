@@ -57,8 +57,8 @@ fn chunk_is_as_plain<S: Store, R: AllocGlobal + Abort>(
         for _ in 0..400 {
             x = after(x);
             let at = address(x);
-            assert_eq!(rt; snap.reads().has(&at), record.reads.contains(at));
-            assert_eq!(rt; snap.touched().has(&at), record.touched.contains(at));
+            assert_eq!(rt; snap.has_read(at), record.reads.contains(at));
+            assert_eq!(rt; snap.has_touched(at), record.touched.contains(at));
         }
     }
     Ok(())
@@ -126,8 +126,8 @@ fn word_is_read_and_then_written(rt: HostRuntime) -> Result<(), Fail> {
     assert_eq!(rt; snap.load(at, Kind::Int), Ok(Val::Int(0)));
     assert_eq!(rt; snap.store(at, Val::Int(7)), Ok(()));
     assert_eq!(rt; snap.load(at, Kind::Int), Ok(Val::Int(7)));
-    assert!(rt; snap.reads().has(&at) && snap.reads().has(&Addr::Head(Obj::Serial(0))));
-    assert!(rt; snap.touched().has(&at) && !snap.touched().has(&Addr::Head(Obj::Serial(0))));
-    assert!(rt; !snap.reads().has(&Addr::Word(Obj::Serial(0), 1)));
+    assert!(rt; snap.has_read(at) && snap.has_read(Addr::Head(Obj::Serial(0))));
+    assert!(rt; snap.has_touched(at) && !snap.has_touched(Addr::Head(Obj::Serial(0))));
+    assert!(rt; !snap.has_read(Addr::Word(Obj::Serial(0), 1)));
     Ok(())
 }
