@@ -10,6 +10,6 @@ mod places;
 mod rows;
 mod sets;
 
-pub use logs::{AddrLog, Loaded, LogParts};
+pub use logs::{AddrLog, LogParts};
 pub use maps::AddrMap;
 pub use sets::AddrSet;

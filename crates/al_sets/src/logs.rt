@@ -1,4 +1,4 @@
-ghost use Rattle.std.specs.Prelude.{◌≡◌, ℕ, true, ◌≤◌, ◌<◌, ◌||◌, length, OnOk, OnErr, IfOk};
+ghost use Rattle.std.specs.Prelude.{◌≡◌, ℕ, true, ◌≤◌, ◌<◌, ◌||◌, length, OnOk, OnErr, IfOk, IfSome, IfNone, if◌then◌else◌};
 ghost use Rattle.std.specs.Vec.{vec_len, vec_capacity};
 ghost use Rattle.std.specs.List.{insert as inserted};
 ghost use Rattle.std.specs.FinSet as set;
@@ -21,15 +21,6 @@ use al_planes::{has_bit, set_bit};
 use al_values::PackedValue;
 use std::alloc::{AllocError, Global};
 use std::marker::Model;
-
-/// What a load finds in a log.
-#[derive(Clone, Copy)]
-pub struct Loaded {
-    /// The value that was written, if one was.
-    pub value: Option<PackedValue>,
-    /// Whether an address of the same block was read or touched before. It may be false where one was.
-    pub near: bool,
-}
 
 /// What was read, what was touched and what was written.
 #[derive(Drop)]
@@ -285,39 +276,50 @@ impl AddrLog {
         has(self.lists.touched.as_slice(), at, &self.hints)
     }
 
-    /// An address is loaded: it is read, unless it was touched before. After want of memory the log is as before.
+    /// An address is loaded, as by `load`, if its block is there. The answer is then what was written at it. Else nothing
+    /// is done.
     #[inline]
-    pub fn load(&mut self, at: Addr) -> Result<Loaded, AllocError>
-        ensures value { IfOk result (λ l. l.value ≡ map.get self.old.values at) }
-        ensures near { IfOk result (λ l. l.near ≡ true → IsNear self.old at) }
+    pub fn load_near(&mut self, at: Addr) -> Option<Option<PackedValue>>
+        ensures near { IfSome result (λ v. IsNear self.old at) }
+        ensures value { IfSome result (λ v. v ≡ map.get self.old.values at) }
+        ensures some { IfSome result (λ v. self.new ≡ with_load self.old at) }
+        ensures none { IfNone result (self.new ≡ self.old) }
+    {
+        match search_near(self.lists.reads.as_slice(), place(at), self.hints.of(at)) {
+            Ok(i) => {
+                self.hints.set(at, i);
+                Some(self.lists.load_at(i, at))
+            }
+            Err(_) => None,
+        }
+    }
+
+    /// An address is loaded: it is read, unless it was touched before. The answer is what was written at it, if
+    /// something was. After want of memory the log is as before.
+    pub fn load(&mut self, at: Addr) -> Result<Option<PackedValue>, AllocError>
+        ensures value { IfOk result (λ v. v ≡ map.get self.old.values at) }
         ensures ok { OnOk result (self.new ≡ with_load self.old at) }
         ensures err { OnErr result (self.new ≡ self.old) }
     {
         match search_near(self.lists.reads.as_slice(), place(at), self.hints.of(at)) {
             Ok(i) => {
                 self.hints.set(at, i);
-                Ok(Loaded {
-                    value: self.lists.load_at(i, at),
-                    near: true,
-                })
+                Ok(self.lists.load_at(i, at))
             }
             Err(i) => {
                 self.hints.set(at, i);
                 self.lists.read_in_gap(self.alloc, i, at)?;
-                Ok(Loaded {
-                    value: None,
-                    near: false,
-                })
+                Ok(None)
             }
         }
     }
 
-    /// A value is written at an address, and the address is touched. The answer is whether an address of the same block
-    /// was read or touched before; it may be false where one was. After want of memory the log is as before.
+    /// A value is written at an address, as by `write`, if its block is there. The answer is whether it is. Else nothing
+    /// is done.
     #[inline]
-    pub fn write(&mut self, at: Addr, value: PackedValue) -> Result<bool, AllocError>
+    pub fn write_near(&mut self, at: Addr, value: PackedValue) -> Result<bool, AllocError>
         ensures near { IfOk result (λ near. near ≡ true → IsNear self.old at) }
-        ensures ok { OnOk result (self.new ≡ with_write self.old at value) }
+        ensures ok { IfOk result (λ near. self.new ≡ (if near then with_write self.old at value else self.old)) }
         ensures err { OnErr result (self.new ≡ self.old) }
     {
         match search_near(self.lists.reads.as_slice(), place(at), self.hints.of(at)) {
@@ -326,13 +328,26 @@ impl AddrLog {
                 self.lists.write_at(i, at, value)?;
                 Ok(true)
             }
+            Err(_) => Ok(false),
+        }
+    }
+
+    /// A value is written at an address, and the address is touched. After want of memory the log is as before.
+    pub fn write(&mut self, at: Addr, value: PackedValue) -> Result<(), AllocError>
+        ensures ok { OnOk result (self.new ≡ with_write self.old at value) }
+        ensures err { OnErr result (self.new ≡ self.old) }
+    {
+        match search_near(self.lists.reads.as_slice(), place(at), self.hints.of(at)) {
+            Ok(i) => {
+                self.hints.set(at, i);
+                self.lists.write_at(i, at, value)
+            }
             Err(i) => {
                 self.hints.set(at, i);
                 let n = offset(at);
                 let mut row = Row::new(self.alloc, n);
                 row.put(n, value)?;
-                self.lists.write_in_gap(i, at, row)?;
-                Ok(false)
+                self.lists.write_in_gap(i, at, row)
             }
         }
     }

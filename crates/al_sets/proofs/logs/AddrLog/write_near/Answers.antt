@@ -2,7 +2,7 @@ use Rattle.std.proofs.Common.{subst}
 use Rattle.al_sets.specs.Blocks.{IsAt}
 use Rattle.al_sets.specs.Logs.{IsNear}
 use Rattle.al_sets.proofs.Aligned.{near_found}
-use Rattle.al_sets.proofs.logs.AddrLog.write.Goals as goal
+use Rattle.al_sets.proofs.logs.AddrLog.write_near.Goals as goal
 
 pub returns-in_ok-write_at-in-Ok-clause-near : goal.returns-in_ok-write_at-in-Ok-clause-near
 returns-in_ok-write_at-in-Ok-clause-near c _ =
