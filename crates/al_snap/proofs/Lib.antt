@@ -6,5 +6,6 @@ pub mod Changing
 pub mod Recording
 pub mod Doing
 pub mod Fresh
+pub mod Logging
 pub mod Fitting
 pub mod Outcomes

@@ -1,9 +1,8 @@
 -- Words and locals that are read through layers.
-use Rattle.std.proofs.Common.{◌≡◌, ℕ, Bool, true, false, cond, List, Option, Some, None, is_some, Result, Ok, Err, IfOk, slice_get, refl, sym, ap, subst, ◌∙◌, arith}
+use Rattle.std.proofs.Common.{◌≡◌, ℕ, Bool, true, false, cond, List, Option, Some, None, is_some, Result, Ok, Err, slice_get, refl, sym, ap, ◌∙◌, arith}
 use Rattle.std.specs.Prelude.{option_map, unwrap_or}
 use Rattle.std.specs.FinMap as map
 use Rattle.std.specs.FinMap.{FinMap}
-use Rattle.std.specs.FinSet as set
 use Rattle.al_core.specs.declared.values.Obj.{Obj}
 use Rattle.al_core.specs.declared.values.Val.{Val}
 use Rattle.al_core.specs.declared.values.Trap.{Trap}
@@ -11,11 +10,12 @@ use Rattle.al_core.specs.declared.values.Trap.TheVariants as trap
 use Rattle.al_core.specs.declared.values.Addr.{Addr}
 use Rattle.al_core.specs.declared.values.Addr.TheVariants.{Word, Local}
 use Rattle.al_core.specs.Orders.{addr_cmp}
-use Rattle.al_core.specs.Memory.{Memory, word_in}
+use Rattle.al_core.specs.Memory.{Memory, value_at, word_in}
 use Rattle.al_heap.specs.Stores.{value_or_trap, read_word, objects_in}
-use Rattle.al_snap.specs.Layers.{Layers, Fits, laid, option_ok_or, word_or_trap, is_among, is_head, seen}
+use Rattle.al_snap.specs.Layers.{Layers, changed, laid, option_ok_or, own_has, word_or_trap, is_among, seen}
 use Rattle.al_snap.proofs.Laying.{laid_at}
 use Rattle.al_snap.proofs.Seen.{own_seen, freed_seen, below_seen}
+use Rattle.al_snap.proofs.Writing.{made_has}
 
 read_by : (m : Memory) (o : Obj) (w : ℕ) (s : Option (List Val)) → map.get m.objects o ≡ s
     → value_or_trap m (Word o w) (word_in s w) ≡ word_or_trap s w
@@ -28,10 +28,6 @@ read_by m o w (Some ws) e =
 
 pub read_as_word : (m : Memory) (o : Obj) (w : ℕ) → read_word m o w ≡ word_or_trap (map.get m.objects o) w
 read_as_word m o w = read_by m o w (map.get m.objects o) refl
-
-abbrev pub changed : (Val → Val) → Result Val Trap → Result Val Trap
-changed f (Ok v) = Ok (f v)
-changed f (Err t) = Err t
 
 laid_word : (writes : FinMap addr_cmp Val) (o : Obj) (w : ℕ) (s : Option (List Val))
     → changed (unwrap_or (map.get writes (Word o w))) (word_or_trap s w) ≡ word_or_trap (option_map (laid writes (Word o) 0) s) w
@@ -71,16 +67,34 @@ pub below_there : (l : Layers) (o : Obj) (w : ℕ) → false ≡ map.contains_ke
     → word_or_trap (option_map (laid l.writes (Word o) 0) (map.get l.base.objects o)) w ≡ word_or_trap (map.get (seen l).objects o) w
 below_there l o w h g = ap (λ s. word_or_trap s w) (sym (below_seen l o (sym h) (sym g)))
 
--- ---- whether it was written
+-- ---- what the store has at an address that is no word of an own object
 
-pub if_ok : (r : Result Val Trap) (P : Type 0) → P → IfOk r (λ _. P)
-if_ok (Ok v) P h = h
-if_ok (Err t) P h = tt
+module _ (l : Layers) (o : Obj) (w : ℕ) (own : own_has l (Word o w) ≡ false) where
+  absent : false ≡ map.contains_key l.own o
+  absent = sym (sym (made_has l.own o) ∙ own)
 
-pub if_missing : (r : Result Val Trap) (t : Trap) (P : Type 0) → r ≡ Err t → IfOk r (λ _. P)
-if_missing r t P e = subst (λ (x : Result Val Trap). IfOk x (λ _. P)) (sym e) tt
+  pub freed_below : true ≡ is_among l.freed o → Err trap.Missing ≡ word_or_trap (map.get (seen l).objects o) w
+  freed_below g = freed_read l o w absent g
 
-pub below_written : (l n : Layers) → l ≡ n → Fits l → (a : Addr) → is_head a ≡ false → (b : Bool)
-    → b ≡ map.contains_key n.writes a → b ≡ set.contains n.touched a
-below_written l n same fits a word b e =
-    let now : Fits n = subst Fits same fits in e ∙ sym (now.same a word)
+  pub kept_below : (m : Memory) → m ≡ l.base → false ≡ is_among l.freed o → (r : Result Val Trap) → r ≡ read_word m o w
+      → changed (unwrap_or (map.get l.writes (Word o w))) r ≡ word_or_trap (map.get (seen l).objects o) w
+  kept_below m same g r e = below_read l.writes m l.base same o w r e ∙ below_there l o w absent g
+
+trapped_local : (x : Option Val) (f : Val → Val)
+    → changed f (option_ok_or trap.Missing x) ≡ option_ok_or trap.Missing (option_map f x)
+trapped_local None f = refl
+trapped_local (Some v) f = refl
+
+by_local : (l : Layers) (k : ℕ) (x : Option Val)
+    → option_ok_or trap.Missing x ≡ value_or_trap (seen l) (Local k) x
+by_local l k None = refl
+by_local l k (Some v) = refl
+
+pub local_below : (l : Layers) (m : Memory) → m ≡ l.base → (k : ℕ) (x : Option Val) → x ≡ slice_get m.locals k → (r : Result Val Trap)
+    → r ≡ option_ok_or trap.Missing x
+    → changed (unwrap_or (map.get l.writes (Local k))) r ≡ value_or_trap (seen l) (Local k) (value_at (seen l) (Local k))
+local_below l m same k x e r f =
+    ap (changed (unwrap_or (map.get l.writes (Local k)))) f
+    ∙ trapped_local x (unwrap_or (map.get l.writes (Local k)))
+    ∙ ap (option_ok_or trap.Missing) (local_read l.writes m l.base same k x e)
+    ∙ by_local l k (slice_get (laid l.writes Local 0 l.base.locals) k)

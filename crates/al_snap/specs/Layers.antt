@@ -108,6 +108,10 @@ with_head l (Word o w) = record l { reads = set.insert l.reads (Head o) }
 with_head l (Head o) = l
 with_head l (Local k) = l
 
+-- where the address is a word, its head was read
+abbrev pub HasHead : Layers → Addr → Type 0
+HasHead l a = (o : Obj) (w : ℕ) → Word o w ≡ a → set.contains l.reads (Head o) ≡ true
+
 -- a load of an address that was not touched reads it
 abbrev pub with_load : Layers → Addr → Layers
 with_load l a = if set.contains l.touched a then l else record l { reads = set.insert l.reads a }

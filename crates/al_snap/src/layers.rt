@@ -1,4 +1,4 @@
-ghost use Rattle.std.specs.Prelude.{◌≡◌, true, false, OnOk, IfOk, IsSome, [], ◌∷◌, ◌++◌, if◌then◌else◌, unwrap_or, Some, None};
+ghost use Rattle.std.specs.Prelude.{◌≡◌, true, false, OnOk, IfOk, IfSome, IfNone, IsSome, [], ◌∷◌, ◌++◌, if◌then◌else◌, unwrap_or, Some, None};
 ghost use Rattle.al_source.specs.Answers.{Does};
 ghost use Rattle.al_core.specs.Access.{store_recorded};
 ghost use Rattle.al_core.specs.Views.{trapped};
@@ -10,7 +10,7 @@ ghost use Rattle.std.specs.FinSet as set;
 ghost use Rattle.al_core.specs.Memory as spec;
 ghost use Rattle.al_core.specs.Chunk.{writes_of, made_objects};
 ghost use Rattle.al_heap.specs.Stores.{value_or_trap, objects_in};
-ghost use Rattle.al_snap.specs.Layers.{is_among, word_or_trap, own_has, made_by, seen, over, touched_unless, changed, with_head, with_load, with_write, with_freed_head, loaded_in};
+ghost use Rattle.al_snap.specs.Layers.{is_among, word_or_trap, own_has, made_by, seen, over, touched_unless, changed, HasHead, with_head, with_load, with_write, with_freed_head, loaded_in};
 ghost use Rattle.al_snap.specs.Snaps.{Rest, chunk_record, content_of};
 ghost use Rattle.al_snap.specs.Changes.{writes_left};
 
@@ -198,18 +198,40 @@ impl<'a, S: Store> Layers<'a, S> {
         }
     }
 
-    /// What was written at an address, of which the store has a value, as it is loaded. Where an address of the same
-    /// block was read or touched before, so was the head.
+    /// Loads what was written over a value of the store, if the block of the address is there. Then an address of the
+    /// block was read or touched before, and so the head was read.
+    #[inline]
+    fn load_near(&mut self, at: Addr) -> Option<Option<PackedValue>>
+        ensures value { IfSome result (λ v. v ≡ map.get self.old.writes at) }
+        ensures some { IfSome result (λ v. self.new ≡ with_load (with_head self.old at) at) }
+        ensures none { IfNone result (self.new ≡ self.old) }
+    {
+        self.log.load_near(at)
+    }
+
+    /// Loads what was written over a value of the store, of which the head was read.
+    fn load_read(&mut self, at: Addr) -> Result<Option<PackedValue>, AllocError>
+        requires { HasHead self.old at }
+        ensures value { IfOk result (λ v. v ≡ map.get self.old.writes at) }
+        ensures after { OnOk result (self.new ≡ with_load self.old at) }
+    {
+        self.log.load(at)
+    }
+
+    /// Loads what was written over a value of the store.
     #[inline]
     fn load_over(&mut self, at: Addr) -> Result<Option<PackedValue>, AllocError>
         ensures value { IfOk result (λ v. v ≡ map.get self.old.writes at) }
         ensures after { OnOk result (self.new ≡ with_load (with_head self.old at) at) }
     {
-        if let Some(value) = self.log.load_near(at) {
-            return Ok(value);
+        match self.load_near(at) {
+            Some(value) => Ok(value),
+            None => {
+                self.read_head(at)?;
+                let value = self.load_read(at)?;
+                Ok(value)
+            }
         }
-        self.read_head(at)?;
-        self.log.load(at)
     }
 
     /// Loads the value at an address.
@@ -219,10 +241,16 @@ impl<'a, S: Store> Layers<'a, S> {
             (value_or_trap (seen self.old) at (value_at (seen self.old) at), loaded_in self.old at) result self.new }
     {
         if self.is_own(at) {
-            return self.own_value(at).map_err(ViewFault::Trap);
+            return match self.own_value(at) {
+                Ok(v) => Ok(v),
+                Err(t) => Err(ViewFault::Trap(t)),
+            };
         }
         match self.below(at) {
-            Ok(v) => Ok(self.load_over(at)?.unwrap_or(v)),
+            Ok(v) => {
+                let over = self.load_over(at)?;
+                Ok(over.unwrap_or(v))
+            }
             Err(t) => {
                 self.read_head(at)?;
                 Err(ViewFault::Trap(t))
@@ -245,34 +273,60 @@ impl<'a, S: Store> Layers<'a, S> {
         }
     }
 
-    /// Writes a value over one of the store. Where an address of the same block was read or touched before, the head was
-    /// read.
+    /// Writes a value over one of the store, if the block of the address is there. Then an address of the block was read
+    /// or touched before, and so the head was read.
+    #[inline]
+    fn write_near(&mut self, at: Addr, v: PackedValue) -> Result<bool, AllocError>
+        requires other { own_has self.old at ≡ false }
+        requires there { IsSome (value_at (seen self.old) at) }
+        ensures { IfOk result
+            (λ near. self.new ≡ (if near then with_write (with_head self.old at) at v else self.old)) }
+    {
+        self.log.write_near(at, v)
+    }
+
+    /// Writes a value over one of the store, of which the head was read.
+    fn write_read(&mut self, at: Addr, v: PackedValue) -> Result<(), AllocError>
+        requires other { own_has self.old at ≡ false }
+        requires there { IsSome (value_at (seen self.old) at) }
+        requires head { HasHead self.old at }
+        ensures { OnOk result (self.new ≡ with_write self.old at v) }
+    {
+        self.log.write(at, v)
+    }
+
+    /// Writes a value over one of the store.
     #[inline]
     fn write_over(&mut self, at: Addr, v: PackedValue) -> Result<(), AllocError>
         requires other { own_has self.old at ≡ false }
         requires there { IsSome (value_at (seen self.old) at) }
         ensures { OnOk result (self.new ≡ with_write (with_head self.old at) at v) }
     {
-        if self.log.write_near(at, v)? {
+        if self.write_near(at, v)? {
             return Ok(());
         }
         self.read_head(at)?;
-        self.log.write(at, v)
+        self.write_read(at, v)?;
+        Ok(())
     }
 
     /// Stores a value in place of a word of an own object.
-    fn store_own(&mut self, at: Addr, v: PackedValue) -> Result<(), Trap>
+    fn store_own(&mut self, at: Addr, v: PackedValue) -> Result<(), ViewFault>
         requires { own_has self.old at ≡ true }
         ensures { (r : Rest)
-            → Does (λ t. Some t)
+            → Does trapped
             (store_recorded (content_of self.old r) (chunk_record self.old r.reds r.accumulators) at v None)
             result (content_of self.new r) }
     {
-        self.own_value(at)?;
-        if let Addr::Word(obj, w) = at {
-            self.put_own(obj, w, v);
+        match self.own_value(at) {
+            Ok(_) => {
+                if let Addr::Word(obj, w) = at {
+                    self.put_own(obj, w, v);
+                }
+                Ok(())
+            }
+            Err(t) => Err(ViewFault::Trap(t)),
         }
-        Ok(())
     }
 
     /// Stores a value in place of the one at an address.
@@ -284,10 +338,13 @@ impl<'a, S: Store> Layers<'a, S> {
             result (content_of self.new r) }
     {
         if self.is_own(at) {
-            return self.store_own(at, v).map_err(ViewFault::Trap);
+            return self.store_own(at, v);
         }
         match self.below(at) {
-            Ok(_) => Ok(self.write_over(at, v)?),
+            Ok(_) => {
+                self.write_over(at, v)?;
+                Ok(())
+            }
             Err(t) => {
                 self.read_head(at)?;
                 Err(ViewFault::Trap(t))
