@@ -18,7 +18,10 @@ use Rattle.al_laws.proofs.Orders.{obj_total, obj_apart}
 use Rattle.al_heap.specs.Stores.{slot_in, objects_in, with_name}
 use Rattle.al_heap.proofs.SlotLemmas.{get_objects, has_name}
 use Rattle.al_heap.proofs.Replaced.{none_replaced}
-use Rattle.al_snap.specs.Layers.{Layers, laid, is_among, own_has, seen, made_by, touched_unless}
+use Rattle.al_snap.specs.Layers.{Layers, laid, is_among, own_has, seen, made_by, touched_unless, with_head, with_write}
+use Rattle.al_sets.specs.Logs as log
+use Rattle.al_sets.specs.Logs.{AddressLog}
+use Rattle.al_snap.proofs.Logging.{log_in, shown}
 use Rattle.al_snap.proofs.Seen.{own_seen, freed_seen, below_seen, seen_added, seen_removed, seen_put_back, seen_freed}
 use Rattle.al_snap.proofs.Writing.{written, seen_written, seen_local_written, made_has, made_insert, made_same}
 
@@ -183,9 +186,20 @@ put_below l (Word o w) v h there =
 put_below l (Head o) v h there = absurd (true≢false (sym there))
 put_below l (Local k) v h there = seen_local_written l k v
 
-pub put_below_seen : (l n : Layers) → l ≡ n → (a : Addr) (v : Val) → false ≡ own_has n a → IsSome (value_at (seen n) a)
-    → (writes : _) → writes ≡ map.insert l.writes a v → seen (record l { writes = writes }) ≡ put (seen n) a v
-put_below_seen l n e a v h there writes f =
-    (λ t. seen (record l { writes = f t }))
-    ∙ ap (λ (l : Layers). seen (written l a v)) e
-    ∙ put_below n a v (sym h) there
+pub seen_write : (l : Layers) (a : Addr) (v : Val) → own_has l a ≡ false → IsSome (value_at (seen l) a)
+    → seen (with_write (with_head l a) a v) ≡ put (seen l) a v
+seen_write l (Word o w) v h there = put_below l (Word o w) v h there
+seen_write l (Head o) v h there = absurd (true≢false (sym there))
+seen_write l (Local k) v h there = put_below l (Local k) v h there
+
+-- ---- with a head that is touched
+
+module _ (l n : Layers) (e : l ≡ n) (o : Obj) (new : AddressLog) (f : new ≡ log.with_touch (log_in l) (Head o)) where
+  pub touched_added : (ws : List Val) (made own : FinMap obj_cmp (Option (List Val))) → made ≡ with_name l.own o
+      → own ≡ map.insert made o (Some ws) → seen (record (shown l new) { own = own }) ≡ add (seen n) o ws
+  touched_added ws made own named set_ =
+      (λ t. seen (record (shown l (f t)) { own = own })) ∙ add_seen l n e o ws made own named set_
+
+  pub touched_removed : (freed : List Obj) → freed ≡ l.freed ++ o ∷ [] → false ≡ map.contains_key l.own o
+      → seen (record (shown l new) { freed = freed }) ≡ remove (seen n) o
+  touched_removed freed g h = (λ t. seen (record (shown l (f t)) { freed = freed })) ∙ remove_below_seen l n e o freed g h

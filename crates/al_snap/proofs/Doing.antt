@@ -17,6 +17,7 @@ use Rattle.al_core.specs.Access.{Allocations, AccessRecord, Content, is_own, rec
 use Rattle.al_heap.specs.Stores.{value_or_trap}
 use Rattle.al_snap.specs.Makers.{allocated}
 use Rattle.al_snap.specs.Layers.{Layers, changed, own_has, made_by, seen, touched_unless, with_head, with_load, with_write, with_found, with_freed_head, loaded_in}
+use Rattle.al_snap.proofs.Changing.{seen_write}
 use Rattle.al_snap.specs.Snaps.{Rest, chunk_record, content_of}
 use Rattle.al_core.specs.World.{Kind}
 
@@ -367,3 +368,54 @@ module _ (m : Memory) (al : Allocations) (printed : List ℕ) (x : AccessRecord)
       ap (spec.free_if (content x) o) can
       ∙ (λ t. spec.free_there (content (cond (sym owned t) x (record_free x o (sym is t)))) o (sym is t))
       ∙ free_there_by o own there e freed (g ∙ ap (λ b. cond b x.freed (x.freed ++ o ∷ [])) (sym owned)) y f n h
+
+-- ---- stores of layers
+
+module _ (l : Layers) (r : Rest) (a : Addr) (v : Val) (q : Result Val Trap) where
+  pub own_stored : own_has l a ≡ true → q ≡ value_or_trap (seen l) a (value_at (seen l) a) → (w : Val) → q ≡ Ok w → (n : Layers)
+      → seen n ≡ put (seen l) a v → n.reads ≡ l.reads → n.touched ≡ l.touched → made_by n.own ≡ made_by l.own → n.freed ≡ l.freed
+      → spec.store_recorded (content_of l r) (chunk_record l r.reds r.accumulators) a v None ≡ (Ok tt, content_of n r)
+  own_stored own is w e n memory reads touched made freed =
+      store_there (seen l) r.allocations r.printed (chunk_record l r.reds r.accumulators) a v q is true
+      (sym own ∙ own_is l r.reds r.accumulators a) (chunk_record n r.reds r.accumulators)
+      (same_record l r.reds r.accumulators n reads touched made freed) w e (seen n) memory
+
+  pub own_missing : own_has l a ≡ true → q ≡ value_or_trap (seen l) a (value_at (seen l) a) → (t : Trap) → q ≡ Err t
+      → spec.store_recorded (content_of l r) (chunk_record l r.reds r.accumulators) a v None ≡ (Err t, content_of l r)
+  own_missing own is t e =
+      store_missing (seen l) r.allocations r.printed (chunk_record l r.reds r.accumulators) a v q is true
+      (sym own ∙ own_is l r.reds r.accumulators a) (chunk_record l r.reds r.accumulators) refl t e
+
+  module _ (own : own_has l a ≡ false) (f : Val → Val) (is : changed f q ≡ value_or_trap (seen l) a (value_at (seen l) a)) where
+    pub below_stored : (w : Val) → q ≡ Ok w → (n : Layers) → n ≡ with_write (with_head l a) a v
+        → spec.store_recorded (content_of l r) (chunk_record l r.reds r.accumulators) a v None ≡ (Ok tt, content_of n r)
+    below_stored w e n h =
+        store_there (seen l) r.allocations r.printed (chunk_record l r.reds r.accumulators) a v (changed f q) is false
+        (sym own ∙ own_is l r.reds r.accumulators a) (chunk_record n r.reds r.accumulators)
+        (ap (λ (n : Layers). chunk_record n r.reds r.accumulators) h
+        ∙ write_record l r.reds r.accumulators a v
+        ∙ ap (λ (s : Result Val Trap). with_stored (chunk_record l r.reds r.accumulators) false a (is_ok (changed f s))) (sym e))
+        (f w) (ap (changed f) e) (seen n)
+        (ap seen h ∙ seen_write l a v own (there_of l a f q is w e))
+
+    pub below_missing : (t : Trap) → q ≡ Err t → (n : Layers) → n ≡ with_head l a
+        → spec.store_recorded (content_of l r) (chunk_record l r.reds r.accumulators) a v None ≡ (Err t, content_of n r)
+    below_missing t e n h =
+        store_missing (seen l) r.allocations r.printed (chunk_record l r.reds r.accumulators) a v (changed f q) is false
+        (sym own ∙ own_is l r.reds r.accumulators a) (chunk_record n r.reds r.accumulators)
+        (ap (λ (n : Layers). chunk_record n r.reds r.accumulators) h
+        ∙ head_record l r.reds r.accumulators a
+        ∙ ap (λ (s : Result Val Trap). with_stored (chunk_record l r.reds r.accumulators) false a (is_ok (changed f s))) (sym e))
+        t (ap (changed f) e)
+        ∙ (λ z. (Err t, record {
+          memory = sym (ap seen h ∙ head_seen l a) z;
+          allocations = r.allocations;
+          printed = r.printed;
+          accesses = Some (chunk_record n r.reds r.accumulators);
+        }))
+
+-- a store at an address that is no reduction variable
+pub store_is_recorded : (l : Layers) (r : Rest) (a : Addr) (v : Val) → red_index r.reds a ≡ None
+    → spec.store a v (content_of l r) ≡ spec.store_recorded (content_of l r) (chunk_record l r.reds r.accumulators) a v None
+unfolding spec.store
+store_is_recorded l r a v none = ap (spec.store_recorded (content_of l r) (chunk_record l r.reds r.accumulators) a v) none

@@ -259,7 +259,7 @@ impl<'a, S: Store> Layers<'a, S> {
     }
 
     /// Puts a value in place of a word of an own object.
-    fn put_own(&mut self, obj: Obj, w: u32, v: PackedValue)
+    fn put_own_word(&mut self, obj: Obj, w: u32, v: PackedValue)
         requires { map.contains_key self.old.own obj ≡ true }
         ensures seen { seen self.new ≡ spec.put (seen self.old) (Word obj w) v }
         ensures made { made_by self.new.own ≡ made_by self.old.own }
@@ -270,6 +270,21 @@ impl<'a, S: Store> Layers<'a, S> {
         if let Some(mut words) = self.own.replace(obj, None) {
             words.put(w, v);
             self.own.set(obj, Some(words));
+        }
+    }
+
+    /// The same.
+    fn put_own(&mut self, at: Addr, v: PackedValue)
+        requires { own_has self.old at ≡ true }
+        ensures seen { seen self.new ≡ spec.put (seen self.old) at v }
+        ensures made { made_by self.new.own ≡ made_by self.old.own }
+        ensures freed { self.new.freed ≡ self.old.freed }
+        ensures touched { self.new.touched ≡ self.old.touched }
+        ensures reads { self.new.reads ≡ self.old.reads }
+    {
+        match at {
+            Addr::Word(obj, w) => self.put_own_word(obj, w, v),
+            Addr::Head(_) | Addr::Local(_) => {}
         }
     }
 
@@ -320,9 +335,7 @@ impl<'a, S: Store> Layers<'a, S> {
     {
         match self.own_value(at) {
             Ok(_) => {
-                if let Addr::Word(obj, w) = at {
-                    self.put_own(obj, w, v);
-                }
+                self.put_own(at, v);
                 Ok(())
             }
             Err(t) => Err(ViewFault::Trap(t)),

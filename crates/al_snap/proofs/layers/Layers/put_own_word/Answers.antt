@@ -4,7 +4,7 @@ use Rattle.al_heap.proofs.SlotLemmas.{has_name}
 use Rattle.al_snap.specs.Layers.{Layers}
 use Rattle.al_snap.proofs.Changing.{put_own_seen, put_none_seen, put_own_made, own_made_same}
 use Rattle.al_snap.proofs.Fitting.{fits_reset, fits_put_back}
-use Rattle.al_snap.proofs.layers.Layers.put_own.Goals as goal
+use Rattle.al_snap.proofs.layers.Layers.put_own_word.Goals as goal
 
 pub set-requires : goal.set-requires
 set-requires g c = ap (λ m. map.contains_key m c.args.obj) c.in-Some.ensures.after ∙ has_name c.self.inside.own c.args.obj None
