@@ -19,7 +19,7 @@ use Rattle.al_snap.specs.Makers.{allocated}
 use Rattle.al_snap.specs.Layers.{Layers, changed, own_has, made_by, seen, touched_unless, with_head, with_load, with_write, with_found, with_freed_head, loaded_in}
 use Rattle.al_snap.proofs.Changing.{seen_write}
 use Rattle.al_snap.specs.Snaps.{Rest, chunk_record, content_of}
-use Rattle.al_core.specs.World.{Kind}
+use Rattle.al_core.specs.declared.values.Kind.{Kind}
 
 -- what is recorded of a store, which found a value or not; of a word of an own object nothing is
 abbrev pub with_stored : AccessRecord → Bool → Addr → Bool → AccessRecord
@@ -78,6 +78,11 @@ module _ (l : Layers) (reds : List Red) (accumulators : List Val) where
   freed_record true there o e = refl
   freed_record false true o e = absurd (true≢false e)
   freed_record false false o e = refl
+
+  pub freed_by : (own : Bool) (o : Obj) (X : Type 0) (p : Layers → X) → p (record l { reads = set.insert l.reads (Head o) }) ≡ p l
+      → p (with_freed_head l own o) ≡ p l
+  freed_by true o X p e = refl
+  freed_by false o X p e = e
 
   pub freed_after : (m n : Layers) (own there : Bool) (o : Obj) → there ≡ true → m ≡ with_freed_head l own o → n.reads ≡ m.reads
       → made_by n.own ≡ made_by m.own → n.touched ≡ touched_unless own m.touched (Head o)

@@ -6,7 +6,7 @@ use Rattle.al_snap.proofs.snap.Snap.into_change.Goals as goal
 pub returns : goal.returns
 unfolding told
 returns g c = λ t. record {
-  reads = c.args.self.marks.reads.members;
+  reads = c.into_parts-parts.ensures.reads t;
   touched = c.into_parts-parts.ensures.touched t;
   writes = c.into_parts-parts.ensures.writes t;
   made = c.into_parts-parts.ensures.made t;

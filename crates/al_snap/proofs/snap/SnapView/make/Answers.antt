@@ -1,11 +1,8 @@
 use Rattle.std.proofs.Common.{List, ap, ◌∙◌}
 use Rattle.al_core.specs.declared.choices.Red.{Red}
 use Rattle.al_core.specs.declared.values.Val.{Val}
-use Rattle.al_core.specs.Access.{AccessRecord}
 use Rattle.al_core.specs.Memory.{add}
-use Rattle.al_snap.specs.declared.marks.Marks.{Marks}
 use Rattle.al_snap.specs.Layers.{Layers, seen}
-use Rattle.al_snap.specs.Marks.{marked}
 use Rattle.al_snap.specs.Snaps.{chunk_record}
 use Rattle.al_snap.proofs.Doing.{make_does, made_record}
 use Rattle.al_snap.proofs.snap.SnapView.make.Goals as goal
@@ -15,11 +12,8 @@ returns g c =
     let l : Layers = c.args.self.now.layers in
     let reds : List Red = c.args.self.now.reds in
     let accumulators : List Val = c.args.self.now.accumulators in
-    let marks : Marks = c.args.self.now.marks in
-    let rest : AccessRecord = chunk_record l reds accumulators in
-    let x : AccessRecord = marked rest marks in
-    make_does (seen l) c.args.self.now.names c.args.self.now.printed x c.args.words c.in-Ok.obj c.allocate.result
-    c.allocate.new.self c.in-Ok.is c.allocate.ensures (seen c.add.new.self)
+    make_does (seen l) c.args.self.now.names c.args.self.now.printed (chunk_record l reds accumulators) c.args.words c.in-Ok.obj
+    c.allocate.result c.allocate.new.self c.in-Ok.is c.allocate.ensures (seen c.add.new.self)
     (c.in_ok-add.ensures.seen ∙ ap (add (seen l) c.in-Ok.obj) c.in_ok-zeros.ensures) _
-    (ap (λ r. marked r marks) (made_record c.add.new.self l c.in-Ok.obj reds accumulators c.in_ok-add.ensures.made
-    c.in_ok-add.ensures.freed c.in_ok-add.ensures.touched))
+    (made_record l reds accumulators c.add.new.self c.in-Ok.obj c.in_ok-add.ensures.reads c.in_ok-add.ensures.made
+    c.in_ok-add.ensures.freed c.in_ok-add.ensures.touched)
