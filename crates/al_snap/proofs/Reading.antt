@@ -1,6 +1,7 @@
 -- Words and locals that are read through layers.
 use Rattle.std.proofs.Common.{◌≡◌, ℕ, Bool, true, false, cond, List, Option, Some, None, is_some, Result, Ok, Err, slice_get, refl, sym, ap, ◌∙◌, arith}
 use Rattle.std.specs.Prelude.{option_map, unwrap_or}
+use Rattle.std.specs.Option.{ok_or}
 use Rattle.std.specs.FinMap as map
 use Rattle.std.specs.FinMap.{FinMap}
 use Rattle.al_core.specs.declared.values.Obj.{Obj}
@@ -85,16 +86,20 @@ trapped_local : (x : Option Val) (f : Val → Val)
 trapped_local None f = refl
 trapped_local (Some v) f = refl
 
+same_ok_or : (x : Option Val) → ok_or x trap.Missing ≡ option_ok_or trap.Missing x
+same_ok_or None = refl
+same_ok_or (Some v) = refl
+
 by_local : (l : Layers) (k : ℕ) (x : Option Val)
     → option_ok_or trap.Missing x ≡ value_or_trap (seen l) (Local k) x
 by_local l k None = refl
 by_local l k (Some v) = refl
 
 pub local_below : (l : Layers) (m : Memory) → m ≡ l.base → (k : ℕ) (x : Option Val) → x ≡ slice_get m.locals k → (r : Result Val Trap)
-    → r ≡ option_ok_or trap.Missing x
+    → r ≡ ok_or x trap.Missing
     → changed (unwrap_or (map.get l.writes (Local k))) r ≡ value_or_trap (seen l) (Local k) (value_at (seen l) (Local k))
 local_below l m same k x e r f =
-    ap (changed (unwrap_or (map.get l.writes (Local k)))) f
+    ap (changed (unwrap_or (map.get l.writes (Local k)))) (f ∙ same_ok_or x)
     ∙ trapped_local x (unwrap_or (map.get l.writes (Local k)))
     ∙ ap (option_ok_or trap.Missing) (local_read l.writes m l.base same k x e)
     ∙ by_local l k (slice_get (laid l.writes Local 0 l.base.locals) k)

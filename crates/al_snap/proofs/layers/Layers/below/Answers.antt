@@ -13,4 +13,4 @@ returns-in-Local g c =
     subst (λ a. changed (unwrap_or (map.get n.writes a)) c.ok_or.result ≡ value_or_trap (seen n) a (value_at (seen n) a))
     (sym c.in-Local.is)
     (local_below n _ (ap (λ (l : Layers). l.base) c.self.view_is) c.in-Local.k c.local.result c.local.ensures c.ok_or.result
-    c.ok_or.ensures)
+    c.ok_or.ensures.value)
