@@ -141,9 +141,9 @@ module _ (bs : List Block) (i : ℕ) (x : Block) (le : i ≤ length bs) (U : Typ
   old_or_new : (k : ℕ) → IsAt (insert bs i x) q k → U
   old_or_new k at = elim (cases_lt k i) [
     | inl lt ↦ old k (record {
-        in_range = omega (arith, lt, le);
-        same = λ d. ap (λ (b : Block). b.place) (sym (get_or-insert_below bs i x d k lt le)) ∙ at.same d;
-      })
+      in_range = omega (arith, lt, le);
+      same = λ d. ap (λ (b : Block). b.place) (sym (get_or-insert_below bs i x d k lt le)) ∙ at.same d;
+    })
     | inr ge ↦ elim (eqb_tells k i) [
       | inl s ↦ new (
           ap (λ (b : Block). b.place) (sym (get_or-insert_at bs i x x le))

@@ -196,7 +196,13 @@ impl Lists {
         ensures err { OnErr result (log_of self.new ≡ log_of self.old) }
     {
         self.reserve()?;
-        add_empty(&mut self.written, &mut self.rows, i, place(at), Row::new(alloc, offset(at)))?;
+        add_empty(
+            &mut self.written,
+            &mut self.rows,
+            i,
+            place(at),
+            Row::new(alloc, offset(at)),
+        )?;
         insert_block(&mut self.reads, i, single(at));
         insert_block(&mut self.touched, i, empty(place(at)));
         Ok(())
@@ -211,7 +217,13 @@ impl Lists {
         ensures err { OnErr result (log_of self.new ≡ log_of self.old) }
     {
         self.reserve()?;
-        add_empty(&mut self.written, &mut self.rows, i, place(at), Row::new(alloc, offset(at)))?;
+        add_empty(
+            &mut self.written,
+            &mut self.rows,
+            i,
+            place(at),
+            Row::new(alloc, offset(at)),
+        )?;
         insert_block(&mut self.reads, i, empty(place(at)));
         insert_block(&mut self.touched, i, single(at));
         Ok(())

@@ -217,9 +217,9 @@ module _ (l : Layers) (r : Rest) (a : Addr) where
       ∙ (λ t. (
         as_loaded want (value_at (seen l) a) s (ap (λ p. p.0) e) t,
         ((λ z. cond (sym (own_is l r.reds r.accumulators a) z) (content_of l r)
-        (spec.with_accesses (content_of l r) (spec.record_load (chunk_record l r.reds r.accumulators) a (value_at (seen l) a))))
-        ∙ sym (loaded_content (own_has l a) (value_at (seen l) a))
-        ∙ ap (λ (p : Result Val Trap × Layers). content_of p.1 r) e) t,
+            (spec.with_accesses (content_of l r) (spec.record_load (chunk_record l r.reds r.accumulators) a (value_at (seen l) a))))
+            ∙ sym (loaded_content (own_has l a) (value_at (seen l) a))
+            ∙ ap (λ (p : Result Val Trap × Layers). content_of p.1 r) e) t,
       ))
 
 module _ (m : Memory) (al : Allocations) (printed : List ℕ) (x : AccessRecord) where
@@ -412,12 +412,15 @@ module _ (l : Layers) (r : Rest) (a : Addr) (v : Val) (q : Result Val Trap) wher
         ∙ head_record l r.reds r.accumulators a
         ∙ ap (λ (s : Result Val Trap). with_stored (chunk_record l r.reds r.accumulators) false a (is_ok (changed f s))) (sym e))
         t (ap (changed f) e)
-        ∙ (λ z. (Err t, record {
-          memory = sym (ap seen h ∙ head_seen l a) z;
-          allocations = r.allocations;
-          printed = r.printed;
-          accesses = Some (chunk_record n r.reds r.accumulators);
-        }))
+        ∙ (λ z. (
+          Err t,
+          record {
+            memory = sym (ap seen h ∙ head_seen l a) z;
+            allocations = r.allocations;
+            printed = r.printed;
+            accesses = Some (chunk_record n r.reds r.accumulators);
+          },
+        ))
 
 -- a store at an address that is no reduction variable
 pub store_is_recorded : (l : Layers) (r : Rest) (a : Addr) (v : Val) → red_index r.reds a ≡ None
